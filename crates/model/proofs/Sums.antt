@@ -1,0 +1,68 @@
+-- Sums of vectors: their order, and their ceilings.
+use mathlib.Core.Path.{_≡_, refl, ap}
+use mathlib.Core.Bool.{true}
+use mathlib.Core.List.{List, [], _∷_}
+use Prim.Native.Nat.{ℕ, zero, suc, _+_}
+use native.Mathlib.Omega.{arith}
+use lib.Dec.{ltb}
+use lib.ListN.{length}
+use borrow.Author.Tests.{ltb-true, lt-ltb}
+use Rattle.model.specs.Vectors.{under, added}
+use Rattle.model.proofs.Bits.{and-left, and-right, and-both}
+use Rattle.model.proofs.Vectors.{AtMost}
+
+pub added-length : (xs bs : List ℕ) → length xs ≡ length bs → length (added xs bs) ≡ length xs
+unfolding added
+added-length [] bs e = refl
+added-length (a ∷ xs) [] e = absurd (omega arith)
+added-length (a ∷ xs) (b ∷ bs) e = ap suc (added-length xs bs (omega arith))
+
+-- a part of a sum is at most the sum
+pub added-left : (xs bs : List ℕ) → AtMost xs (added xs bs)
+unfolding added
+added-left [] bs = tt
+added-left (a ∷ xs) [] = tt
+added-left (a ∷ xs) (b ∷ bs) = (omega arith, added-left xs bs)
+
+pub added-right : (xs bs : List ℕ) → AtMost bs (added xs bs)
+unfolding added
+added-right [] [] = tt
+added-right [] (b ∷ bs) = tt
+added-right (a ∷ xs) [] = tt
+added-right (a ∷ xs) (b ∷ bs) = (omega arith, added-right xs bs)
+
+pub added-mono : (xs bs cs ds : List ℕ) → AtMost xs cs → AtMost bs ds → AtMost (added xs bs) (added cs ds)
+unfolding added
+added-mono [] bs cs ds h k = tt
+added-mono (a ∷ xs) [] cs ds h k = tt
+added-mono (a ∷ xs) (b ∷ bs) [] ds h k = tt
+added-mono (a ∷ xs) (b ∷ bs) (c ∷ cs) [] h k = tt
+added-mono (a ∷ xs) (b ∷ bs) (c ∷ cs) (d ∷ ds) h k = (omega arith, added-mono xs bs cs ds (h .1) (k .1))
+
+-- equal sums of parts that are at most as large have equal parts
+pub added-tie : (n : ℕ) (xs bs cs ds : List ℕ) → length xs ≡ n → length bs ≡ n → length cs ≡ n → length ds ≡ n → AtMost xs cs → AtMost bs ds → added xs bs ≡ added cs ds → (xs ≡ cs) × (bs ≡ ds)
+unfolding added
+added-tie n [] [] [] [] u v w x h k e = (refl, refl)
+added-tie n [] [] [] (d ∷ ds) u v w x h k e = absurd (omega arith)
+added-tie n [] [] (c ∷ cs) ds u v w x h k e = absurd (omega arith)
+added-tie n [] (b ∷ bs) cs ds u v w x h k e = absurd (omega arith)
+added-tie n (a ∷ xs) [] cs ds u v w x h k e = absurd (omega arith)
+added-tie n (a ∷ xs) (b ∷ bs) [] ds u v w x h k e = absurd (omega arith)
+added-tie n (a ∷ xs) (b ∷ bs) (c ∷ cs) [] u v w x h k e = absurd (omega arith)
+added-tie zero (a ∷ xs) (b ∷ bs) (c ∷ cs) (d ∷ ds) u v w x h k e = absurd (omega arith)
+added-tie (suc n) (a ∷ xs) (b ∷ bs) (c ∷ cs) (d ∷ ds) u v w x h k e =
+    let heads : a + b ≡ c + d = cc in
+    let tails : added xs bs ≡ added cs ds = cc in
+    let p : a ≡ c = omega arith in
+    let q : b ≡ d = omega arith in
+    let (r, s) = added-tie n xs bs cs ds (omega arith) (omega arith) (omega arith) (omega arith) (h .1) (k .1) tails in
+    (cc, cc)
+
+-- what is at most as large is under the same ceilings
+pub under-mono : (xs bs cs : List ℕ) → length xs ≡ length bs → AtMost xs bs → under bs cs ≡ true → under xs cs ≡ true
+unfolding under
+under-mono [] bs cs e h u = refl
+under-mono (a ∷ xs) [] cs e h u = absurd (omega arith)
+under-mono (a ∷ xs) (b ∷ bs) [] e h u = refl
+under-mono (a ∷ xs) (b ∷ bs) (c ∷ cs) e h u =
+    and-both (lt-ltb a c (omega (arith, ltb-true b c (and-left (ltb b c) (under bs cs) u)))) (under-mono xs bs cs (omega arith) (h .1) (and-right (ltb b c) (under bs cs) u))

@@ -1,0 +1,26 @@
+//! The limits of document 01, each with one name.
+
+/// n, the number of variables, is 1 to this. A point record has this many choices.
+pub const MAX_VARIABLES: usize = 24;
+
+/// p, the number of objectives, is 1 to this. A point record has this many costs.
+pub const MAX_OBJECTIVES: usize = 4;
+
+/// r, the number of cost records, is 0 to this.
+pub const MAX_TABLES: usize = 256;
+
+/// d, the size of a domain, is 1 to this.
+pub const MAX_DOMAIN: usize = 8;
+
+/// The arity of a cost record is 0 to this.
+pub const MAX_ARITY: usize = 3;
+
+/// Room is never above this, however long the lent buffers are; a half's frontier in the cut
+/// call may not be longer either.
+pub const MAX_POINTS: usize = 64;
+
+/// A problem has at most this many bytes.
+pub const MAX_BYTES: usize = 60_000;
+
+/// The work buffer has at least this many numbers.
+pub const LEAST_WORK: usize = 8_192;

@@ -1,0 +1,66 @@
+//! A problem as plain vectors, and the builder of its record bytes.
+
+/// The entry that can be under no ceiling, so it forbids its combination.
+pub const FORBIDDEN: u32 = 4_294_967_295;
+
+/// A cost record: one objective's costs over a scope, the last scope variable running fastest.
+#[derive(Clone, Debug, PartialEq, Eq)]
+pub struct Table {
+    pub objective: u8,
+    pub scope: Vec<u8>,
+    pub costs: Vec<u32>,
+}
+
+impl Table {
+    /// A table from slices, so that examples can be written as literals.
+    pub fn new(objective: u8, scope: &[u8], costs: &[u32]) -> Table {
+        Table {
+            objective,
+            scope: scope.to_vec(),
+            costs: costs.to_vec(),
+        }
+    }
+}
+
+/// A problem: p ceilings, n domain sizes, r tables.
+#[derive(Clone, Debug, PartialEq, Eq)]
+pub struct Problem {
+    pub ceilings: Vec<u32>,
+    pub domains: Vec<u8>,
+    pub tables: Vec<Table>,
+}
+
+impl Problem {
+    /// n, the number of variables.
+    pub fn variables(&self) -> usize {
+        self.domains.len()
+    }
+
+    /// p, the number of objectives.
+    pub fn objectives(&self) -> usize {
+        self.ceilings.len()
+    }
+
+    /// The record bytes. Nothing is checked, so that tests can build invalid problems too; a
+    /// length that does not fit its field is cut to the field's low bits.
+    pub fn encode(&self) -> Vec<u8> {
+        let mut bytes = b"HD".to_vec();
+        bytes.push(self.variables() as u8);
+        bytes.push(self.objectives() as u8);
+        bytes.extend((self.tables.len() as u16).to_le_bytes());
+        for ceiling in &self.ceilings {
+            bytes.extend(ceiling.to_le_bytes());
+        }
+        for &domain in &self.domains {
+            bytes.extend([b'D', b'O', domain]);
+        }
+        for table in &self.tables {
+            bytes.extend([b'C', b'F', table.objective, table.scope.len() as u8]);
+            bytes.extend(&table.scope);
+            for cost in &table.costs {
+                bytes.extend(cost.to_le_bytes());
+            }
+        }
+        bytes
+    }
+}

@@ -1,0 +1,101 @@
+//! The lent buffers: junk before a call, and what every element must be after it.
+
+use frontier_host::brute::{Answer, Point};
+use frontier_host::limits::{LEAST_WORK, MAX_POINTS};
+use frontier_host::owned::{Buffers, Listed};
+use frontier_host::problem::Problem;
+use frontier_host::random::Rng;
+use frontier_host::refusal::Refusal;
+
+use super::{ensure, Verdict};
+
+/// Buffers of these lengths with random contents.
+pub fn junk(rng: &mut Rng, costs: usize, choices: usize, work: usize) -> Buffers {
+    // One number for the whole work buffer: it is long, and any contents must do.
+    let fill = rng.bits() as u32 | 1;
+    Buffers {
+        costs: (0..costs).map(|_| rng.bits() as u32).collect(),
+        choices: (0..choices).map(|_| rng.bits() as u8).collect(),
+        work: vec![fill; work],
+    }
+}
+
+/// A point record with random contents.
+pub fn junk_point(rng: &mut Rng) -> Point {
+    Point {
+        costs: [0; 4].map(|_: u32| rng.bits() as u32),
+        choice: [0; 24].map(|_: u8| rng.bits() as u8),
+    }
+}
+
+/// What is known of a problem's frontier: its size, and the list if that is at most 64.
+pub struct Known<'a> {
+    pub problem: &'a Problem,
+    pub list: &'a [Listed],
+    pub size: usize,
+}
+
+impl Known<'_> {
+    /// The answer that a call of this room must give, with a work buffer of this length.
+    pub fn expected_answer(&self, room: usize, work: usize) -> Answer {
+        if work < LEAST_WORK {
+            return Refusal::placeless(12).into();
+        }
+        if self.size > room.min(MAX_POINTS) {
+            return Refusal::placeless(15).into();
+        }
+        Answer::accepted(self.size)
+    }
+
+    /// Checks an answer and every element of the flat buffers against those before the call.
+    pub fn check_flat(&self, before: &Buffers, after: &Buffers, answer: Answer) -> Verdict {
+        let (p, n) = (self.problem.ceilings.len(), self.problem.domains.len());
+        let room = (before.costs.len() / p).min(before.choices.len() / n);
+        let expected = self.expected_answer(room, before.work.len());
+        ensure(answer == expected, || {
+            format!("answer {answer:?}, expected {expected:?}")
+        })?;
+        let mut costs = before.costs.clone();
+        let mut choices = before.choices.clone();
+        for (i, point) in self.list.iter().take(answer.count as usize).enumerate() {
+            costs[i * p..(i + 1) * p].copy_from_slice(&point.costs);
+            choices[i * n..(i + 1) * n].copy_from_slice(&point.choice);
+        }
+        ensure(after.costs == costs, || "cost buffer".into())?;
+        ensure(after.choices == choices, || "choice buffer".into())?;
+        check_work(&before.work, &after.work, answer)
+    }
+
+    /// Checks an answer and every element of a point list against those before the call.
+    pub fn check_points(&self, before: &[Point], after: &[Point], answer: Answer) -> Verdict {
+        let expected = self.expected_answer(before.len(), LEAST_WORK);
+        ensure(answer == expected, || {
+            format!("points answer {answer:?}, expected {expected:?}")
+        })?;
+        let written = answer.count as usize;
+        for (point, known) in after[..written].iter().zip(self.list) {
+            let (costs, unused_costs) = point.costs.split_at(known.costs.len());
+            let (choice, unused_choice) = point.choice.split_at(known.choice.len());
+            let unused =
+                unused_costs.iter().all(|&c| c == 0) && unused_choice.iter().all(|&x| x == 0);
+            let right = costs == known.costs && choice == known.choice && unused;
+            ensure(right, || format!("{point:?} for {known:?}"))?;
+        }
+        ensure(after[written..] == before[written..], || {
+            "point records past the count".into()
+        })
+    }
+}
+
+/// Checks the work buffer: all zero after an answer and after 15, else unchanged.
+pub fn check_work(before: &[u32], after: &[u32], answer: Answer) -> Verdict {
+    let zeroed = matches!(answer.number, 0 | 15);
+    let right = if zeroed {
+        after.len() == before.len() && after.iter().all(|&number| number == 0)
+    } else {
+        after == before
+    };
+    ensure(right, || {
+        format!("work buffer after number {}", answer.number)
+    })
+}

@@ -1,0 +1,277 @@
+//! Wrong answers and faulty calls, made from right ones; the checkers must tell each of them.
+
+use frontier_host::brute::{
+    bound_prefix, list_points, solve_cut, solve_problem, Answer, Halves, Least, Point,
+};
+use frontier_host::limits::{MAX_POINTS, MAX_VARIABLES};
+use frontier_host::owned::Listed;
+use frontier_host::refusal::Refusal;
+
+use super::law::{Bounder, Cutter, Lister, Solver};
+use super::Costed;
+
+/// The list with a later consistent choice of the same costs for one point, if there is one.
+fn later_tie(consistent: &[Costed], list: &[Listed]) -> Option<Vec<Listed>> {
+    for (i, point) in list.iter().enumerate() {
+        let costs: Vec<u64> = point.costs.iter().map(|&c| u64::from(c)).collect();
+        let later = |pair: &&Costed| pair.1 == costs && pair.0 > point.choice;
+        if let Some((choice, _)) = consistent.iter().find(later) {
+            let mut mutant = list.to_vec();
+            mutant[i].choice = choice.clone();
+            return Some(mutant);
+        }
+    }
+    None
+}
+
+/// The list with a beaten point put where it rises, if there is one.
+fn beaten_point(consistent: &[Costed], list: &[Listed]) -> Option<Vec<Listed>> {
+    let narrow = |costs: &[u64]| costs.iter().map(|&c| c as u32).collect::<Vec<u32>>();
+    let unlisted = |pair: &&Costed| list.iter().all(|point| point.costs != narrow(&pair.1));
+    let (choice, costs) = consistent.iter().find(unlisted)?;
+    let mut mutant = list.to_vec();
+    mutant.push(Listed::new(&narrow(costs), choice));
+    mutant.sort_by(|a, b| a.costs.cmp(&b.costs));
+    Some(mutant)
+}
+
+/// The names of the wrong lists that `wrong_lists` makes.
+pub const WRONG_LISTS: [&str; 7] = [
+    "first dropped",
+    "last dropped",
+    "point twice",
+    "cost changed",
+    "points swapped",
+    "later tie",
+    "beaten point",
+];
+
+/// Wrong lists made from a right one, each with its name: those that the list allows.
+pub fn wrong_lists(consistent: &[Costed], list: &[Listed]) -> Vec<(&'static str, Vec<Listed>)> {
+    let mut wrong = Vec::new();
+    let mut change = |name: &'static str, change: fn(&mut Vec<Listed>)| {
+        let mut mutant = list.to_vec();
+        change(&mut mutant);
+        wrong.push((name, mutant));
+    };
+    if !list.is_empty() {
+        change("first dropped", |list| drop(list.remove(0)));
+        change("last dropped", |list| drop(list.pop()));
+        change("point twice", |list| list.insert(0, list[0].clone()));
+        change("cost changed", |list| list[0].costs[0] ^= 1);
+    }
+    if list.len() >= 2 {
+        change("points swapped", |list| list.swap(0, 1));
+    }
+    wrong.extend(later_tie(consistent, list).map(|mutant| ("later tie", mutant)));
+    wrong.extend(beaten_point(consistent, list).map(|mutant| ("beaten point", mutant)));
+    wrong
+}
+
+/// The bytes with each ceiling one higher: a cost equal to its ceiling is then allowed.
+fn with_higher_ceilings(problem: &[u8]) -> Vec<u8> {
+    let mut bytes = problem.to_vec();
+    let objectives = usize::from(bytes[3]);
+    for ceiling in bytes[6..6 + 4 * objectives].chunks_exact_mut(4) {
+        let value = u32::from_le_bytes([ceiling[0], ceiling[1], ceiling[2], ceiling[3]]);
+        ceiling.copy_from_slice(&value.saturating_add(1).to_le_bytes());
+    }
+    bytes
+}
+
+/// Solves, and then does something wrong with the buffers or the answer.
+fn after(
+    tamper: impl Fn(&mut [u32], &mut [u8], &mut [u32], &mut Answer),
+) -> impl Fn(&[u8], &mut [u32], &mut [u8], &mut [u32]) -> Answer {
+    move |problem, costs, choices, work| {
+        let mut answer = solve_problem(problem, costs, choices, work);
+        tamper(costs, choices, work, &mut answer);
+        answer
+    }
+}
+
+/// Does something to the last element of a slice, if there is one.
+fn spoil<T: Copy>(slice: &mut [T], spoiled: impl Fn(T) -> T) {
+    if let Some(last) = slice.last_mut() {
+        *last = spoiled(*last);
+    }
+}
+
+/// Hands each faulty flat call to the test, by name.
+pub fn each_faulty_solver(test: impl Fn(&str, Solver)) {
+    let when = |number: u8, answer: &Answer| answer.number == number;
+    test("never accepts", &|_, _, _, work| {
+        work.fill(0);
+        Refusal::placeless(15).into()
+    });
+    test(
+        "stops after one point",
+        &after(|_, _, _, answer| answer.count = answer.count.min(1)),
+    );
+    test("ceiling allowed", &|problem, costs, choices, work| {
+        solve_problem(&with_higher_ceilings(problem), costs, choices, work)
+    });
+    test(
+        "work left",
+        &after(|_, _, work, answer| {
+            if when(0, answer) {
+                spoil(work, |_| 1);
+            }
+        }),
+    );
+    test(
+        "work left by 15",
+        &after(|_, _, work, answer| {
+            if when(15, answer) {
+                spoil(work, |_| 1);
+            }
+        }),
+    );
+    test("work cleared by 12", &after(|_, _, work, _| work.fill(0)));
+    test(
+        "written past the costs",
+        &after(|costs, _, _, answer| {
+            if when(0, answer) {
+                spoil(costs, |cost| cost ^ 1);
+            }
+        }),
+    );
+    test(
+        "written past the choices",
+        &after(|_, choices, _, answer| {
+            if when(0, answer) {
+                spoil(choices, |value| value ^ 1);
+            }
+        }),
+    );
+    test(
+        "written by 15",
+        &after(|costs, _, _, answer| {
+            if when(15, answer) {
+                spoil(costs, |cost| cost ^ 1);
+            }
+        }),
+    );
+    test(
+        "choice buffer not asked",
+        &|problem, costs, choices, work| {
+            let mut own = vec![0; MAX_POINTS * MAX_VARIABLES];
+            let answer = solve_problem(problem, costs, &mut own, work);
+            choices
+                .iter_mut()
+                .zip(own)
+                .for_each(|(slot, value)| *slot = value);
+            answer
+        },
+    );
+    test("old memory", &|problem, costs, choices, work| {
+        let old = work.first().is_some_and(|number| number % 4 == 3);
+        let mut answer = solve_problem(problem, costs, choices, work);
+        answer.count = answer.count.saturating_sub(u32::from(old));
+        answer
+    });
+}
+
+/// Hands each faulty cut call to the test, by name.
+pub fn each_faulty_cutter(test: impl Fn(&str, Cutter)) {
+    let sizes = |cut: Halves, first: u32, second: u32| Halves {
+        first,
+        second,
+        ..cut
+    };
+    test("sizes exchanged", &|problem,
+                              sides,
+                              costs,
+                              choices,
+                              work| {
+        let cut = solve_cut(problem, sides, costs, choices, work);
+        sizes(cut, cut.second, cut.first)
+    });
+    test("sizes invented", &|problem, sides, costs, choices, work| {
+        let cut = solve_cut(problem, sides, costs, choices, work);
+        sizes(cut, cut.answer.count, u32::from(cut.answer.number == 0))
+    });
+    test(
+        "sizes after a refusal",
+        &|problem, sides, costs, choices, work| {
+            let cut = solve_cut(problem, sides, costs, choices, work);
+            sizes(
+                cut,
+                cut.first + u32::from(cut.answer.number != 0),
+                cut.second,
+            )
+        },
+    );
+    test(
+        "sides above 1 taken for 1",
+        &|problem, sides, costs, choices, work| {
+            let sides: Vec<u8> = sides.iter().map(|&side| side.min(1)).collect();
+            solve_cut(problem, &sides, costs, choices, work)
+        },
+    );
+    test("arity 0 in half 1", &|problem,
+                                sides,
+                                costs,
+                                choices,
+                                work| {
+        let exchanged: Vec<u8> = sides.iter().map(|&side| side ^ 1).collect();
+        let cut = solve_cut(problem, &exchanged, costs, choices, work);
+        sizes(cut, cut.second, cut.first)
+    });
+    test("not cut at all", &|problem, sides, costs, choices, work| {
+        let cut = solve_cut(problem, sides, costs, choices, work);
+        let answer = solve_problem(problem, costs, choices, work);
+        Halves { answer, ..cut }
+    });
+}
+
+/// Hands each faulty call for point records to the test, by name.
+pub fn each_faulty_lister(test: impl Fn(&str, Lister)) {
+    let spoiled = |tamper: fn(&mut Point)| {
+        move |problem: &[u8], points: &mut [Point], work: &mut [u32]| {
+            let answer = list_points(problem, points, work);
+            points[..answer.count as usize].iter_mut().for_each(tamper);
+            answer
+        }
+    };
+    test("unused cost", &spoiled(|point| point.costs[3] |= 1));
+    test("unused choice", &spoiled(|point| point.choice[23] |= 1));
+    test("past the count", &|problem, points, work| {
+        let answer = list_points(problem, points, work);
+        points[answer.count as usize..]
+            .iter_mut()
+            .for_each(|point| point.costs[0] ^= 1);
+        answer
+    });
+    test("room not asked", &|problem, points, work| {
+        let mut own = vec![points.first().copied(); MAX_POINTS]
+            .into_iter()
+            .flatten()
+            .collect::<Vec<Point>>();
+        list_points(problem, &mut own, work)
+    });
+}
+
+/// Hands each faulty bound call to the test, by name.
+pub fn each_faulty_bounder(test: impl Fn(&str, Bounder)) {
+    let zero = Least {
+        number: 0,
+        place: 0,
+        least: [0; 4],
+    };
+    test("all zero", &|_, _| zero);
+    test("prefix ignored", &|problem, _| bound_prefix(problem, &[]));
+    test("one value late", &|problem, prefix| {
+        bound_prefix(problem, &prefix[..prefix.len().saturating_sub(1)])
+    });
+    test("one too high", &|problem, prefix| {
+        let mut bound = bound_prefix(problem, prefix);
+        bound.least[0] += 1;
+        bound
+    });
+    test("unused objective", &|problem, prefix| {
+        let mut bound = bound_prefix(problem, prefix);
+        bound.least[3] |= 1;
+        bound
+    });
+}
