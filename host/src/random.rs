@@ -24,6 +24,11 @@ impl Rng {
         (self.bits() % bound as u64) as usize
     }
 
+    /// A number below `bound`, the greater of two: the greatest sizes make the better problems.
+    fn mostly_high(&mut self, bound: usize) -> usize {
+        self.below(bound).max(self.below(bound))
+    }
+
     /// A byte below `bound`, which is not 0.
     pub fn byte_below(&mut self, bound: u8) -> u8 {
         self.below(usize::from(bound)) as u8
@@ -103,9 +108,9 @@ impl Entries {
 fn random_domains(rng: &mut Rng, shape: &Shape) -> Vec<u8> {
     let mut product = 1;
     let mut domains = Vec::new();
-    for _ in 0..1 + rng.below(shape.variables) {
+    for _ in 0..1 + rng.mostly_high(shape.variables) {
         let most = usize::from(shape.domain).min(shape.choices / product);
-        let size = 1 + rng.below(most);
+        let size = 1 + rng.mostly_high(most);
         product *= size;
         // Anywhere, so that it is not always the last domains that are small.
         domains.insert(rng.below(domains.len() + 1), size as u8);
@@ -116,7 +121,7 @@ fn random_domains(rng: &mut Rng, shape: &Shape) -> Vec<u8> {
 /// A strictly rising scope of at most `arity` of the given variables.
 fn random_scope(rng: &mut Rng, variables: &[u8], arity: usize) -> Vec<u8> {
     let mut rest = variables.to_vec();
-    for _ in rng.below(arity + 1)..variables.len() {
+    for _ in rng.mostly_high(arity + 1)..variables.len() {
         rest.remove(rng.below(rest.len()));
     }
     rest
@@ -160,8 +165,9 @@ fn random_table(rng: &mut Rng, shape: &Shape, problem: &Problem, members: &[u8])
 /// The same table for another objective with its entries from the other end: what is cheap
 /// there is dear here, so that the frontier has several points.
 fn opposed(rng: &mut Rng, objectives: usize, table: &Table) -> Table {
+    let step = 1 + rng.below(objectives.max(2) - 1);
     Table {
-        objective: rng.below(objectives) as u8,
+        objective: ((usize::from(table.objective) + step) % objectives) as u8,
         scope: table.scope.clone(),
         costs: table.costs.iter().rev().copied().collect(),
     }
@@ -181,7 +187,7 @@ pub fn random_problem(rng: &mut Rng, shape: &Shape) -> Problem {
         domains,
         tables: Vec::new(),
     };
-    let count = rng.below(shape.tables + 1);
+    let count = rng.mostly_high(shape.tables + 1);
     while problem.tables.len() < count {
         let group = rng.byte_below(groups);
         let members: Vec<u8> = (0..group_of.len() as u8)

@@ -5,12 +5,13 @@ mod checker;
 
 use std::collections::BTreeMap;
 
+use checker::case::{ask, Case};
 use checker::law::{
-    ask, bound_law, bytes_law, cut_law, exchange_law, flat_law, points_law, sides_refusal, Case,
+    bound_law, bytes_law, cut_law, exchange_law, flat_law, points_law, sides_refusal, Cutter,
 };
 use checker::mutants::{
-    each_faulty_bounder, each_faulty_cutter, each_faulty_lister, each_faulty_solver, wrong_lists,
-    WRONG_LISTS,
+    each_faulty_bounder, each_faulty_lister, each_missided_cutter, each_missized_cutter,
+    each_untidy_solver, each_wrong_solver, wrong_lists, WRONG_LISTS,
 };
 use checker::{check_frontier, consistent_choices, ensure, record_starts, Verdict};
 use frontier_host::brute::{bound_prefix, list_points, solve_cut, solve_problem};
@@ -216,11 +217,20 @@ fn assert_caught(name: &str, law: impl Fn(&mut Case) -> Verdict) {
 }
 
 #[test]
-fn faulty_calls_are_caught() {
-    each_faulty_solver(|name, call| assert_caught(name, |case| flat_law(case, call)));
+fn faulty_flat_calls_are_caught() {
+    each_wrong_solver(|name, call| assert_caught(name, |case| flat_law(case, call)));
+    each_untidy_solver(|name, call| assert_caught(name, |case| flat_law(case, call)));
+}
+
+#[test]
+fn faulty_point_and_bound_calls_are_caught() {
     each_faulty_lister(|name, call| assert_caught(name, |case| points_law(case, call)));
     each_faulty_bounder(|name, call| assert_caught(name, |case| bound_law(case, call)));
-    each_faulty_cutter(|name, call| {
+}
+
+#[test]
+fn faulty_cut_calls_are_caught() {
+    let assert_cut_caught = |name: &str, call: Cutter| {
         assert_caught(name, |case| {
             let sides = uncrossed_sides(&mut case.rng, &case.problem);
             cut_law(case, &sides, call)?;
@@ -228,6 +238,8 @@ fn faulty_calls_are_caught() {
             cut_law(case, &sides, call)?;
             let sides = bad_sides(&mut case.rng, &case.problem);
             cut_law(case, &sides, call)
-        })
-    });
+        });
+    };
+    each_missized_cutter(assert_cut_caught);
+    each_missided_cutter(assert_cut_caught);
 }

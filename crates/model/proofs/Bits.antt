@@ -1,9 +1,9 @@
--- Boolean tests: what a conjunction, a disjunction and a `keepIf` say.
+-- Boolean tests: what a conjunction, a disjunction, a `pick` and a `keepIf` say.
 use mathlib.Core.Path.{_≡_, refl}
 use mathlib.Core.Logic.{_⊎_, inl, inr, ⊎-elim}
 use mathlib.Core.Bool.{Bool, true, false, _&&_, _||_, false≢true}
 use mathlib.Core.List.{List, _∷_, List·Memᴰ as In, List·Memᴰ·head as here, List·Memᴰ·tail as there, List·Memᴰ·cases-cons as in-cases}
-use Rattle.model.specs.Basics.{keepIf}
+use Rattle.model.specs.Basics.{pick, keepIf}
 
 pub test : (b : Bool) → (b ≡ true) ⊎ (b ≡ false)
 test true = inl refl
@@ -38,6 +38,11 @@ or-left b p = rw p
 pub or-right : (a : Bool) {b : Bool} → b ≡ true → (a || b) ≡ true
 or-right true p = refl
 or-right false p = p
+
+-- what both alternatives have, the picked one has
+pub pick-both : {A : Type 0} (P : A → Type 0) (t : Bool) {a b : A} → P a → P b → P (pick t a b)
+pick-both P true p q = p
+pick-both P false p q = q
 
 -- what stands in a list from which some elements are left out
 module _ {A : Type 0} where

@@ -8,8 +8,9 @@ use native.Mathlib.Omega.{arith}
 use lib.Dec.{ltb}
 use lib.ListN.{length}
 use borrow.Author.Tests.{ltb-true, ltb-false, lt-ltb}
-use Rattle.model.specs.Problems.{Table, Problem}
-use Rattle.model.specs.Frontiers.{costsFrom, costsOf, consistent, isChoice, Point, point, withFirst, firstsFrom, choices, pointsFrom}
+use Rattle.model.specs.Problems.{Problem}
+use Rattle.model.specs.Costs.{isChoice, costsOf}
+use Rattle.model.specs.Frontiers.{consistent, Point, point, withFirst, firstsFrom, choices, pointsFrom}
 use Rattle.model.proofs.Bits.{test, and-left, and-right, and-both, kept-cases, kept-here, kept-there}
 
 in-first : (v : ℕ) {x : List ℕ} (cs : List (List ℕ)) → In x cs → In (v ∷ x) (withFirst v cs)
@@ -70,12 +71,6 @@ choice-length [] [] h = refl
 choice-length [] (v ∷ x) h = absurd (false≢true h)
 choice-length (d ∷ ds) [] h = absurd (false≢true h)
 choice-length (d ∷ ds) (v ∷ x) h = ap suc (choice-length ds x (and-right (ltb v d) (isChoice ds x) h))
-
-pub costs-length : (p o : ℕ) (ds : List ℕ) (ts : List Table) (x : List ℕ) → length (costsFrom p o ds ts x) ≡ p
-
-unfolding costsFrom
-costs-length zero o ds ts x = refl
-costs-length (suc p) o ds ts x = ap suc (costs-length p (suc o) ds ts x)
 
 pub in-points : (q : Problem) (xs : List (List ℕ)) (p : Point) → In p (pointsFrom q xs) → In (p .choice) xs × (consistent q (p .choice) ≡ true) × (p .costs ≡ costsOf q (p .choice))
 

@@ -9,7 +9,8 @@ use lib.ListN.{length}
 use borrow.Author.Tests.{eqb-true}
 use Rattle.model.specs.Problems.{Problem}
 use Rattle.model.specs.Vectors.{under, added}
-use Rattle.model.specs.Frontiers.{costsOf, consistent, isChoice, Point, point, frontier, Reached}
+use Rattle.model.specs.Costs.{isChoice, costsOf}
+use Rattle.model.specs.Frontiers.{consistent, Point, point, frontier, Reached}
 use Rattle.model.specs.Cuts.{allSides, sidesOk, uncrossed, onSide, half, merged, pairOf, pairsWith, allPairs, cutList}
 use Rattle.model.proofs.Bits.{and-left, and-right, kept-cases, kept-here, kept-there}
 use Rattle.model.proofs.Vectors.{AtMost, NotLater}

@@ -11,17 +11,19 @@ use borrow.Author.Tests.{ltb-true}
 use Rattle.model.specs.Basics.{All}
 use Rattle.model.specs.Problems.{Problem, Word, RecordRules}
 use Rattle.model.specs.Vectors.{under, beats}
-use Rattle.model.specs.Frontiers.{costsOf, consistent, isChoice, Point, point, choices, pointsFrom, frontier, Reached, Is-frontier}
+use Rattle.model.specs.Costs.{isChoice, costOf, costsOf}
+use Rattle.model.specs.Frontiers.{consistent, Point, point, choices, pointsFrom, frontier, Reached, Is-frontier}
 use Rattle.model.proofs.Bits.{not-true-false, and-left, and-right, true-false}
 use Rattle.model.proofs.Vectors.{AtMost, NotLater, at-most-true, at-most-test, at-most-refl, beats-true, beats-false, not-earlier, later-false}
 use Rattle.model.proofs.Points.{rising-true, rising-test}
 use Rattle.model.proofs.Best.{Best, best-unique, best-cover}
 use Rattle.model.proofs.Sorting.{AllSized, best-right}
-use Rattle.model.proofs.Choices.{in-choices, choices-in, choice-length, costs-length, in-points, points-in}
+use Rattle.model.proofs.Totals.{totals-length}
+use Rattle.model.proofs.Choices.{in-choices, choices-in, choice-length, in-points, points-in}
 
 pub costs-width : (q : Problem) (x : List ℕ) → length (costsOf q x) ≡ q .objectives
 unfolding costsOf
-costs-width q x = costs-length (q .objectives) 0 (q .domains) (q .tables) x
+costs-width q x = totals-length q (costOf (q .domains) x)
 
 module _ (q : Problem) where
   pub reached-width : (p : Point) → Reached q p → length (p .costs) ≡ q .objectives

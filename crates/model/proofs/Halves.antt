@@ -10,7 +10,7 @@ use lib.ListN.{length, getD}
 use borrow.Author.Tests.{eq-eqb, ne-eqb, not-true}
 use Rattle.model.specs.Problems.{Table, Problem}
 use Rattle.model.specs.Vectors.{added}
-use Rattle.model.specs.Frontiers.{entryFrom, costOf, sumFor, costsFrom, costsOf}
+use Rattle.model.specs.Costs.{entryFrom, costOf, total, totalsFrom, totals, costsOf}
 use Rattle.model.specs.Cuts.{allSides, hasSide, crosses, uncrossed, onSide, newNumber, renumbered, inHalf, halfTable, halfTables, half}
 use Rattle.model.proofs.Bits.{true-false, and-left, and-right, and-both, or-left, or-right}
 use Rattle.model.proofs.Sides.{side-cases, sides-tail, side-place}
@@ -67,27 +67,28 @@ module _ (ss : List ℕ) (all : allSides ss ≡ true) (ds zs : List ℕ) (long :
       rw (side-place k ss ds long v (o v (here refl)), side-place k ss zs wide v (o v (here refl)))
       (entry-half k vs (λ w m. o w (there m)) (i * getD (onSide k ss ds) n 0 + getD (onSide k ss zs) n 0))
 
-  table-half : (k : ℕ) (t : Table) → OnSide k ss (t .scope) → costOf ds t zs ≡ costOf (onSide k ss ds) (halfTable k ss t) (onSide k ss zs)
+  table-half : (k : ℕ) (t : Table) → OnSide k ss (t .scope) → costOf ds zs t ≡ costOf (onSide k ss ds) (onSide k ss zs) (halfTable k ss t)
   unfolding costOf
   table-half k t o = ap (λ (i : ℕ). getD (t .costs) i 0) (entry-half k (t .scope) o 0)
 
-  abbrev part-sum : ℕ → ℕ → List Table → ℕ
-  part-sum k o ts = sumFor o (onSide k ss ds) (halfTables k ss ts) (onSide k ss zs)
+  -- what half k's records give
+  abbrev inPart : ℕ → Table → ℕ
+  inPart k = costOf (onSide k ss ds) (onSide k ss zs)
 
-  sum-parts : (o : ℕ) (ts : List Table) → uncrossed ss ts ≡ true → sumFor o ds ts zs ≡ part-sum 0 o ts + part-sum 1 o ts
-  unfolding sumFor halfTables crosses
-  sum-parts o [] h = refl
-  sum-parts o (t ∷ ts) h = go (one-half ss all (t .scope) (uncrossed-first ss t ts h)) (sum-parts o ts (uncrossed-rest ss t ts h))
+  total-parts : (o : ℕ) (ts : List Table) → uncrossed ss ts ≡ true → total o (costOf ds zs) ts ≡ total o (inPart 0) (halfTables 0 ss ts) + total o (inPart 1) (halfTables 1 ss ts)
+  unfolding total halfTables crosses
+  total-parts o [] h = refl
+  total-parts o (t ∷ ts) h = go (one-half ss all (t .scope) (uncrossed-first ss t ts h)) (total-parts o ts (uncrossed-rest ss t ts h))
     where
-      go : InOne ss (t .scope) → sumFor o ds ts zs ≡ part-sum 0 o ts + part-sum 1 o ts → sumFor o ds (t ∷ ts) zs ≡ part-sum 0 o (t ∷ ts) + part-sum 1 o (t ∷ ts)
+      go : InOne ss (t .scope) → total o (costOf ds zs) ts ≡ total o (inPart 0) (halfTables 0 ss ts) + total o (inPart 1) (halfTables 1 ss ts) → total o (costOf ds zs) (t ∷ ts) ≡ total o (inPart 0) (halfTables 0 ss (t ∷ ts)) + total o (inPart 1) (halfTables 1 ss (t ∷ ts))
       go (in-zero a b s) e = rw (a, b, table-half 0 t s) (omega arith)
       go (in-one a b s) e = rw (a, b, table-half 1 t s) (omega arith)
 
-  costs-parts : (p o : ℕ) (ts : List Table) → uncrossed ss ts ≡ true → costsFrom p o ds ts zs ≡ added (costsFrom p o (onSide 0 ss ds) (halfTables 0 ss ts) (onSide 0 ss zs)) (costsFrom p o (onSide 1 ss ds) (halfTables 1 ss ts) (onSide 1 ss zs))
-  unfolding costsFrom added
-  costs-parts zero o ts h = refl
-  costs-parts (suc p) o ts h = let a = sum-parts o ts h in let b = costs-parts p (suc o) ts h in cc
+  totals-parts : (p o : ℕ) (ts : List Table) → uncrossed ss ts ≡ true → totalsFrom p o (costOf ds zs) ts ≡ added (totalsFrom p o (inPart 0) (halfTables 0 ss ts)) (totalsFrom p o (inPart 1) (halfTables 1 ss ts))
+  unfolding totalsFrom added
+  totals-parts zero o ts h = refl
+  totals-parts (suc p) o ts h = let a = total-parts o ts h in let b = totals-parts p (suc o) ts h in cc
 
 pub costs-halves : (q : Problem) (ss zs : List ℕ) → allSides ss ≡ true → length (q .domains) ≡ length ss → length zs ≡ length ss → uncrossed ss (q .tables) ≡ true → costsOf q zs ≡ added (costsOf (half 0 q ss) (onSide 0 ss zs)) (costsOf (half 1 q ss) (onSide 1 ss zs))
-unfolding costsOf half
-costs-halves q ss zs all long wide free = costs-parts ss all (q .domains) zs long wide (q .objectives) 0 (q .tables) free
+unfolding costsOf totals half
+costs-halves q ss zs all long wide free = totals-parts ss all (q .domains) zs long wide (q .objectives) 0 (q .tables) free

@@ -1,13 +1,23 @@
 -- The theorems about the definitions.
 pub mod Bits
+pub mod Elements
 pub mod Vectors
+pub mod Sums
+pub mod Totals
 pub mod Points
 pub mod Best
 pub mod Sorting
 pub mod Choices
 pub mod Frontier
 pub mod Passes
-pub mod Sums
+pub mod Scopes
 pub mod Sides
 pub mod Halves
 pub mod Cut
+pub mod Exchange
+pub mod Prefixes
+pub mod LeastEntry
+pub mod Bounded
+pub mod SumLimits
+pub mod Computing
+pub mod Counterexample

@@ -9,7 +9,7 @@ use lib.Dec.{eqb, ltb, leb}
 use lib.ListN.{length, getD}
 use borrow.Author.Tests.{leb-true, eqb-true, eq-eqb}
 use Rattle.model.specs.Basics.{when, keepIf}
-use Rattle.model.specs.Frontiers.{isChoice}
+use Rattle.model.specs.Costs.{isChoice}
 use Rattle.model.specs.Cuts.{allSides, onSide, newNumber, merged}
 use Rattle.model.proofs.Bits.{test, true-false, and-left, and-right, and-both}
 use Rattle.model.proofs.Vectors.{NotLater}

@@ -4,8 +4,9 @@ use mathlib.Core.List.{List, [], _∷_}
 use Prim.Native.Nat.{ℕ, zero, suc, _+_, _-_, _*_, min}
 use lib.Dec.{eqb, ltb}
 use lib.ListN.{length, getD}
-use Rattle.model.specs.Basics.{pick, when}
+use Rattle.model.specs.Basics.{pick}
 use Rattle.model.specs.Problems.{Table, Problem}
+use Rattle.model.specs.Costs.{totals}
 
 -- a prefix: values of their domains for variables 0, 1 and so on, at most for all
 unfoldable pub prefixOk : List ℕ → List ℕ → Bool
@@ -36,14 +37,6 @@ leastFrom ds pre entry i (v ∷ vs) =
 unfoldable pub leastOf : List ℕ → List ℕ → Table → ℕ
 leastOf ds pre t = leastFrom ds pre (λ i. getD (t .costs) i 0) 0 (t .scope)
 
-unfoldable pub boundFor : ℕ → List ℕ → List ℕ → List Table → ℕ
-boundFor o ds pre [] = 0
-boundFor o ds pre (t ∷ ts) = when (eqb (t .objective) o) (leastOf ds pre t) + boundFor o ds pre ts
-
--- for p objectives from o on
-unfoldable pub boundsFrom : ℕ → ℕ → List ℕ → List ℕ → List Table → List ℕ
-boundsFrom zero o ds pre ts = []
-boundsFrom (suc p) o ds pre ts = boundFor o ds pre ts ∷ boundsFrom p (suc o) ds pre ts
-
+-- the bound of a prefix, for each objective
 unfoldable pub boundOf : Problem → List ℕ → List ℕ
-boundOf q pre = boundsFrom (q .objectives) 0 (q .domains) pre (q .tables)
+boundOf q pre = totals q (leastOf (q .domains) pre)

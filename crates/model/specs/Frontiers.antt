@@ -1,41 +1,12 @@
--- Costs of choices, consistent choices, the frontier with its earliest choices, and what makes a list the frontier.
+-- Consistent choices, the frontier list with its earliest choices, and what makes a list the frontier list.
 use mathlib.Core.Path.{_≡_}
 use mathlib.Core.Bool.{Bool, true, false, _&&_, _||_, not}
 use mathlib.Core.List.{List, [], _∷_, _++_, List·Memᴰ as In}
-use Prim.Native.Nat.{ℕ, zero, suc, _+_, _*_}
-use lib.Dec.{eqb, ltb}
-use lib.ListN.{getD}
-use Rattle.model.specs.Basics.{pick, when, keepIf}
-use Rattle.model.specs.Problems.{Table, Problem}
+use Prim.Native.Nat.{ℕ, zero, suc}
+use Rattle.model.specs.Basics.{pick, keepIf}
+use Rattle.model.specs.Problems.{Problem}
 use Rattle.model.specs.Vectors.{under, atMost, same, beats, earlier}
-
--- a complete choice: a value of its domain for each variable
-unfoldable pub isChoice : List ℕ → List ℕ → Bool
-isChoice [] [] = true
-isChoice [] (x ∷ xs) = false
-isChoice (d ∷ ds) [] = false
-isChoice (d ∷ ds) (x ∷ xs) = ltb x d && isChoice ds xs
-
--- where a table has the entry for a choice, after the index i of the variables before: the last scope variable runs fastest
-unfoldable pub entryFrom : ℕ → List ℕ → List ℕ → List ℕ → ℕ
-entryFrom i ds [] xs = i
-entryFrom i ds (v ∷ vs) xs = entryFrom (i * getD ds v 0 + getD xs v 0) ds vs xs
-
-unfoldable pub costOf : List ℕ → Table → List ℕ → ℕ
-costOf ds t xs = getD (t .costs) (entryFrom 0 ds (t .scope) xs) 0
-
--- the cost of a choice for objective o: the sum of that objective's records
-unfoldable pub sumFor : ℕ → List ℕ → List Table → List ℕ → ℕ
-sumFor o ds [] xs = 0
-sumFor o ds (t ∷ ts) xs = when (eqb (t .objective) o) (costOf ds t xs) + sumFor o ds ts xs
-
--- for p objectives from o on
-unfoldable pub costsFrom : ℕ → ℕ → List ℕ → List Table → List ℕ → List ℕ
-costsFrom zero o ds ts xs = []
-costsFrom (suc p) o ds ts xs = sumFor o ds ts xs ∷ costsFrom p (suc o) ds ts xs
-
-unfoldable pub costsOf : Problem → List ℕ → List ℕ
-costsOf q xs = costsFrom (q .objectives) 0 (q .domains) (q .tables) xs
+use Rattle.model.specs.Costs.{isChoice, costsOf}
 
 -- each cost strictly below its ceiling
 unfoldable pub consistent : Problem → List ℕ → Bool

@@ -6,6 +6,7 @@ pub mod Problems
 pub mod Encoding
 pub mod Reading
 pub mod Vectors
+pub mod Costs
 pub mod Frontiers
 pub mod Bounds
 pub mod Cuts

@@ -5,10 +5,11 @@ use frontier_host::brute::{bound_prefix, list_points, solve_cut, Answer, Halves,
 use frontier_host::limits::{LEAST_WORK, MAX_POINTS};
 use frontier_host::owned::{cut_of, frontier_of, Buffers, Listed};
 use frontier_host::problem::{Problem, Table};
-use frontier_host::random::{random_choice, random_problem, Rng, Shape};
+use frontier_host::random::random_choice;
 use frontier_host::reading::read_problem;
 use frontier_host::refusal::Refusal;
 
+use super::case::Case;
 use super::flat::{junk, junk_point, Known};
 use super::{all_choices, check_bounds, check_frontier, consistent_choices, ensure};
 use super::{frontier_size, is_valid, record_starts, Verdict};
@@ -24,48 +25,6 @@ pub type Lister<'a> = &'a dyn Fn(&[u8], &mut [Point], &mut [u32]) -> Answer;
 
 /// A bound call, as `bound_prefix` is.
 pub type Bounder<'a> = &'a dyn Fn(&[u8], &[u8]) -> Least;
-
-/// A random problem that its seed reproduces, and the generator for whatever goes with it.
-pub struct Case {
-    pub seed: u64,
-    pub rng: Rng,
-    pub problem: Problem,
-    pub bytes: Vec<u8>,
-}
-
-impl Case {
-    pub fn new(seed: u64) -> Case {
-        let mut rng = Rng::new(seed);
-        let problem = random_problem(&mut rng, &Shape::small());
-        let bytes = problem.encode();
-        Case {
-            seed,
-            rng,
-            problem,
-            bytes,
-        }
-    }
-}
-
-impl Drop for Case {
-    /// Says which case failed, whether a law complained or a call panicked.
-    fn drop(&mut self) {
-        if std::thread::panicking() {
-            let hex: String = self.bytes.iter().map(|b| format!("{b:02x}")).collect();
-            eprintln!("seed {} bytes {hex}", self.seed);
-        }
-    }
-}
-
-/// Asks a law of the cases with seeds 0 and on; a complaint ends the test.
-pub fn ask(cases: u64, law: impl Fn(&mut Case) -> Verdict) {
-    for seed in 0..cases {
-        let mut case = Case::new(seed);
-        if let Err(complaint) = law(&mut case) {
-            panic!("{complaint}");
-        }
-    }
-}
 
 /// Buffers of random lengths: mostly a little below or above what `size` points need.
 fn random_buffers(case: &mut Case, size: usize) -> Buffers {

@@ -1,6 +1,7 @@
 //! Checkers of answers, written apart from the brute force: they work on the problem's vectors
 //! where it works on bytes, and ask the definitions point by point instead of computing a list.
 
+pub mod case;
 pub mod flat;
 pub mod law;
 pub mod mutants;

@@ -4,11 +4,17 @@ use frontier_host::brute::{
     bound_prefix, list_points, solve_cut, solve_problem, Answer, Halves, Least, Point,
 };
 use frontier_host::limits::{MAX_POINTS, MAX_VARIABLES};
-use frontier_host::owned::Listed;
+use frontier_host::owned::{Buffers, Listed};
 use frontier_host::refusal::Refusal;
 
 use super::law::{Bounder, Cutter, Lister, Solver};
 use super::Costed;
+
+/// How an untidy call leaves its buffers.
+type Leave<'a> = &'a dyn Fn(&mut Buffers);
+
+/// The half sizes that a call gives in place of the right ones.
+type Sizes = fn(Halves) -> [u32; 2];
 
 /// The list with a later consistent choice of the same costs for one point, if there is one.
 fn later_tie(consistent: &[Costed], list: &[Listed]) -> Option<Vec<Listed>> {
@@ -81,11 +87,19 @@ fn with_higher_ceilings(problem: &[u8]) -> Vec<u8> {
 
 /// Solves, and then does something wrong with the buffers or the answer.
 fn after(
-    tamper: impl Fn(&mut [u32], &mut [u8], &mut [u32], &mut Answer),
+    tamper: impl Fn(&mut Buffers, &mut Answer),
 ) -> impl Fn(&[u8], &mut [u32], &mut [u8], &mut [u32]) -> Answer {
     move |problem, costs, choices, work| {
         let mut answer = solve_problem(problem, costs, choices, work);
-        tamper(costs, choices, work, &mut answer);
+        let mut lent = Buffers {
+            costs: costs.to_vec(),
+            choices: choices.to_vec(),
+            work: work.to_vec(),
+        };
+        tamper(&mut lent, &mut answer);
+        costs.copy_from_slice(&lent.costs);
+        choices.copy_from_slice(&lent.choices);
+        work.copy_from_slice(&lent.work);
         answer
     }
 }
@@ -97,73 +111,24 @@ fn spoil<T: Copy>(slice: &mut [T], spoiled: impl Fn(T) -> T) {
     }
 }
 
-/// Hands each faulty flat call to the test, by name.
-pub fn each_faulty_solver(test: impl Fn(&str, Solver)) {
-    let when = |number: u8, answer: &Answer| answer.number == number;
+/// Hands each flat call with a wrong answer to the test, by name.
+pub fn each_wrong_solver(test: impl Fn(&str, Solver)) {
     test("never accepts", &|_, _, _, work| {
         work.fill(0);
         Refusal::placeless(15).into()
     });
-    test(
-        "stops after one point",
-        &after(|_, _, _, answer| answer.count = answer.count.min(1)),
-    );
+    let one_point = |_: &mut Buffers, answer: &mut Answer| answer.count = answer.count.min(1);
+    test("stops after one point", &after(one_point));
     test("ceiling allowed", &|problem, costs, choices, work| {
         solve_problem(&with_higher_ceilings(problem), costs, choices, work)
     });
-    test(
-        "work left",
-        &after(|_, _, work, answer| {
-            if when(0, answer) {
-                spoil(work, |_| 1);
-            }
-        }),
-    );
-    test(
-        "work left by 15",
-        &after(|_, _, work, answer| {
-            if when(15, answer) {
-                spoil(work, |_| 1);
-            }
-        }),
-    );
-    test("work cleared by 12", &after(|_, _, work, _| work.fill(0)));
-    test(
-        "written past the costs",
-        &after(|costs, _, _, answer| {
-            if when(0, answer) {
-                spoil(costs, |cost| cost ^ 1);
-            }
-        }),
-    );
-    test(
-        "written past the choices",
-        &after(|_, choices, _, answer| {
-            if when(0, answer) {
-                spoil(choices, |value| value ^ 1);
-            }
-        }),
-    );
-    test(
-        "written by 15",
-        &after(|costs, _, _, answer| {
-            if when(15, answer) {
-                spoil(costs, |cost| cost ^ 1);
-            }
-        }),
-    );
-    test(
-        "choice buffer not asked",
-        &|problem, costs, choices, work| {
-            let mut own = vec![0; MAX_POINTS * MAX_VARIABLES];
-            let answer = solve_problem(problem, costs, &mut own, work);
-            choices
-                .iter_mut()
-                .zip(own)
-                .for_each(|(slot, value)| *slot = value);
-            answer
-        },
-    );
+    test("choices not asked", &|problem, costs, choices, work| {
+        let mut own = vec![0; MAX_POINTS * MAX_VARIABLES];
+        let answer = solve_problem(problem, costs, &mut own, work);
+        let slots = choices.iter_mut().zip(own);
+        slots.for_each(|(slot, value)| *slot = value);
+        answer
+    });
     test("old memory", &|problem, costs, choices, work| {
         let old = work.first().is_some_and(|number| number % 4 == 3);
         let mut answer = solve_problem(problem, costs, choices, work);
@@ -172,38 +137,58 @@ pub fn each_faulty_solver(test: impl Fn(&str, Solver)) {
     });
 }
 
-/// Hands each faulty cut call to the test, by name.
-pub fn each_faulty_cutter(test: impl Fn(&str, Cutter)) {
-    let sizes = |cut: Halves, first: u32, second: u32| Halves {
-        first,
-        second,
-        ..cut
-    };
-    test("sizes exchanged", &|problem,
-                              sides,
-                              costs,
-                              choices,
-                              work| {
-        let cut = solve_cut(problem, sides, costs, choices, work);
-        sizes(cut, cut.second, cut.first)
-    });
-    test("sizes invented", &|problem, sides, costs, choices, work| {
-        let cut = solve_cut(problem, sides, costs, choices, work);
-        sizes(cut, cut.answer.count, u32::from(cut.answer.number == 0))
-    });
-    test(
-        "sizes after a refusal",
-        &|problem, sides, costs, choices, work| {
+/// Hands each flat call that leaves a buffer wrong to the test, by name.
+pub fn each_untidy_solver(test: impl Fn(&str, Solver)) {
+    let work = |lent: &mut Buffers| spoil(&mut lent.work, |_| 1);
+    let costs = |lent: &mut Buffers| spoil(&mut lent.costs, |cost| cost ^ 1);
+    let choices = |lent: &mut Buffers| spoil(&mut lent.choices, |value| value ^ 1);
+    let untidy: [(&str, u8, Leave); 7] = [
+        ("work left", 0, &work),
+        ("work left by 15", 15, &work),
+        ("work cleared by 12", 12, &|lent| lent.work.fill(0)),
+        ("written past the costs", 0, &costs),
+        ("written past the choices", 0, &choices),
+        ("costs written by 15", 15, &costs),
+        ("choices written by 12", 12, &choices),
+    ];
+    for (name, number, leave) in untidy {
+        let tamper = |lent: &mut Buffers, answer: &mut Answer| {
+            if answer.number == number {
+                leave(lent);
+            }
+        };
+        test(name, &after(tamper));
+    }
+}
+
+/// Hands each cut call with wrong sizes to the test, by name.
+pub fn each_missized_cutter(test: impl Fn(&str, Cutter)) {
+    let missized: [(&str, Sizes); 3] = [
+        ("sizes exchanged", |cut| [cut.second, cut.first]),
+        ("sizes invented", |cut| {
+            [cut.answer.count, u32::from(cut.answer.number == 0)]
+        }),
+        ("sizes after a refusal", |cut| {
+            [cut.first + u32::from(cut.answer.number != 0), cut.second]
+        }),
+    ];
+    for (name, sizes) in missized {
+        test(name, &|problem, sides, costs, choices, work| {
             let cut = solve_cut(problem, sides, costs, choices, work);
-            sizes(
-                cut,
-                cut.first + u32::from(cut.answer.number != 0),
-                cut.second,
-            )
-        },
-    );
+            let [first, second] = sizes(cut);
+            Halves {
+                first,
+                second,
+                ..cut
+            }
+        });
+    }
+}
+
+/// Hands each cut call that misreads its sides to the test, by name.
+pub fn each_missided_cutter(test: impl Fn(&str, Cutter)) {
     test(
-        "sides above 1 taken for 1",
+        "above 1 taken for 1",
         &|problem, sides, costs, choices, work| {
             let sides: Vec<u8> = sides.iter().map(|&side| side.min(1)).collect();
             solve_cut(problem, &sides, costs, choices, work)
@@ -216,7 +201,11 @@ pub fn each_faulty_cutter(test: impl Fn(&str, Cutter)) {
                                 work| {
         let exchanged: Vec<u8> = sides.iter().map(|&side| side ^ 1).collect();
         let cut = solve_cut(problem, &exchanged, costs, choices, work);
-        sizes(cut, cut.second, cut.first)
+        Halves {
+            first: cut.second,
+            second: cut.first,
+            ..cut
+        }
     });
     test("not cut at all", &|problem, sides, costs, choices, work| {
         let cut = solve_cut(problem, sides, costs, choices, work);
