@@ -21,3 +21,7 @@ pub mod Bounded
 pub mod SumLimits
 pub mod Computing
 pub mod Counterexample
+pub mod Tree
+pub mod Held
+pub mod Search
+pub mod Prune
