@@ -67,6 +67,20 @@ pub fn pair(ceilings: [u32; 2]) -> Problem {
     binary(&ceilings, 2, tables.concat())
 }
 
+/// Bent: two variables, each with tables 0,1,3 and 3,1,0. The middle point of both halves beats
+/// the sum of one half's first point and the other's last.
+pub fn bent(ceilings: [u32; 2]) -> Problem {
+    let tables = [0, 1].map(|v| {
+        let rising = Table::new(0, &[v], &[0, 1, 3]);
+        [rising, Table::new(1, &[v], &[3, 1, 0])]
+    });
+    Problem {
+        ceilings: ceilings.to_vec(),
+        domains: vec![3; 2],
+        tables: tables.concat(),
+    }
+}
+
 /// Pair behind an arity-0 entry 1 on objective 0: the record that belongs to half 0 whichever
 /// side is which.
 pub fn pair_with_constant(ceilings: [u32; 2]) -> Problem {

@@ -1,7 +1,7 @@
 //! The cases of document 01: its table, its printed example, and each limit from both sides.
 
 use frontier_host::brute::{bound_prefix, list_points, solve_cut, solve_problem, Answer, Point};
-use frontier_host::examples::{brimful, colours, lone, pair, staircase, three};
+use frontier_host::examples::{bent, brimful, colours, lone, pair, staircase, three};
 use frontier_host::limits::{LEAST_WORK, MAX_BYTES};
 use frontier_host::owned::{cut_of, frontier_of, list_text, Listed};
 use frontier_host::problem::{Problem, Table};
@@ -138,8 +138,25 @@ fn pair_by_halves() {
     let points: [(&[u32], &[u8]); 3] = [(&[0, 2], &[0, 0]), (&[1, 1], &[0, 1]), (&[2, 0], &[1, 1])];
     let wide = cut_of(&pair([9, 9]).encode(), &[0, 1]);
     assert_eq!(wide, Ok((listed(&points), [2, 2])));
+    // Now the first pair that gives 1 1 has the later choice.
+    let exchanged = cut_of(&pair([9, 9]).encode(), &[1, 0]);
+    assert_eq!(exchanged, Ok((listed(&points), [2, 2])));
     let narrow = cut_of(&pair([2, 2]).encode(), &[0, 1]);
     assert_eq!(narrow, Ok((listed(&points[1..2]), [2, 2])));
+}
+
+#[test]
+fn a_beaten_sum_is_not_listed() {
+    let points: [(&[u32], &[u8]); 5] = [
+        (&[0, 6], &[0, 0]),
+        (&[1, 4], &[0, 1]),
+        (&[2, 2], &[1, 1]),
+        (&[4, 1], &[1, 2]),
+        (&[6, 0], &[2, 2]),
+    ];
+    assert_points(&bent([9, 9]), &points);
+    let cut = cut_of(&bent([9, 9]).encode(), &[0, 1]);
+    assert_eq!(cut, Ok((listed(&points), [3, 3])));
 }
 
 #[test]

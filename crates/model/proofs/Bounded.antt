@@ -6,7 +6,7 @@ use Prim.Native.Nat.{ℕ}
 use lib.ListN.{length}
 use Rattle.model.specs.Problems.{Problem}
 use Rattle.model.specs.Vectors.{atMost}
-use Rattle.model.specs.Costs.{isChoice, costOf, totals, costsOf}
+use Rattle.model.specs.Costs.{isChoice, totals, costsOf}
 use Rattle.model.specs.Bounds.{prefixOk, agrees, leastOf, boundOf}
 use Rattle.model.proofs.Vectors.{AtMost, at-most-test}
 use Rattle.model.proofs.Prefixes.{choice-prefix, agrees-more}

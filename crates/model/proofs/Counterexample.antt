@@ -1,7 +1,7 @@
 -- Why `cut-exchanged` asks for scopes in range: a problem, which no bytes give, of which the exchanged cut is not the frontier.
 use mathlib.Core.Path.{_≡_, refl}
 use mathlib.Core.Bool.{true}
-use mathlib.Core.List.{List, [], _∷_}
+use mathlib.Core.List.{[], _∷_}
 use Rattle.model.specs.Problems.{Problem}
 use Rattle.model.specs.Frontiers.{point, frontier}
 use Rattle.model.specs.Cuts.{uncrossed, cutList, exchanged}

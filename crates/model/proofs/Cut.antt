@@ -14,7 +14,7 @@ use Rattle.model.specs.Frontiers.{consistent, Point, point, frontier, Re
 use Rattle.model.specs.Cuts.{allSides, sidesOk, uncrossed, onSide, half, merged, pairOf, pairsWith, allPairs, cutList}
 use Rattle.model.proofs.Bits.{and-left, and-right, kept-cases, kept-here, kept-there}
 use Rattle.model.proofs.Vectors.{AtMost, NotLater}
-use Rattle.model.proofs.Best.{Best, AsGood, best-cover, best-good}
+use Rattle.model.proofs.Best.{AsGood, best-cover, best-good}
 use Rattle.model.proofs.Sorting.{AllSized, best-right}
 use Rattle.model.proofs.Choices.{choice-length}
 use Rattle.model.proofs.Frontier.{costs-width, reached-width, reached-length, frontier-best, best-frontier}

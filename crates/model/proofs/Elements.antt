@@ -1,16 +1,31 @@
--- A property of every element: at one place, and from another property.
-use mathlib.Core.List.{List, [], _∷_}
+-- A property of every element: at one place, from another property, of two lists in a row, of what is left behind a place.
+use mathlib.Core.List.{List, [], _∷_, _++_}
 use Prim.Native.Nat.{ℕ, zero, suc, _<_}
 use native.Mathlib.Omega.{arith}
-use lib.ListN.{length, getD}
+use lib.ListN.{length, getD, drop}
 use Rattle.model.specs.Basics.{All}
 
-module _ {A : Type 0} where
-  pub all-at : (P : A → Type 0) (xs : List A) → All P xs → (i : ℕ) (x : A) → i < length xs → P (getD xs i x)
-  all-at P [] h i x l = absurd (omega arith)
-  all-at P (y ∷ xs) h zero x l = h .0
-  all-at P (y ∷ xs) h (suc i) x l = all-at P xs (h .1) i x (omega arith)
+module _ {A : Type 0} (P : A → Type 0) where
+  pub all-below : (xs : List A) → All P xs → (i : ℕ) (d : A) → i < length xs → P (getD xs i d)
+  all-below [] h i d l = absurd (omega arith)
+  all-below (x ∷ xs) h zero d l = h .0
+  all-below (x ∷ xs) h (suc i) d l = all-below xs (h .1) i d (omega arith)
 
-  pub all-map : (P Q : A → Type 0) → ((x : A) → P x → Q x) → (xs : List A) → All P xs → All Q xs
-  all-map P Q f [] h = tt
-  all-map P Q f (x ∷ xs) h = (f x (h .0), all-map P Q f xs (h .1))
+  -- at any place, where what is read past the end has it too
+  pub all-at : (xs : List A) → All P xs → (i : ℕ) (d : A) → P d → P (getD xs i d)
+  all-at [] h i d o = o
+  all-at (x ∷ xs) h zero d o = h .0
+  all-at (x ∷ xs) h (suc i) d o = all-at xs (h .1) i d o
+
+  pub all-map : (Q : A → Type 0) → ((x : A) → P x → Q x) → (xs : List A) → All P xs → All Q xs
+  all-map Q f [] h = tt
+  all-map Q f (x ∷ xs) h = (f x (h .0), all-map Q f xs (h .1))
+
+  pub all-append : (xs ys : List A) → All P xs → All P ys → All P (xs ++ ys)
+  all-append [] ys h k = k
+  all-append (x ∷ xs) ys h k = (h .0, all-append xs ys (h .1) k)
+
+  pub all-drop : (n : ℕ) (xs : List A) → All P xs → All P (drop n xs)
+  all-drop zero xs h = h
+  all-drop (suc n) [] h = h
+  all-drop (suc n) (x ∷ xs) h = all-drop n xs (h .1)

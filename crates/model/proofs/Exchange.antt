@@ -1,5 +1,5 @@
 -- Demand 3 with the sides exchanged: numbers 13 and 14 stay, and the list is the same.
-use mathlib.Core.Path.{_≡_, refl, ap, sym, _∙_, subst, ap₂}
+use mathlib.Core.Path.{_≡_, refl, ap, _∙_, subst, ap₂}
 use mathlib.Core.Logic.{⊎-elim}
 use mathlib.Core.Bool.{Bool, true, false, _&&_, _||_, not}
 use mathlib.Core.List.{List, [], _∷_}
@@ -9,10 +9,9 @@ use lib.Dec.{eqb, leb}
 use lib.ListN.{length, getD, drop}
 use Rattle.model.specs.Basics.{pick}
 use Rattle.model.specs.Refusals.{linked, verdict}
-use Rattle.model.specs.Problems.{Table, Problem}
+use Rattle.model.specs.Problems.{Table, Problem, InRange, AllInRange}
 use Rattle.model.specs.Frontiers.{frontier}
 use Rattle.model.specs.Cuts.{allSides, sidesOk, hasSide, crosses, linkedVerdict, uncrossed, cutList, otherSide, exchanged}
-use Rattle.model.proofs.Scopes.{InRange, AllInRange}
 use Rattle.model.proofs.Sides.{side-cases, sides-tail}
 use Rattle.model.proofs.Cut.{cut-frontier, sides-long, sides-all}
 

@@ -1,9 +1,9 @@
 -- Demand 2: the frontier is the one list that Is-frontier describes, for every problem; and its costs fit their ceilings' type.
 use mathlib.Core.Path.{_≡_, refl, ap, sym, _∙_, subst}
-use mathlib.Core.Logic.{inl, ⊎-elim}
+use mathlib.Core.Logic.{inl}
 use mathlib.Core.Bool.{true}
 use mathlib.Core.List.{List, [], _∷_, List·Memᴰ as In}
-use Prim.Native.Nat.{ℕ, _<_}
+use Prim.Native.Nat.{ℕ}
 use native.Mathlib.Omega.{arith}
 use lib.Dec.{ltb}
 use lib.ListN.{length}
@@ -13,8 +13,8 @@ use Rattle.model.specs.Problems.{Problem, Word, RecordRules}
 use Rattle.model.specs.Vectors.{under, beats}
 use Rattle.model.specs.Costs.{isChoice, costOf, costsOf}
 use Rattle.model.specs.Frontiers.{consistent, Point, point, choices, pointsFrom, frontier, Reached, Is-frontier}
-use Rattle.model.proofs.Bits.{not-true-false, and-left, and-right, true-false}
-use Rattle.model.proofs.Vectors.{AtMost, NotLater, at-most-true, at-most-test, at-most-refl, beats-true, beats-false, not-earlier, later-false}
+use Rattle.model.proofs.Bits.{not-true-false, and-left, and-right}
+use Rattle.model.proofs.Vectors.{at-most-true, at-most-test, at-most-refl, beats-true, beats-false, not-earlier, later-false}
 use Rattle.model.proofs.Points.{rising-true, rising-test}
 use Rattle.model.proofs.Best.{Best, best-unique, best-cover}
 use Rattle.model.proofs.Sorting.{AllSized, best-right}

@@ -1,8 +1,6 @@
 -- What a search holds: the least of those points of a pool whose choices it has passed.
-use mathlib.Core.Path.{_≡_, sym, subst}
+use mathlib.Core.Path.{_≡_, subst}
 use mathlib.Core.Logic.{inl, inr, ⊎-elim}
-use mathlib.Core.List.{List}
-use Prim.Native.Nat.{ℕ}
 use Rattle.model.specs.Frontiers.{Point}
 use Rattle.model.proofs.Best.{Pool}
 use Rattle.model.proofs.Passes.{NotAfter, not-after-refl, Least}

@@ -14,7 +14,7 @@ use Rattle.model.specs.Problems.{Table, scopeOk}
 use Rattle.model.specs.Costs.{isChoice, entryFrom, costOf}
 use Rattle.model.specs.Bounds.{prefixOk, agrees, leastTo, leastFrom, leastOf}
 use Rattle.model.proofs.Bits.{test, pick-both}
-use Rattle.model.proofs.Elements.{all-at}
+use Rattle.model.proofs.Elements.{all-below}
 use Rattle.model.proofs.Scopes.{Apart, Distinct, scope-distinct}
 use Rattle.model.proofs.Choices.{choice-length}
 use Rattle.model.proofs.Prefixes.{choice-prefix, prefix-below, agrees-length, agrees-at, set-choice, set-agrees, some-completion}
@@ -109,7 +109,7 @@ module _ (ds pre : List ℕ) (entry : ℕ → ℕ) (low : All (λ d. 1 ≤ d) ds
   from-reached i (v ∷ vs) s =
       let (below, apart, others) = s in
       let (a, l, e) = least-to-reached (getD ds v 0 - 1) (λ a. leastFrom ds pre entry (i * getD ds v 0 + a) vs) in
-      let m : a < getD ds v 0 = omega (arith, all-at (λ d. 1 ≤ d) ds low v 0 below) in
+      let m : a < getD ds v 0 = omega (arith, all-below (λ d. 1 ≤ d) ds low v 0 below) in
       let (x, c, ag, f) = from-reached (i * getD ds v 0 + getD pre v 0) vs others in
       let (y, d, bg, g) = from-reached (i * getD ds v 0 + a) vs others in
       let k : v < length y = omega (arith, choice-length ds y d) in

@@ -1,27 +1,45 @@
--- The theorems about the definitions.
+-- The theorems about the definitions, in the order in which they rest on each other.
+-- tests, elements, vectors
 pub mod Bits
 pub mod Elements
 pub mod Vectors
 pub mod Sums
 pub mod Totals
+pub mod Scopes
+-- demand 1: reading and encoding
+pub mod Words
+pub mod Verdicts
+pub mod Marks
+pub mod HeadRecord
+pub mod DomainRecords
+pub mod TableRecord
+pub mod TableRecords
+pub mod Bytes
+pub mod Encoded
+pub mod Reading
+pub mod Places
+-- demand 2: the best points of a pool, and the frontier
 pub mod Points
 pub mod Best
 pub mod Sorting
 pub mod Choices
 pub mod Frontier
-pub mod Passes
-pub mod Scopes
+-- demand 3: the cut
 pub mod Sides
 pub mod Halves
 pub mod Cut
 pub mod Exchange
+-- the bound
 pub mod Prefixes
 pub mod LeastEntry
 pub mod Bounded
 pub mod SumLimits
-pub mod Computing
-pub mod Counterexample
+-- the search
+pub mod Passes
 pub mod Tree
 pub mod Held
 pub mod Search
 pub mod Prune
+-- what is proved by computation
+pub mod Computing
+pub mod Counterexample

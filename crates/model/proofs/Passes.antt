@@ -9,7 +9,7 @@ use Rattle.model.specs.Problems.{Problem}
 use Rattle.model.specs.Vectors.{atMost, same}
 use Rattle.model.specs.Frontiers.{Point, frontier, Reached}
 use Rattle.model.proofs.Bits.{test, true-false, or-cases, or-left, or-right}
-use Rattle.model.proofs.Vectors.{AtMost, Earlier, NotLater, same-true, same-eq, earlier-irrefl, earlier-trans, not-later-trans, at-most-true, at-most-test, at-most-trans, at-most-refl, at-most-earlier}
+use Rattle.model.proofs.Vectors.{AtMost, Earlier, NotLater, same-true, same-eq, earlier-irrefl, earlier-trans, at-most-true, at-most-test, at-most-trans, at-most-refl, at-most-earlier}
 use Rattle.model.proofs.Points.{Rising}
 use Rattle.model.proofs.Best.{Pool, Listed, Best, Matched, listed-count}
 use Rattle.model.proofs.Frontier.{reached-width, frontier-best, best-frontier}

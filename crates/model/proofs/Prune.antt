@@ -14,7 +14,7 @@ use Rattle.model.specs.Bounds.{boundOf}
 use Rattle.model.proofs.Bits.{test, true-false, or-cases}
 use Rattle.model.proofs.Vectors.{AtMost, Earlier, NotLater, same-eq, same-true, not-earlier, not-later-trans, at-most-trans, at-most-earlier}
 use Rattle.model.proofs.Sums.{under-mono}
-use Rattle.model.proofs.Frontier.{costs-width, reached-width}
+use Rattle.model.proofs.Frontier.{reached-width}
 use Rattle.model.proofs.Passes.{NotAfter, matched, matched-in, Prefix}
 use Rattle.model.proofs.Tree.{From, Completes, completes-agrees, earlier-completes}
 use Rattle.model.proofs.Held.{Held, nothing, just, Beyond}

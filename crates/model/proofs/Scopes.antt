@@ -8,7 +8,7 @@ use native.Mathlib.Omega.{arith}
 use lib.Dec.{ltb, leb}
 use borrow.Author.Tests.{ltb-true, leb-true}
 use Rattle.model.specs.Basics.{All}
-use Rattle.model.specs.Problems.{Table, scopeOk}
+use Rattle.model.specs.Problems.{scopeOk, InRange}
 use Rattle.model.proofs.Bits.{and-left, and-right}
 
 -- v is none of the variables
@@ -34,13 +34,6 @@ scope-distinct n low [] h = tt
 scope-distinct n low (v ∷ vs) h =
     let k : scopeOk n (suc v) vs ≡ true = and-right (leb low v) _ (and-right (ltb v n) _ h) in
     (ltb-true v n (and-left (ltb v n) _ h), above-apart n (suc v) vs k v (omega arith), scope-distinct n (suc v) vs k)
-
--- variables below n, in one scope and in those of some records
-abbrev pub InRange : ℕ → List ℕ → Type 0
-InRange n vs = All (λ v. v < n) vs
-
-abbrev pub AllInRange : ℕ → List Table → Type 0
-AllInRange n ts = All (λ t. InRange n (t .scope)) ts
 
 pub distinct-range : (n : ℕ) (vs : List ℕ) → Distinct n vs → InRange n vs
 distinct-range n [] h = tt

@@ -19,7 +19,7 @@ use Rattle.model.proofs.Vectors.{Earlier, earlier-true, earlier-trans, 
 use Rattle.model.proofs.Points.{point-eq}
 use Rattle.model.proofs.Frontier.{costs-width, reached-width, reached-choice}
 use Rattle.model.proofs.Best.{Matched}
-use Rattle.model.proofs.Passes.{NotAfter, Unmatched, Least, matched, matched-in, in-matched, unmatched-false, Prefix, prefix-none, next-point, none-left, found-count}
+use Rattle.model.proofs.Passes.{NotAfter, Unmatched, matched, matched-in, unmatched-false, Prefix, prefix-none, next-point, none-left, found-count}
 use Rattle.model.proofs.Tree.{Passed, From, Through, completes-refl, opened, tried, closed, leaf, start}
 use Rattle.model.proofs.Held.{Held, nothing, just, Beyond, Seen, Holds, holds-same, holds-skip, holds-take}
 

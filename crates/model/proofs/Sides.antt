@@ -1,5 +1,5 @@
 -- Lists cut by a side list: the parts of a choice, the choice that two parts make, and its place in the order.
-use mathlib.Core.Path.{_≡_, refl, ap, sym, subst}
+use mathlib.Core.Path.{_≡_, refl, ap}
 use mathlib.Core.Logic.{_⊎_, inl, inr, ⊎-elim}
 use mathlib.Core.Bool.{Bool, true, false, false≢true}
 use mathlib.Core.List.{List, [], _∷_}
@@ -7,11 +7,11 @@ use Prim.Native.Nat.{ℕ, zero, suc, _+_, _<_}
 use native.Mathlib.Omega.{arith}
 use lib.Dec.{eqb, ltb, leb}
 use lib.ListN.{length, getD}
-use borrow.Author.Tests.{leb-true, eqb-true, eq-eqb}
+use borrow.Author.Tests.{leb-true, eq-eqb}
 use Rattle.model.specs.Basics.{when, keepIf}
 use Rattle.model.specs.Costs.{isChoice}
 use Rattle.model.specs.Cuts.{allSides, onSide, newNumber, merged}
-use Rattle.model.proofs.Bits.{test, true-false, and-left, and-right, and-both}
+use Rattle.model.proofs.Bits.{and-left, and-right, and-both}
 use Rattle.model.proofs.Vectors.{NotLater}
 
 -- a side is 0 or 1

@@ -2,7 +2,6 @@
 use mathlib.Core.List.{List, [], _∷_, _++_}
 use Prim.Native.Nat.{ℕ, _≤_, _<_, _/_, _%_}
 use lib.ListN.{length}
-use Rattle.model.specs.Basics.{All}
 use Rattle.model.specs.Limits.{maxBytes, byteEnd, shortEnd}
 use Rattle.model.specs.Problems.{Table, Problem, RecordRules}
 

@@ -10,3 +10,5 @@ pub mod Costs
 pub mod Frontiers
 pub mod Bounds
 pub mod Cuts
+pub mod Calls
+pub mod Demands

@@ -1,6 +1,6 @@
 -- Problems: ceilings, domains, cost tables; and the rules that a problem's records keep.
 use mathlib.Core.Path.{_≡_}
-use mathlib.Core.Bool.{Bool, true, false, _&&_}
+use mathlib.Core.Bool.{Bool, true, _&&_}
 use mathlib.Core.List.{List, [], _∷_}
 use Prim.Native.Nat.{ℕ, suc, _*_, _≤_, _<_}
 use lib.Dec.{ltb, leb}
@@ -30,6 +30,13 @@ sizeOf ds (v ∷ vs) = getD ds v 0 * sizeOf ds vs
 unfoldable pub scopeOk : ℕ → ℕ → List ℕ → Bool
 scopeOk n low [] = true
 scopeOk n low (v ∷ vs) = ltb v n && (leb low v && scopeOk n (suc v) vs)
+
+-- variables that exist, in one scope and in those of some records
+abbrev pub InRange : ℕ → List ℕ → Type 0
+InRange n vs = All (λ v. v < n) vs
+
+abbrev pub AllInRange : ℕ → List Table → Type 0
+AllInRange n ts = All (λ t. InRange n (t .scope)) ts
 
 -- numbers of four bytes, and domain sizes
 abbrev pub Word : ℕ → Type 0

@@ -1,5 +1,4 @@
 -- The numbers of refusal, and verdicts: a number together with its place.
-use mathlib.Core.Bool.{Bool}
 use Prim.Native.Nat.{ℕ}
 use lib.Dec.{eqb}
 use Rattle.model.specs.Basics.{pick}

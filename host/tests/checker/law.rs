@@ -232,6 +232,20 @@ pub fn bound_law(case: &mut Case, bounder: Bounder) -> Verdict {
         }
         check_bounds(&case.problem, &choices, &choice, &bounds)?;
     }
+    bad_prefix_law(case, bounder)
+}
+
+/// A prefix longer than n is refused, and so is one with a value not in its domain.
+fn bad_prefix_law(case: &mut Case, bounder: Bounder) -> Verdict {
+    let choice = random_choice(&mut case.rng, &case.problem);
+    let place = case.rng.below(choice.len());
+    let long = [choice.as_slice(), &[0]].concat();
+    let outside = [&choice[..place], &[case.problem.domains[place]]].concat();
+    for prefix in [long, outside] {
+        let bound = bounder(&case.bytes, &prefix);
+        let refused = bound == Refusal::placeless(16).into();
+        ensure(refused, || format!("{bound:?} of {prefix:?}"))?;
+    }
     Ok(())
 }
 

@@ -44,7 +44,7 @@ pub fn cost_of(problem: &Problem, choice: &[u8]) -> Vec<u64> {
     (0..problem.ceilings.len()).map(objective_cost).collect()
 }
 
-/// All complete choices, by mixed-radix counting; not in document 01's order, on purpose.
+/// All complete choices, by extending shorter ones; not in document 01's order, on purpose.
 pub fn all_choices(problem: &Problem) -> Vec<Vec<u8>> {
     let mut choices = vec![Vec::new()];
     for &domain in &problem.domains {
@@ -76,8 +76,8 @@ fn at_most(one: &[u64], other: &[u64]) -> bool {
     !one.iter().zip(other).any(|(a, b)| a > b)
 }
 
-/// How many vectors the frontier has, counted from the end of the order: a vector is new if
-/// no vector at most as large comes before it.
+/// How many vectors the frontier has: a vector counts if none before it in the sorted order
+/// is at most as large.
 pub fn frontier_size(consistent: &[Costed]) -> usize {
     let mut vectors: Vec<&Vec<u64>> = consistent.iter().map(|(_, costs)| costs).collect();
     vectors.sort();
