@@ -40,6 +40,9 @@ pub mod Tree
 pub mod Held
 pub mod Search
 pub mod Prune
+-- the calls and the demands
+pub mod Calls
+pub mod Demands
 -- what is proved by computation
 pub mod Computing
 pub mod Counterexample

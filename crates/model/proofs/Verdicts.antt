@@ -47,6 +47,9 @@ number-of-refused at n = go (eqb n 0) refl
 pub accepts-first : (a : Verdict) {b : Verdict} → a .number ≡ 0 → b ≡ accepted → first a b ≡ accepted
 accepts-first a p q = rw (eq-eqb _ _ p) q
 
+pub accepts-both : {a b : Verdict} → a ≡ accepted → b ≡ accepted → first a b ≡ accepted
+accepts-both p q = rw (p, q)
+
 -- the same where a test comes first
 pub test-accepts : (t : Bool) (n at : ℕ) (v : Verdict) → eqb n 0 ≡ false → pick t (verdict n at) v .number ≡ 0 → (t ≡ false) × (v .number ≡ 0)
 test-accepts true n at v e h = absurd (eqb-false n 0 e h)

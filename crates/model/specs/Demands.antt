@@ -16,18 +16,18 @@ use Rattle.model.specs.Cuts.{sidesOk, linkedVerdict, uncrossed, cutList,
 use Rattle.model.specs.Calls.{roomOf, solveOutcome, cutOutcome}
 
 -- Demand 1: accepted is every problem that keeps the record rules, with work memory enough and a frontier that fits; nothing else.
-pub record Answerable (q : Problem) (costs choices work : List ℕ) : Type 0 where
+pub record Answerable (q : Problem) (work : List ℕ) (room : ℕ) : Type 0 where
   pub kept : WellFormed q
   pub work-enough : workNeed ≤ length work
-  pub fits : length (frontier q) ≤ roomOf q costs choices
+  pub fits : length (frontier q) ≤ room
 
 pub record Demand-1 : Type 0 where
   -- reading and encoding are inverse to each other
   pub encoded : (q : Problem) → WellFormed q → (verdictOf (encode q) ≡ accepted) × (problemOf (encode q) ≡ q)
   pub decoded : (s : List ℕ) → All Byte s → verdictOf s .number ≡ 0 → WellFormed (problemOf s) × (encode (problemOf s) ≡ s)
   -- the plain call
-  pub answered : (q : Problem) (costs choices work : List ℕ) → Answerable q costs choices work → solveOutcome (encode q) costs choices work .verdict ≡ accepted
-  pub nothing-else : (s costs choices work : List ℕ) → All Byte s → solveOutcome s costs choices work .verdict .number ≡ 0 → Answerable (problemOf s) costs choices work × (encode (problemOf s) ≡ s)
+  pub answered : (q : Problem) (costs choices work : List ℕ) → Answerable q work (roomOf q costs choices) → solveOutcome (encode q) costs choices work .verdict ≡ accepted
+  pub nothing-else : (s costs choices work : List ℕ) → All Byte s → solveOutcome s costs choices work .verdict .number ≡ 0 → Answerable (problemOf s) work (roomOf (problemOf s) costs choices) × (encode (problemOf s) ≡ s)
 
 -- Demand 2: the list is the efficient frontier, in rising order, each vector once, with the earliest choice.
 pub record Demand-2 : Type 0 where
@@ -38,14 +38,14 @@ pub record Demand-2 : Type 0 where
   pub sums : (q : Problem) → RecordRules q → (o : ℕ) (x : List ℕ) → total o (costOf (q .domains) x) (q .tables) < sumEnd
 
 -- Demand 3: for any side list that no record crosses, the cut gives exactly that list, also with the sides exchanged.
-pub record Cuttable (s sides costs choices work : List ℕ) : Type 0 where
+pub record Cuttable (s sides work : List ℕ) (room : ℕ) : Type 0 where
   pub read : verdictOf s .number ≡ 0
   pub work-enough : workNeed ≤ length work
   pub sides-ok : sidesOk (problemOf s) sides ≡ true
   pub free : uncrossed sides (problemOf s .tables) ≡ true
   pub first-fits : halfSize 0 (problemOf s) sides ≤ maxPoints
   pub second-fits : halfSize 1 (problemOf s) sides ≤ maxPoints
-  pub fits : length (frontier (problemOf s)) ≤ roomOf (problemOf s) costs choices
+  pub fits : length (frontier (problemOf s)) ≤ room
 
 pub record Demand-3 : Type 0 where
   pub cut : (q : Problem) (sides : List ℕ) → sidesOk q sides ≡ true → uncrossed sides (q .tables) ≡ true → cutList q sides ≡ frontier q
@@ -56,7 +56,7 @@ pub record Demand-3 : Type 0 where
   -- of bytes that are read all scopes are in range
   pub in-range : (s : List ℕ) → verdictOf s .number ≡ 0 → AllInRange (length (problemOf s .domains)) (problemOf s .tables)
   -- the call answers exactly then
-  pub answered : (s sides costs choices work : List ℕ) → Cuttable s sides costs choices work → cutOutcome s sides costs choices work .verdict ≡ accepted
-  pub nothing-else : (s sides costs choices work : List ℕ) → cutOutcome s sides costs choices work .verdict .number ≡ 0 → Cuttable s sides costs choices work
+  pub answered : (s sides costs choices work : List ℕ) → Cuttable s sides work (roomOf (problemOf s) costs choices) → cutOutcome s sides costs choices work .verdict ≡ accepted
+  pub nothing-else : (s sides costs choices work : List ℕ) → cutOutcome s sides costs choices work .verdict .number ≡ 0 → Cuttable s sides work (roomOf (problemOf s) costs choices)
   -- what it lists is what the plain call lists
-  pub as-uncut : (s sides costs choices work : List ℕ) → Cuttable s sides costs choices work → (cutOutcome s sides costs choices work .costs ≡ solveOutcome s costs choices work .costs) × (cutOutcome s sides costs choices work .choices ≡ solveOutcome s costs choices work .choices) × (cutOutcome s sides costs choices work .count ≡ solveOutcome s costs choices work .count)
+  pub as-uncut : (s sides costs choices work : List ℕ) → Cuttable s sides work (roomOf (problemOf s) costs choices) → (cutOutcome s sides costs choices work .costs ≡ solveOutcome s costs choices work .costs) × (cutOutcome s sides costs choices work .choices ≡ solveOutcome s costs choices work .choices) × (cutOutcome s sides costs choices work .count ≡ solveOutcome s costs choices work .count)
