@@ -1,5 +1,5 @@
 -- When the calls answer: exactly where no part of their verdict refuses.
-use mathlib.Core.Path.{_≡_, refl, ap}
+use mathlib.Core.Path.{_≡_, refl}
 use mathlib.Core.Bool.{Bool, true, false}
 use mathlib.Core.List.{List, [], _∷_}
 use Prim.Native.Nat.{ℕ, _≤_}
@@ -8,14 +8,13 @@ use lib.ListN.{length, getD, drop}
 use borrow.Author.Tests.{ltb-false, le-ltb, eqb-false}
 use Rattle.model.specs.Basics.{pick}
 use Rattle.model.specs.Limits.{maxPoints, workNeed}
-use Rattle.model.specs.Refusals.{workShort, badSides, linked, full, Verdict, verdict, accepted, first}
+use Rattle.model.specs.Refusals.{workShort, badSides, linked, full, verdict, accepted, first}
 use Rattle.model.specs.Problems.{Table, Problem}
 use Rattle.model.specs.Reading.{verdictOf, problemOf, placesOf}
 use Rattle.model.specs.Frontiers.{Point, frontier}
-use Rattle.model.specs.Cuts.{sidesOk, crosses, linkedVerdict, uncrossed, half, cutList, halfSize}
+use Rattle.model.specs.Cuts.{sidesOk, crosses, linkedVerdict, uncrossed, half, cutList}
 use Rattle.model.specs.Demands.{Cuttable}
 use Rattle.model.specs.Calls.{workVerdict, roomVerdict, solveVerdict, sidesVerdict, cutRoomVerdict, cutVerdict}
-use Rattle.model.proofs.Bits.{and-both}
 use Rattle.model.proofs.Verdicts.{first-accepts, accepts-both, test-accepts}
 use Rattle.model.proofs.Reading.{accepted-place}
 use Rattle.model.proofs.Cut.{cut-frontier}

@@ -14,19 +14,16 @@ use Rattle.model.specs.Frontiers.{consistent, Point, point, withFirst, f
 use Rattle.model.proofs.Bits.{test, and-left, and-right, and-both, kept-cases, kept-here, kept-there}
 
 in-first : (v : ℕ) {x : List ℕ} (cs : List (List ℕ)) → In x cs → In (v ∷ x) (withFirst v cs)
-
 unfolding withFirst
 in-first v [] m = absurd (in-none m)
 in-first v (c ∷ cs) m = ⊎-elim (λ e. here (ap (_∷_ v) e)) (λ n. there (in-first v cs n)) (in-cases m)
 
 first-in : (v : ℕ) (y : List ℕ) (cs : List (List ℕ)) → In y (withFirst v cs) → (x : List ℕ) × (y ≡ v ∷ x) × In x cs
-
 unfolding withFirst
 first-in v y [] m = absurd (in-none m)
 first-in v y (c ∷ cs) m = ⊎-elim (λ e. (c, e, here refl)) (λ n. let (x, e, i) = first-in v y cs n in (x, e, there i)) (in-cases m)
 
 in-firsts : (n v k : ℕ) {x : List ℕ} (cs : List (List ℕ)) → In x cs → k ≤ v → v < n + k → In (v ∷ x) (firstsFrom n k cs)
-
 unfolding firstsFrom
 in-firsts zero v k cs m h g = absurd (omega arith)
 in-firsts (suc n) v k {x} cs m h g =
@@ -39,7 +36,6 @@ in-firsts (suc n) v k {x} cs m h g =
     same-or-past v k h = ⊎-elim (λ t. inr (ltb-true k v t)) (λ t. inl (omega (arith, ltb-false k v t))) (test (ltb k v))
 
 firsts-in : (n k : ℕ) (y : List ℕ) (cs : List (List ℕ)) → In y (firstsFrom n k cs) → (v : ℕ) × (x : List ℕ) × (y ≡ v ∷ x) × (v < n + k) × In x cs
-
 unfolding firstsFrom
 firsts-in zero k y cs m = absurd (in-none m)
 firsts-in (suc n) k y cs m =
@@ -49,7 +45,6 @@ firsts-in (suc n) k y cs m =
     (in-append (withFirst k cs) m)
 
 pub in-choices : (ds x : List ℕ) → isChoice ds x ≡ true → In x (choices ds)
-
 unfolding choices isChoice
 in-choices [] [] h = here refl
 in-choices [] (v ∷ x) h = absurd (false≢true h)
@@ -57,7 +52,6 @@ in-choices (d ∷ ds) [] h = absurd (false≢true h)
 in-choices (d ∷ ds) (v ∷ x) h = in-firsts d v 0 (choices ds) (in-choices ds x (and-right (ltb v d) (isChoice ds x) h)) (omega arith) (omega (arith, ltb-true v d (and-left (ltb v d) (isChoice ds x) h)))
 
 pub choices-in : (ds x : List ℕ) → In x (choices ds) → isChoice ds x ≡ true
-
 unfolding choices isChoice
 choices-in [] x m = ⊎-elim (λ e. rw e refl) (λ n. absurd (in-none n)) (in-cases m)
 choices-in (d ∷ ds) y m =
@@ -65,7 +59,6 @@ choices-in (d ∷ ds) y m =
     rw e (and-both (lt-ltb v d (omega arith)) (choices-in ds x i))
 
 pub choice-length : (ds x : List ℕ) → isChoice ds x ≡ true → length x ≡ length ds
-
 unfolding isChoice
 choice-length [] [] h = refl
 choice-length [] (v ∷ x) h = absurd (false≢true h)
@@ -73,7 +66,6 @@ choice-length (d ∷ ds) [] h = absurd (false≢true h)
 choice-length (d ∷ ds) (v ∷ x) h = ap suc (choice-length ds x (and-right (ltb v d) (isChoice ds x) h))
 
 pub in-points : (q : Problem) (xs : List (List ℕ)) (p : Point) → In p (pointsFrom q xs) → In (p .choice) xs × (consistent q (p .choice) ≡ true) × (p .costs ≡ costsOf q (p .choice))
-
 unfolding pointsFrom
 in-points q [] p m = absurd (in-none m)
 in-points q (x ∷ xs) p m =
@@ -83,7 +75,6 @@ in-points q (x ∷ xs) p m =
     (kept-cases (consistent q x) m)
 
 pub points-in : (q : Problem) (xs : List (List ℕ)) (x : List ℕ) → In x xs → consistent q x ≡ true → In (point (costsOf q x) x) (pointsFrom q xs)
-
 unfolding pointsFrom
 points-in q [] x m h = absurd (in-none m)
 points-in q (y ∷ xs) x m h =

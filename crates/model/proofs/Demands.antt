@@ -1,8 +1,8 @@
--- The three demands, proved.
+-- The three demands and the laws of the bound, proved.
 use mathlib.Core.Path.{_≡_, refl, subst}
 use mathlib.Core.Bool.{true}
 use mathlib.Core.List.{List}
-use Prim.Native.Nat.{ℕ, _≤_}
+use Prim.Native.Nat.{ℕ}
 use lib.ListN.{length}
 use Rattle.model.specs.Basics.{All}
 use Rattle.model.specs.Refusals.{accepted}
@@ -11,14 +11,18 @@ use Rattle.model.specs.Encoding.{Byte, encode}
 use Rattle.model.specs.Reading.{verdictOf, problemOf}
 use Rattle.model.specs.Frontiers.{frontier}
 use Rattle.model.specs.Cuts.{sidesOk, linkedVerdict, cutList, exchanged}
-use Rattle.model.specs.Calls.{roomOf, solveVerdict, solveOutcome, cutVerdict, cutOutcome}
-use Rattle.model.specs.Demands.{Answerable, Demand-1, Demand-2, Cuttable, Demand-3}
+use Rattle.model.specs.Calls.{roomOf, workVerdict, solveVerdict, solveOutcome, cutVerdict, cutOutcome}
+use Rattle.model.specs.Demands.{Answerable, Demand-1, Demand-2, Cuttable, Demand-3, Bound-laws}
 use Rattle.model.proofs.Elements.{all-map}
 use Rattle.model.proofs.Scopes.{scope-distinct, distinct-range}
+use Rattle.model.proofs.Bytes.{encoded-bytes}
 use Rattle.model.proofs.Encoded.{read-encoded}
 use Rattle.model.proofs.Reading.{accepted-place, accepted-encoded, accepted-scopes}
+use Rattle.model.proofs.Places.{refused-number, refused-place}
 use Rattle.model.proofs.Frontier.{frontier-right, frontier-unique, listed-words}
 use Rattle.model.proofs.SumLimits.{sum-limit}
+use Rattle.model.proofs.LeastEntry.{least-below, least-reached}
+use Rattle.model.proofs.Bounded.{bound-below, bound-whole, bound-grows, bound-length}
 use Rattle.model.proofs.Cut.{cut-frontier, sides-long, sides-all}
 use Rattle.model.proofs.Exchange.{exchanged-ok, exchanged-linked, cut-exchanged}
 use Rattle.model.proofs.Calls.{solve-accepts, accepts-solve, cut-accepts, accepts-cut}
@@ -38,8 +42,20 @@ nothing-else s costs choices work b h =
     let (k, e) = accepted-encoded s b v in
     (record { kept = k; work-enough = w; fits = f }, e)
 
+contents-free : (s c c′ x x′ w w′ : List ℕ) → length c ≡ length c′ → length x ≡ length x′ → length w ≡ length w′ → (solveOutcome s c x w .verdict ≡ solveOutcome s c′ x′ w′ .verdict) × (solveOutcome s c x w .count ≡ solveOutcome s c′ x′ w′ .count)
+unfolding solveOutcome solveVerdict roomOf workVerdict
+contents-free s c c′ x x′ w w′ p q r = rw (p, q, r) (refl, refl)
+
 pub demand-1 : Demand-1
-demand-1 = record { encoded = read-encoded; decoded = accepted-encoded; answered = answered; nothing-else = nothing-else }
+demand-1 = record {
+  bytes = λ q w. encoded-bytes q (w .rules);
+  encoded = read-encoded;
+  decoded = accepted-encoded;
+  refused = λ s. (refused-number s, refused-place s);
+  answered = answered;
+  nothing-else = nothing-else;
+  contents-free = contents-free;
+}
 
 -- ## demand 2
 
@@ -87,4 +103,16 @@ demand-3 = record {
   answered = cut-answered;
   nothing-else = cut-nothing-else;
   as-uncut = as-uncut;
+}
+
+-- ## the bound
+
+pub bound-laws : Bound-laws
+bound-laws = record {
+  below = bound-below;
+  least = λ ds prefix x t. least-below ds prefix t x;
+  reached = least-reached;
+  whole = bound-whole;
+  grows = bound-grows;
+  width = bound-length;
 }

@@ -1,15 +1,16 @@
 -- A record's start, the mark due and the single fields, and fields with a limit: what number 0 says of them.
 use mathlib.Core.Path.{_≡_, refl, sym}
+use mathlib.Core.Logic.{⊎-elim}
 use mathlib.Core.Bool.{Bool, true, false, _&&_, _||_, not, false≢true}
 use mathlib.Core.List.{List, [], _∷_}
 use Prim.Native.Nat.{ℕ, zero, suc, _+_, _≤_}
 use native.Mathlib.Omega.{arith}
-use lib.Dec.{eqb, ltb}
+use lib.Dec.{eqb, ltb, leb}
 use lib.ListN.{length, getD, drop}
-use borrow.Author.Tests.{ltb-false, le-ltb, eqb-true, eqb-false, eq-eqb, ne-eqb, not-false}
+use borrow.Author.Tests.{ltb-false, lt-ltb, le-ltb, leb-true, leb-false, eqb-true, eqb-false, eq-eqb, ne-eqb, not-false}
 use Rattle.model.specs.Refusals.{cutShort, strayMark}
 use Rattle.model.specs.Reading.{startNumber, outside}
-use Rattle.model.proofs.Bits.{and-left, and-right, and-both}
+use Rattle.model.proofs.Bits.{test, and-left, and-right, and-both}
 use Rattle.model.proofs.Verdicts.{first-none, none-first, when-none, none-when}
 
 -- the list begins with the letters a and b, and has the single fields
@@ -56,3 +57,10 @@ not-outside limit x h =
 
 pub inside : (limit x : ℕ) → (1 ≤ x) × (x ≤ limit) → outside limit x ≡ false
 inside limit x h = rw (ne-eqb x 0 (λ e. omega arith), le-ltb limit x (h .1))
+
+-- the same as tests
+pub outside-zero : (limit : ℕ) {x : ℕ} → x ≡ 0 → false ≡ not (outside limit x)
+outside-zero limit e = rw (eq-eqb _ _ e)
+
+pub outside-other : (limit x : ℕ) → (x ≡ 0 → ⊥) → leb x limit ≡ not (outside limit x)
+outside-other limit x n = rw (ne-eqb x 0 n) (⊎-elim (λ t. rw (le-ltb limit x (leb-true x limit t)) t) (λ t. rw (lt-ltb limit x (leb-false x limit t)) t) (test (leb x limit)))

@@ -29,7 +29,6 @@ Sum (x ∷ xs) = x + Sum xs
 -- the tests and the types
 
 pub same-true : (xs ys : List ℕ) → same xs ys ≡ true → xs ≡ ys
-
 unfolding same
 same-true [] [] h = refl
 same-true [] (y ∷ ys) h = absurd (false≢true h)
@@ -37,7 +36,6 @@ same-true (x ∷ xs) [] h = absurd (false≢true h)
 same-true (x ∷ xs) (y ∷ ys) h = let p = eqb-true x y (and-left (eqb x y) (same xs ys) h) in let q = same-true xs ys (and-right (eqb x y) (same xs ys) h) in cc
 
 pub same-refl : (xs : List ℕ) → same xs xs ≡ true
-
 unfolding same
 same-refl [] = refl
 same-refl (x ∷ xs) = and-both (eq-eqb x x refl) (same-refl xs)
@@ -46,21 +44,18 @@ pub same-eq : {xs ys : List ℕ} → xs ≡ ys → same xs ys ≡ true
 same-eq {xs} e = rw (← e) (same-refl xs)
 
 pub at-most-true : (xs ys : List ℕ) → atMost xs ys ≡ true → AtMost xs ys
-
 unfolding atMost
 at-most-true [] ys h = tt
 at-most-true (x ∷ xs) [] h = tt
 at-most-true (x ∷ xs) (y ∷ ys) h = (leb-true x y (and-left (leb x y) (atMost xs ys) h), at-most-true xs ys (and-right (leb x y) (atMost xs ys) h))
 
 pub at-most-test : (xs ys : List ℕ) → AtMost xs ys → atMost xs ys ≡ true
-
 unfolding atMost
 at-most-test [] ys h = refl
 at-most-test (x ∷ xs) [] h = refl
 at-most-test (x ∷ xs) (y ∷ ys) h = and-both (le-leb x y (h .0)) (at-most-test xs ys (h .1))
 
 pub earlier-true : (xs ys : List ℕ) → earlier xs ys ≡ true → Earlier xs ys
-
 unfolding earlier
 earlier-true [] ys h = absurd (false≢true h)
 earlier-true (x ∷ xs) [] h = absurd (false≢true h)
@@ -68,7 +63,6 @@ earlier-true (x ∷ xs) (y ∷ ys) h =
     ⊎-elim (λ p. inl (ltb-true x y p)) (λ p. inr (eqb-true x y (and-left (eqb x y) (earlier xs ys) p), earlier-true xs ys (and-right (eqb x y) (earlier xs ys) p))) (or-cases (ltb x y) (eqb x y && earlier xs ys) h)
 
 pub earlier-test : (xs ys : List ℕ) → Earlier xs ys → earlier xs ys ≡ true
-
 unfolding earlier
 earlier-test [] ys h = absurd h
 earlier-test (x ∷ xs) [] h = absurd h

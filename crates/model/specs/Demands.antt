@@ -1,17 +1,19 @@
--- The three demands as statements over the definitions; proofs/Demands.antt proves each.
+-- The three demands and the laws of the bound, as statements over the definitions; proofs/Demands.antt proves each.
 use mathlib.Core.Path.{_≡_}
 use mathlib.Core.Bool.{true}
-use mathlib.Core.List.{List, List·Memᴰ as In}
+use mathlib.Core.List.{List, _++_, List·Memᴰ as In}
 use Prim.Native.Nat.{ℕ, _≤_, _<_}
 use lib.ListN.{length}
 use Rattle.model.specs.Basics.{All}
 use Rattle.model.specs.Limits.{maxPoints, workNeed, sumEnd}
-use Rattle.model.specs.Refusals.{accepted}
-use Rattle.model.specs.Problems.{Problem, Word, AllInRange, RecordRules}
+use Rattle.model.specs.Refusals.{leftover, accepted}
+use Rattle.model.specs.Problems.{Table, Problem, scopeOk, Word, AllInRange, RecordRules}
 use Rattle.model.specs.Encoding.{Byte, encode, WellFormed}
 use Rattle.model.specs.Reading.{verdictOf, problemOf}
-use Rattle.model.specs.Costs.{costOf, total}
+use Rattle.model.specs.Vectors.{atMost}
+use Rattle.model.specs.Costs.{isChoice, costOf, total, costsOf}
 use Rattle.model.specs.Frontiers.{Point, frontier, Is-frontier}
+use Rattle.model.specs.Bounds.{prefixOk, agrees, leastOf, boundOf}
 use Rattle.model.specs.Cuts.{sidesOk, linkedVerdict, uncrossed, cutList, halfSize, exchanged}
 use Rattle.model.specs.Calls.{roomOf, solveOutcome, cutOutcome}
 
@@ -22,12 +24,17 @@ pub record Answerable (q : Problem) (work : List ℕ) (room : ℕ) : Type 0 wher
   pub fits : length (frontier q) ≤ room
 
 pub record Demand-1 : Type 0 where
-  -- reading and encoding are inverse to each other
+  -- reading and encoding are inverse to each other, between these problems and the byte strings that are not refused
+  pub bytes : (q : Problem) → WellFormed q → All Byte (encode q)
   pub encoded : (q : Problem) → WellFormed q → (verdictOf (encode q) ≡ accepted) × (problemOf (encode q) ≡ q)
   pub decoded : (s : List ℕ) → All Byte s → verdictOf s .number ≡ 0 → WellFormed (problemOf s) × (encode (problemOf s) ≡ s)
+  -- what is refused has one number of 1 to 11, and a place in the bytes or at their end
+  pub refused : (s : List ℕ) → (verdictOf s .number ≤ leftover) × (verdictOf s .place ≤ length s)
   -- the plain call
   pub answered : (q : Problem) (costs choices work : List ℕ) → Answerable q work (roomOf q costs choices) → solveOutcome (encode q) costs choices work .verdict ≡ accepted
   pub nothing-else : (s costs choices work : List ℕ) → All Byte s → solveOutcome s costs choices work .verdict .number ≡ 0 → Answerable (problemOf s) work (roomOf (problemOf s) costs choices) × (encode (problemOf s) ≡ s)
+  -- it depends on the buffers' lengths alone
+  pub contents-free : (s c c′ x x′ w w′ : List ℕ) → length c ≡ length c′ → length x ≡ length x′ → length w ≡ length w′ → (solveOutcome s c x w .verdict ≡ solveOutcome s c′ x′ w′ .verdict) × (solveOutcome s c x w .count ≡ solveOutcome s c′ x′ w′ .count)
 
 -- Demand 2: the list is the efficient frontier, in rising order, each vector once, with the earliest choice.
 pub record Demand-2 : Type 0 where
@@ -60,3 +67,13 @@ pub record Demand-3 : Type 0 where
   pub nothing-else : (s sides costs choices work : List ℕ) → cutOutcome s sides costs choices work .verdict .number ≡ 0 → Cuttable s sides work (roomOf (problemOf s) costs choices)
   -- what it lists is what the plain call lists
   pub as-uncut : (s sides costs choices work : List ℕ) → Cuttable s sides work (roomOf (problemOf s) costs choices) → (cutOutcome s sides costs choices work .costs ≡ solveOutcome s costs choices work .costs) × (cutOutcome s sides costs choices work .choices ≡ solveOutcome s costs choices work .choices) × (cutOutcome s sides costs choices work .count ≡ solveOutcome s costs choices work .count)
+
+-- The bound: never above a completion's cost, the least entry of each table that some completion has, the cost itself at a
+-- complete prefix, and never less for a longer prefix.
+pub record Bound-laws : Type 0 where
+  pub below : (q : Problem) (prefix x : List ℕ) → isChoice (q .domains) x ≡ true → agrees prefix x ≡ true → atMost (boundOf q prefix) (costsOf q x) ≡ true
+  pub least : (ds prefix x : List ℕ) (t : Table) → isChoice ds x ≡ true → agrees prefix x ≡ true → leastOf ds prefix t ≤ costOf ds x t
+  pub reached : (ds prefix : List ℕ) (t : Table) → All (λ d. 1 ≤ d) ds → prefixOk ds prefix ≡ true → scopeOk (length ds) 0 (t .scope) ≡ true → (x : List ℕ) × (isChoice ds x ≡ true) × (agrees prefix x ≡ true) × (leastOf ds prefix t ≡ costOf ds x t)
+  pub whole : (q : Problem) (x : List ℕ) → isChoice (q .domains) x ≡ true → boundOf q x ≡ costsOf q x
+  pub grows : (q : Problem) (prefix more : List ℕ) → prefixOk (q .domains) (prefix ++ more) ≡ true → atMost (boundOf q prefix) (boundOf q (prefix ++ more)) ≡ true
+  pub width : (q : Problem) (prefix : List ℕ) → length (boundOf q prefix) ≡ q .objectives
