@@ -1,16 +1,18 @@
 -- Sums over an objective's records, each by a function of the record: costs and bounds are two of them.
-use mathlib.Core.Path.{_≡_, refl, ap}
+use mathlib.Core.Path.{_≡_, refl, ap, ap₂}
 use mathlib.Core.Bool.{Bool, true, false}
-use mathlib.Core.List.{List, [], _∷_}
-use Prim.Native.Nat.{ℕ, zero, suc, _+_, _*_, _≤_, _<_}
+use mathlib.Core.List.{List, [], _∷_, _++_}
+use Prim.Native.Nat.{ℕ, zero, suc, _+_, _-_, _*_, _≤_, _<_}
 use native.Mathlib.Omega.{arith}
-use native.Mathlib.Nat.{suc-mul}
+use native.Mathlib.Nat.{suc-mul, sub-zero, suc-sub-suc}
 use lib.Dec.{eqb}
-use lib.ListN.{length}
+use lib.ListN.{length, replicate}
+use borrow.Author.Tests.{ne-eqb}
 use Rattle.model.specs.Basics.{when, All}
 use Rattle.model.specs.Problems.{Table, Problem}
 use Rattle.model.specs.Costs.{total, totalsFrom, totals}
 use Rattle.model.proofs.Bits.{pick-both}
+use Rattle.model.proofs.Elements.{all-map}
 use Rattle.model.proofs.Vectors.{AtMost}
 
 when-grows : (b : Bool) {m n : ℕ} → m ≤ n → when b m ≤ when b n
@@ -47,3 +49,22 @@ total-limit o w f [] h = omega arith
 total-limit o w f (t ∷ ts) h =
     let one : when (eqb (t .objective) o) (f t) < w = pick-both (λ n. n < w) (eqb (t .objective) o) (h .0) (omega (arith, h .0)) in
     omega (arith, suc-mul (length ts) w, total-limit o w f ts (h .1))
+
+-- the objectives past the last one that records have are 0
+total-none : (o : ℕ) (f : Table → ℕ) (ts : List Table) → All (λ t. t .objective < o) ts → total o f ts ≡ 0
+unfolding total
+total-none o f [] h = refl
+total-none o f (t ∷ ts) h = rw (ne-eqb (t .objective) o (λ e. omega (arith, h .0)), total-none o f ts (h .1)) refl
+
+totals-none : (n o : ℕ) (f : Table → ℕ) (ts : List Table) → All (λ t. t .objective < o) ts → totalsFrom n o f ts ≡ replicate n 0
+unfolding totalsFrom
+totals-none zero o f ts h = refl
+totals-none (suc n) o f ts h = ap₂ _∷_ (total-none o f ts h) (totals-none n (suc o) f ts (all-map (λ t. t .objective < o) (λ t. t .objective < suc o) (λ t l. omega arith) ts h))
+
+pub totals-padded : (p n o : ℕ) (f : Table → ℕ) (ts : List Table) → p ≤ n → All (λ t. t .objective < o + p) ts → totalsFrom n o f ts ≡ totalsFrom p o f ts ++ replicate (n - p) 0
+unfolding totalsFrom
+totals-padded zero n o f ts l h = rw sub-zero (totals-none n o f ts (all-map (λ t. t .objective < o + 0) (λ t. t .objective < o) (λ t k. omega arith) ts h))
+totals-padded (suc p) zero o f ts l h = absurd (omega arith)
+totals-padded (suc p) (suc n) o f ts l h =
+    rw suc-sub-suc
+    (ap (_∷_ (total o f ts)) (totals-padded p n (suc o) f ts (omega arith) (all-map (λ t. t .objective < o + suc p) (λ t. t .objective < suc o + p) (λ t k. omega arith) ts h)))
