@@ -2,13 +2,10 @@
 use mathlib.Core.Path.{_≡_, subst}
 use mathlib.Core.Logic.{inl, inr, ⊎-elim}
 use Rattle.model.specs.Frontiers.{Point}
+use Rattle.model.specs.Search.{Held, nothing, just}
 use Rattle.model.proofs.Best.{Pool}
 use Rattle.model.proofs.Passes.{NotAfter, not-after-refl, Least}
 use Rattle.model.proofs.Tree.{Choices, Either, Same}
-
-pub data Held : Type 0 where
-  nothing : Held
-  just : Point → Held
 
 -- what the one held makes superfluous
 abbrev pub Beyond : Held → Point → Type 0

@@ -1,13 +1,14 @@
 -- Making the best points of a pool one by one: each pass adds the least point that the list does not match yet.
 use mathlib.Core.Path.{_≡_, refl, sym, _∙_, subst}
 use mathlib.Core.Logic.{_⊎_, inl, inr, ⊎-elim}
-use mathlib.Core.Bool.{Bool, true, false, _||_}
+use mathlib.Core.Bool.{true, false}
 use mathlib.Core.List.{List, [], _∷_, _++_, List·Memᴰ as In, List·Memᴰ·head as here, List·Memᴰ·tail as there, List·Memᴰ·not-nil as in-none, List·Memᴰ·cases-cons as in-cases, List·Memᴰ·append-cases as in-append, List·Memᴰ·eq-of-singleton as in-one, Memᴰ·append-left as in-left, Memᴰ·append-right as in-right}
 use Prim.Native.Nat.{ℕ, _≤_}
 use lib.ListN.{length}
 use Rattle.model.specs.Problems.{Problem}
 use Rattle.model.specs.Vectors.{atMost, same}
 use Rattle.model.specs.Frontiers.{Point, frontier, Reached}
+use Rattle.model.specs.Search.{matched}
 use Rattle.model.proofs.Bits.{test, true-false, or-cases, or-left, or-right}
 use Rattle.model.proofs.Vectors.{AtMost, Earlier, NotLater, same-true, same-eq, earlier-irrefl, earlier-trans, at-most-true, at-most-test, at-most-trans, at-most-refl, at-most-earlier}
 use Rattle.model.proofs.Points.{Rising}
@@ -36,11 +37,6 @@ Unmatched P ps r = P r × (Matched ps r → ⊥)
 pub record Least (C : Pool) (x : Point) : Type 0 where
   pub inside : C x
   pub least : (r : Point) → C r → NotAfter x r
-
--- the test whether a list matches a vector
-unfoldable pub matched : List ℕ → List Point → Bool
-matched c [] = false
-matched c (p ∷ ps) = atMost (p .costs) c || matched c ps
 
 pub matched-in : (r : Point) (ps : List Point) → matched (r .costs) ps ≡ true → Matched ps r
 unfolding matched

@@ -1,7 +1,7 @@
 -- The bound is a sound rule: a branch may be left unopened, where its bound is over a ceiling, or matched, or not earlier than the costs held.
 use mathlib.Core.Path.{_≡_, refl, sym, _∙_, subst}
 use mathlib.Core.Logic.{inl, inr, ⊎-elim}
-use mathlib.Core.Bool.{Bool, true, false, _||_, not}
+use mathlib.Core.Bool.{true, false, _||_, not}
 use mathlib.Core.List.{List, []}
 use Prim.Native.Nat.{ℕ}
 use lib.ListN.{length}
@@ -11,29 +11,21 @@ use Rattle.model.specs.Vectors.{under, same, earlier}
 use Rattle.model.specs.Costs.{costsOf}
 use Rattle.model.specs.Frontiers.{consistent, Point, point, Reached}
 use Rattle.model.specs.Bounds.{boundOf}
+use Rattle.model.specs.Search.{Held, nothing, just, matched, late, dead, passes, solved}
 use Rattle.model.proofs.Bits.{test, true-false, or-cases}
 use Rattle.model.proofs.Vectors.{AtMost, Earlier, NotLater, same-eq, same-true, not-earlier, not-later-trans, at-most-trans, at-most-earlier}
 use Rattle.model.proofs.Sums.{under-mono}
 use Rattle.model.proofs.Frontier.{reached-width}
-use Rattle.model.proofs.Passes.{NotAfter, matched, matched-in, Prefix}
+use Rattle.model.proofs.Passes.{NotAfter, matched-in, Prefix}
 use Rattle.model.proofs.Tree.{From, Completes, completes-agrees, earlier-completes}
-use Rattle.model.proofs.Held.{Held, nothing, just, Beyond}
-use Rattle.model.proofs.Search.{Left, Before, Sound, passes, solved, search-right}
+use Rattle.model.proofs.Held.{Beyond}
+use Rattle.model.proofs.Search.{Left, Before, Sound, search-right}
 use Rattle.model.proofs.Bounded.{bound-length, bound-at-most}
 
 -- a vector for each prefix that no choice that goes on from there undercuts
 pub record Lower (q : Problem) (low : List ℕ → List ℕ) : Type 0 where
   pub width : (pre : List ℕ) → length (low pre) ≡ q .objectives
   pub below : (pre y : List ℕ) → From (q .domains) pre y → AtMost (low pre) (costsOf q y)
-
--- not earlier than the costs held
-abbrev pub late : Held → List ℕ → Bool
-late nothing b = false
-late (just x) b = not (earlier b (x .costs))
-
--- over a ceiling, or matched by the list, or late
-abbrev pub dead : Problem → List Point → Held → List ℕ → Bool
-dead q ps h b = not (under b (q .ceilings)) || (matched b ps || late h b)
 
 at-most-not-later : (b c : List ℕ) → length b ≡ length c → AtMost b c → NotLater b c
 at-most-not-later b c e a = ⊎-elim (λ s. inl (same-true b c s)) (λ s. inr (at-most-earlier b c e a (λ d. true-false (same-eq d) s))) (test (same b c))
@@ -53,6 +45,7 @@ module _ (q : Problem) (ps : List Point) (f : Prefix (Reached q) ps) (b : List �
       u .1 (p, i, at-most-trans (p .costs) b (r .costs) (reached-width q p (f .listed .sound p i) ∙ sym wide) a low)
 
   late-beyond : (h : Held) → late h b ≡ true → ((x : Point) → h ≡ just x → (length (x .costs) ≡ q .objectives) × Earlier (x .choice) (r .choice)) → Beyond h r
+  unfolding late
   late-beyond nothing t e = true-false t refl
   late-beyond (just x) t e = go (not-later-trans (x .costs) b (r .costs) (not-earlier b (x .costs) (wide ∙ sym (e x refl .0)) (not-true (earlier b (x .costs)) t)) (at-most-not-later b (r .costs) same-width low))
     where
@@ -61,6 +54,7 @@ module _ (q : Problem) (ps : List Point) (f : Prefix (Reached q) ps) (b : List �
       go (inr k) = inl k
 
   dead-beyond : (h : Held) → dead q ps h b ≡ true → ((x : Point) → h ≡ just x → (length (x .costs) ≡ q .objectives) × Earlier (x .choice) (r .choice)) → Beyond h r
+  unfolding dead
   dead-beyond h d e =
       ⊎-elim
       (λ t. absurd (over-none (not-true (under b (q .ceilings)) t)))
@@ -85,5 +79,5 @@ pub bound-lower : (q : Problem) → Lower q (boundOf q)
 bound-lower q = record { width = bound-length q; below = λ pre y t. bound-at-most q pre y (t .0) (completes-agrees pre y (t .1)) }
 
 -- branch and bound gives the frontier, or finds it longer than the room
-pub bounded-search-right : (q : Problem) (room : ℕ) → passes q (λ ps pre h. dead q ps h (boundOf q pre)) room [] ≡ solved q room
+pub bounded-search-right : (q : Problem) (room : ℕ) → passes room q (λ ps pre h. dead q ps h (boundOf q pre)) [] ≡ solved q room
 bounded-search-right q room = search-right q (λ ps pre h. dead q ps h (boundOf q pre)) (lower-sound q (boundOf q) (bound-lower q)) room

@@ -1,12 +1,10 @@
--- The method as a function: passes, each a search of the tree in order, with any sound rule to leave branches unopened.
--- It gives the frontier list, or finds it longer than the room.
+-- The method gives the frontier list, or finds it longer than the room, with any sound rule to leave branches unopened.
 use mathlib.Core.Path.{_≡_, refl, ap, sym, _∙_, subst}
 use mathlib.Core.Logic.{inl, inr, ⊎-elim}
-use mathlib.Core.Bool.{Bool, true, false, _&&_, not}
+use mathlib.Core.Bool.{Bool, true, false, not}
 use mathlib.Core.List.{List, [], _∷_, _++_}
 use Prim.Native.Nat.{ℕ, zero, suc, _+_, _≤_, _<_}
 use native.Mathlib.Omega.{arith}
-use lib.Dec.{leb}
 use lib.ListN.{length, getD, length-append}
 use borrow.Author.Tests.{lt-ltb, not-true, le-leb, lt-leb}
 use Rattle.model.specs.Basics.{pick}
@@ -14,14 +12,15 @@ use Rattle.model.specs.Problems.{Problem}
 use Rattle.model.specs.Vectors.{earlier}
 use Rattle.model.specs.Costs.{isChoice, costsOf}
 use Rattle.model.specs.Frontiers.{consistent, Point, point, frontier, Reached}
+use Rattle.model.specs.Search.{Held, nothing, just, matched, isLeft, better, met, tries, opens, pass, done, full, passes, solved}
 use Rattle.model.proofs.Bits.{true-false, and-left, and-right, and-both}
 use Rattle.model.proofs.Vectors.{Earlier, earlier-true, earlier-trans, not-earlier}
 use Rattle.model.proofs.Points.{point-eq}
 use Rattle.model.proofs.Frontier.{costs-width, reached-width, reached-choice}
 use Rattle.model.proofs.Best.{Matched}
-use Rattle.model.proofs.Passes.{NotAfter, Unmatched, matched, matched-in, unmatched-false, Prefix, prefix-none, next-point, none-left, found-count}
+use Rattle.model.proofs.Passes.{NotAfter, Unmatched, matched-in, unmatched-false, Prefix, prefix-none, next-point, none-left, found-count}
 use Rattle.model.proofs.Tree.{Passed, From, Through, completes-refl, opened, tried, closed, leaf, start}
-use Rattle.model.proofs.Held.{Held, nothing, just, Beyond, Seen, Holds, holds-same, holds-skip, holds-take}
+use Rattle.model.proofs.Held.{Beyond, Seen, Holds, holds-same, holds-skip, holds-take}
 
 -- a prefix of a choice of ds, which leaves the domains `rest`
 abbrev Partial : List ℕ → List ℕ → List ℕ → Type 0
@@ -69,28 +68,18 @@ module _ (q : Problem) (ps : List Point) where
   skip-holds : (pre : List ℕ) (h : Held) → Hopeless pre h → Before pre h → After pre h
   skip-holds pre h b k = holds-skip Left (Passed (q .domains) pre) (From (q .domains) pre) h b k
 
-  -- a complete choice is met: it is held if it is left, and has earlier costs than the one held
-  pub leftTest : List ℕ → Bool
-  leftTest x = consistent q x && not (matched (costsOf q x) ps)
-
-  pub better : Point → Held → Held
-  better x nothing = just x
-  better x (just w) = pick (earlier (x .costs) (w .costs)) (just x) (just w)
-
-  pub met : List ℕ → Held → Held
-  met x h = pick (leftTest x) (better (at x) h) h
-
+  -- a complete choice is met
   module _ (x : List ℕ) (c : isChoice (q .domains) x ≡ true) where
-    left-true : leftTest x ≡ true → Left (at x)
-    unfolding leftTest
+    left-true : isLeft q ps x ≡ true → Left (at x)
+    unfolding isLeft
     left-true h = (reached-choice q x c (and-left (consistent q x) _ h), unmatched-false (at x) ps (not-true (matched (costsOf q x) ps) (and-right (consistent q x) _ h)))
 
     -- what goes on from x is x
     only : (r : Point) → Seen Left (From (q .domains) x) r → at x ≡ r
     only r s = let e : x ≡ r .choice = leaf (q .domains) x (r .choice) c (s .1) in point-eq (ap (costsOf q) e ∙ sym (s .0 .0 .exact)) e
 
-    left-false : leftTest x ≡ false → (h : Held) → Hopeless x h
-    unfolding leftTest
+    left-false : isLeft q ps x ≡ false → (h : Held) → Hopeless x h
+    unfolding isLeft
     left-false f h r s =
         let e : at x ≡ r = only r s in
         let u : Left (at x) = subst Left (sym e) (s .0) in
@@ -121,24 +110,16 @@ module _ (q : Problem) (ps : List Point) where
         go true e = take-holds u (λ r s. ahead w r (earlier-true (costsOf q x) (w .costs) e) (k .least r s))
         go false e = skip-holds x (just w) (λ r s. subst (NotAfter w) (only r s) (kept w e (k .inside .0) (k .inside .1 .1))) k
 
-    met-holds : (h : Held) → Before x h → After x (met x h)
+    met-holds : (h : Held) → Before x h → After x (met q ps x h)
     unfolding met
-    met-holds h k = go (leftTest x) refl
+    met-holds h k = go (isLeft q ps x) refl
       where
-        go : (b : Bool) → leftTest x ≡ b → After x (pick b (better (at x) h) h)
+        go : (b : Bool) → isLeft q ps x ≡ b → After x (pick b (better (at x) h) h)
         go true e = better-holds h (left-true e) k
         go false e = skip-holds x h (left-false e h) k
 
-  -- the search below a prefix: opening a variable tries its values, and trying a value opens the next variable
+  -- the search below a prefix
   module _ (skip : List ℕ → Held → Bool) where
-    pub tries : ℕ → ℕ → (ℕ → Held → Held) → Held → Held
-    tries zero v f h = h
-    tries (suc n) v f h = tries n (suc v) f (f v h)
-
-    pub opens : List ℕ → List ℕ → Held → Held
-    opens [] pre h = met pre h
-    opens (d ∷ rest) pre h = pick (skip pre h) h (tries d 0 (λ v g. opens rest (pre ++ (v ∷ [])) g) h)
-
     module _ (sound : (pre : List ℕ) (h : Held) → skip pre h ≡ true → Before pre h → Hopeless pre h) where
       tries-hold : (pre : List ℕ) (f : ℕ → Held → Held) (d : ℕ) → ((v : ℕ) → v < d → (h : Held) → Before (pre ++ (v ∷ [])) h → After (pre ++ (v ∷ [])) (f v h)) → (n v : ℕ) → n + v ≡ d → (h : Held) → Before (pre ++ (v ∷ [])) h → Before (pre ++ (d ∷ [])) (tries n v f h)
       unfolding tries
@@ -153,18 +134,18 @@ module _ (q : Problem) (ps : List Point) where
           let ended : Before (pre ++ (d ∷ [])) (tries d 0 f h) = tries-hold pre f d step d 0 (omega arith) h begun in
           holds-same Left (Passed ds (pre ++ (getD ds (length pre) 0 ∷ []))) (Through ds pre) (tries d 0 f h) (closed ds pre l) (subst (λ (w : ℕ). Before (pre ++ (w ∷ [])) (tries d 0 f h)) (sym e) ended)
 
-      opens-hold : (rest pre : List ℕ) → Partial (q .domains) pre rest → (h : Held) → Before pre h → After pre (opens rest pre h)
+      opens-hold : (rest pre : List ℕ) → Partial (q .domains) pre rest → (h : Held) → Before pre h → After pre (opens q ps skip rest pre h)
       unfolding opens
       opens-hold [] pre p h k = met-holds pre (partial-whole (q .domains) pre p) h k
       opens-hold (d ∷ rest) pre p h k =
           let next = partial-next (q .domains) pre d rest p in
-          go (skip pre h) refl (variable-holds pre d (λ v g. opens rest (pre ++ (v ∷ [])) g) (next .0) (next .1) (λ v l g. opens-hold rest (pre ++ (v ∷ [])) (partial-more (q .domains) pre d rest v l p) g) h k)
+          go (skip pre h) refl (variable-holds pre d (λ v g. opens q ps skip rest (pre ++ (v ∷ [])) g) (next .0) (next .1) (λ v l g. opens-hold rest (pre ++ (v ∷ [])) (partial-more (q .domains) pre d rest v l p) g) h k)
         where
-          go : (b : Bool) → skip pre h ≡ b → After pre (tries d 0 (λ v g. opens rest (pre ++ (v ∷ [])) g) h) → After pre (pick b h (tries d 0 (λ v g. opens rest (pre ++ (v ∷ [])) g) h))
+          go : (b : Bool) → skip pre h ≡ b → After pre (tries d 0 (λ v g. opens q ps skip rest (pre ++ (v ∷ [])) g) h) → After pre (pick b h (tries d 0 (λ v g. opens q ps skip rest (pre ++ (v ∷ [])) g) h))
           go true e r = skip-holds pre h (sound pre h e k) k
           go false e r = r
 
-      pub search-holds : After [] (opens (q .domains) [] nothing)
+      pub search-holds : After [] (opens q ps skip (q .domains) [] nothing)
       search-holds = opens-hold (q .domains) [] refl nothing (λ r s. start (q .domains) (r .choice) (s .1))
 
   -- the end of a pass: all that is left has been seen
@@ -177,30 +158,13 @@ module _ (q : Problem) (ps : List Point) where
   pass-some : (x : Point) → Prefix (Reached q) ps → After [] (just x) → Prefix (Reached q) (ps ++ (x ∷ []))
   pass-some x f k = next-point q ps f x (record { inside = k .inside .0; least = λ r u. k .least r (seen-all r u) })
 
--- the result of all passes
-pub data Result : Type 0 where
-  done : List Point → Result
-  full : Result
-
--- the frontier list, if it fits the room
-unfoldable pub solved : Problem → ℕ → Result
-solved q room = pick (leb (length (frontier q)) room) (done (frontier q)) full
-
 -- a rule to leave branches unopened is sound, if what it leaves is hopeless
 abbrev pub Sound : (q : Problem) → (List Point → List ℕ → Held → Bool) → Type 0
 Sound q skip = (ps : List Point) → Prefix (Reached q) ps → (pre : List ℕ) (h : Held) → skip ps pre h ≡ true → Before q ps pre h → Hopeless q ps pre h
 
 module _ (q : Problem) (skip : List Point → List ℕ → Held → Bool) where
-  abbrev pub searchAt : List Point → Held
-  searchAt ps = opens q ps (skip ps) (q .domains) [] nothing
-
-  -- at most n points more
-  pub passes : ℕ → List Point → Result
-  passes zero ps = elim (searchAt ps) [ nothing ↦ done ps | just x ↦ full ]
-  passes (suc n) ps = elim (searchAt ps) [ nothing ↦ done ps | just x ↦ passes n (ps ++ (x ∷ [])) ]
-
   module _ (sound : Sound q skip) where
-    held : (ps : List Point) → Prefix (Reached q) ps → After q ps [] (searchAt ps)
+    held : (ps : List Point) → Prefix (Reached q) ps → After q ps [] (pass q skip ps)
     held ps f = search-holds q ps (skip ps) (sound ps f)
 
     done-solved : (room : ℕ) (ps : List Point) → Prefix (Reached q) ps → length ps ≤ room → After q ps [] nothing → done ps ≡ solved q room
@@ -213,19 +177,19 @@ module _ (q : Problem) (skip : List Point → List ℕ → Held → Bool) where
     unfolding solved
     full-solved room ps f c = rw (lt-leb (length (frontier q)) room (omega (arith, found-count q ps f))) refl
 
-    passes-solve : (n room : ℕ) (ps : List Point) → Prefix (Reached q) ps → n + length ps ≡ room → passes n ps ≡ solved q room
+    passes-solve : (n room : ℕ) (ps : List Point) → Prefix (Reached q) ps → n + length ps ≡ room → passes n q skip ps ≡ solved q room
     unfolding passes
-    passes-solve zero room ps f c = go (searchAt ps) refl (held ps f)
+    passes-solve zero room ps f c = go (pass q skip ps) refl (held ps f)
       where
-        go : (h : Held) → searchAt ps ≡ h → After q ps [] h → passes zero ps ≡ solved q room
+        go : (h : Held) → pass q skip ps ≡ h → After q ps [] h → passes zero q skip ps ≡ solved q room
         go nothing e k = rw (e, passes) (done-solved room ps f (omega arith) k)
         go (just x) e k = rw (e, passes) (full-solved room (ps ++ (x ∷ [])) (pass-some q ps x f k) (omega (arith, length-append ps (x ∷ []))))
-    passes-solve (suc n) room ps f c = go (searchAt ps) refl (held ps f) (λ x k. passes-solve n room (ps ++ (x ∷ [])) (pass-some q ps x f k) (omega (arith, length-append ps (x ∷ []))))
+    passes-solve (suc n) room ps f c = go (pass q skip ps) refl (held ps f) (λ x k. passes-solve n room (ps ++ (x ∷ [])) (pass-some q ps x f k) (omega (arith, length-append ps (x ∷ []))))
       where
-        go : (h : Held) → searchAt ps ≡ h → After q ps [] h → ((x : Point) → After q ps [] (just x) → passes n (ps ++ (x ∷ [])) ≡ solved q room) → passes (suc n) ps ≡ solved q room
+        go : (h : Held) → pass q skip ps ≡ h → After q ps [] h → ((x : Point) → After q ps [] (just x) → passes n q skip (ps ++ (x ∷ [])) ≡ solved q room) → passes (suc n) q skip ps ≡ solved q room
         go nothing e k r = rw (e, passes) (done-solved room ps f (omega arith) k)
         go (just x) e k r = rw (e, passes) (r x k)
 
     -- a sound rule changes nothing: with room for any number of points, the frontier or the finding that it is longer
-    pub search-right : (room : ℕ) → passes room [] ≡ solved q room
+    pub search-right : (room : ℕ) → passes room q skip [] ≡ solved q room
     search-right room = passes-solve room room [] (prefix-none (Reached q)) (omega arith)

@@ -10,5 +10,6 @@ pub mod Costs
 pub mod Frontiers
 pub mod Bounds
 pub mod Cuts
+pub mod Search
 pub mod Calls
 pub mod Demands
