@@ -6,7 +6,7 @@ use Prim.Native.Nat.{ℕ, zero, suc, _+_, _*_, _≤_}
 use native.Mathlib.Omega.{arith}
 use lib.Dec.{eqb, ltb, leb}
 use lib.ListN.{length, drop, length-append, length-drop}
-use borrow.Author.Tests.{eqb-true, leb-true}
+use borrow.Author.Tests.{eqb-true, leb-true, ltb-false}
 use Rattle.model.specs.Basics.{pick, when, firstOf}
 use Rattle.model.specs.Limits.{maxBytes}
 use Rattle.model.specs.Refusals.{oversize, leftover, Verdict, verdict, accepted, refusedAt, first}
@@ -114,3 +114,15 @@ refused-place s = all-told s .1
 
 pub refused-number : (s : List ℕ) → verdictOf s .number ≤ leftover
 refused-number s = all-told s .0
+
+-- no place is past the limit of bytes: what is longer is refused at 0
+pub place-limit : (s : List ℕ) → verdictOf s .place ≤ maxBytes
+unfolding verdictOf
+place-limit s = go (ltb maxBytes (length s)) refl (refused-place s)
+  where
+    rest : Verdict
+    rest = first (refusedAt 0 (headNumber s)) (bodyVerdict s)
+
+    go : (t : Bool) → ltb maxBytes (length s) ≡ t → pick (ltb maxBytes (length s)) (verdict oversize 0) rest .place ≤ length s → pick (ltb maxBytes (length s)) (verdict oversize 0) rest .place ≤ maxBytes
+    go true e l = rw e (omega arith)
+    go false e l = omega (arith, l, ltb-false maxBytes (length s) e)

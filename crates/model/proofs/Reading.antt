@@ -2,7 +2,7 @@
 use mathlib.Core.Path.{_≡_, refl, sym}
 use mathlib.Core.Bool.{true}
 use mathlib.Core.List.{List, append-assoc}
-use Prim.Native.Nat.{ℕ, zero, suc, _+_, _≤_}
+use Prim.Native.Nat.{ℕ, zero, suc, _+_, _≤_, _<_}
 use lib.Dec.{ltb}
 use lib.ListN.{length, drop}
 use borrow.Author.Tests.{ltb-false}
@@ -60,6 +60,12 @@ unfolding problemOf tableOf
 accepted-scopes s h =
     let ds = domainsOf s in
     tables-every (headObjectives s) ds s (λ t. scopeOk (length ds) 0 (t .scope) ≡ true) (λ at n. table-good (headObjectives s) ds (drop at s) n .rising) (headTables s) (tablesStart s) (accepted-parts s h .tables)
+
+pub accepted-owners : (s : List ℕ) → verdictOf s .number ≡ 0 → All (λ t. t .objective < problemOf s .objectives) (problemOf s .tables)
+unfolding problemOf tableOf
+accepted-owners s h =
+    let ds = domainsOf s in
+    tables-every (headObjectives s) ds s (λ t. t .objective < headObjectives s) (λ at n. table-good (headObjectives s) ds (drop at s) n .owner) (headTables s) (tablesStart s) (accepted-parts s h .tables)
 
 pub accepted-rules : (s : List ℕ) → All Byte s → verdictOf s .number ≡ 0 → RecordRules (problemOf s)
 unfolding problemOf

@@ -1,0 +1,328 @@
+-- `costs::least_from` meets its contract. By recursion on the scope's variables, with a loop over the values of a free one.
+-- The invariant: the least so far is the least over the first x values. The measure is how many variables are left, of three at most.
+use mathlib.Core.Path.{_≡_}
+use mathlib.Core.Bool.{true}
+use mathlib.Core.List.{List, []}
+use Prim.Native.Nat.{ℕ, _+_, _-_, _*_, _≤_, _<_}
+use native.Mathlib.Omega.{arith}
+use native.Mathlib.Nat.{add-zero}
+use lib.ListN.{length, getD, drop}
+use lib.Seq.{getD-drop}
+use borrow.Fn.Kinds.{In}
+use borrow.Fn.PlainCycle.{Measures, is, falls, and}
+use denote.Ref.{now}
+use Rattle.model.specs.Basics.{All}
+use Rattle.model.specs.Limits.{maxArity}
+use Rattle.model.specs.Problems.{DomainSize}
+use Rattle.model.specs.Reading.{tableArity}
+use Rattle.model.specs.Bounds.{prefixOk, leastTo, leastFrom}
+use Rattle.problem.specs.Records.{Whole}
+use Rattle.model.proofs.Prefixes.{prefix-below}
+use Rattle.problem.proofs.WholeRecord.{whole-few, whole-long}
+use Rattle.costs.specs.Entries.{entryAt, scopeAt, entriesAt}
+use Rattle.costs.proofs.ScopeVariables.{scope-end, scope-next, variable-exists, variable-size}
+use Rattle.costs.proofs.Rooms.{Room, room-index, room-fits, room-next}
+use Rattle.costs.proofs.LeastSteps.{least-next, least-none, least-last, least-fixed, least-free}
+use Rattle.costs.proofs.least_from.Reads as least-from
+use Rattle.costs.proofs.least_from.Kinds as kinds
+use Rattle.costs.proofs.+least_from.Lts-least_from as lts
+use Rattle.costs.proofs.least_row.Reads as least-row-reads
+use Rattle.costs.proofs.lesser.Reads as lesser-reads
+use Rattle.costs.proofs.table_entry.Reads as table-entry-reads
+use Rattle.costs.proofs.+least_from.{statement}
+use Rattle.costs.proofs.+least_from.Tie.{close}
+
+abbrev μ-least-from : Measures 3 kinds.ps ℕ
+μ-least-from κs a = maxArity - a .1 .1 .0
+
+abbrev asked : ℕ → In 3 kinds.ps
+asked t = and 3 kinds.ps (is 3 kinds.ps μ-least-from t) least-from.Pre
+
+abbrev asked-below : ℕ → In 3 kinds.ps
+asked-below t = and 3 kinds.ps (falls 3 kinds.ps _<_ μ-least-from t) least-from.Pre
+
+abbrev calls : ℕ → lts.Claims
+calls t = (table-entry-reads.Asked, table-entry-reads.Learnt, asked-below t, least-from.Post, least-row-reads.Asked, least-row-reads.Learnt, lesser-reads.Asked, lesser-reads.Learnt)
+
+-- the least over the variables after number k, where it takes the value y of a domain of d
+abbrev after : List ℕ → ℕ → ℕ → ℕ → List ℕ → List ℕ → ℕ → ℕ → ℕ
+after s at k index sizes prefix d = λ y. leastFrom sizes prefix (entryAt sizes s at) (index * d + y) (drop (k + 1) (scopeAt s at))
+
+abbrev Inv-loop : lts.InvT-loop
+Inv-loop s at k index sizes prefix a v d least₀ x₀ least x = (1 ≤ x) × (x ≤ d) × (least ≡ leastTo (x - 1) (after s at k index sizes prefix d))
+
+abbrev μ-loop : lts.MeasureT-loop
+μ-loop s at k index sizes prefix a v d least₀ x₀ least x = d - x
+
+module _ (t : ℕ) where
+  -- ## what is known where the scope has a variable number k, of a domain of d values
+
+  abbrev Variable : Type 0
+  Variable = lts.Else1 (calls t) (asked t) least-from.Post Inv-loop μ-loop
+
+  abbrev Free : Type 0
+  Free = lts.Else2 (calls t) (asked t) least-from.Post Inv-loop μ-loop
+
+  abbrev Fixed : Type 0
+  Fixed = lts.Then2 (calls t) (asked t) least-from.Post Inv-loop μ-loop
+
+  abbrev start : Variable → lts.Start (calls t) (asked t) least-from.Post Inv-loop μ-loop
+  start c = c .before .before .before .before .before
+
+  abbrev domain : Variable → ℕ
+  domain c = let a = start c .args in getD (now (a .sizes)) (getD (now (a .s)) (a .at + 4 + a .k) 0) 0
+
+  abbrev rest : Variable → ℕ → ℕ
+  rest c = let a = start c .args in after (now (a .s)) (a .at) (a .k) (a .index) (now (a .sizes)) (now (a .prefix)) (domain c)
+
+  inside : (c : Variable) → let a = start c .args in a .k < getD (now (a .s)) (a .at + 3) 0
+  inside c =
+      let a = start c .args in
+      let q = start c .pre .1 in
+      let few : a .k ≤ getD (now (a .s)) (a .at + 3) 0 = rw getD-drop at (q .3) in
+      omega (arith, c .if1 .left)
+
+  short : (c : Variable) → start c .args .k < maxArity
+  short c =
+      let a = start c .args in
+      let q = start c .pre .1 in
+      omega (arith, inside c, whole-few (now (a .sizes)) (now (a .s)) (a .at) (q .0))
+
+  size : (c : Variable) → DomainSize (domain c)
+  size c =
+      let a = start c .args in
+      let q = start c .pre .1 in
+      variable-size (now (a .sizes)) (now (a .s)) (a .at) (q .0) (a .k) (inside c) (q .1)
+
+  room : (c : Variable) (x : ℕ) → x < domain c → let a = start c .args in Room (now (a .sizes)) (now (a .s)) (a .at) (a .k + 1) (a .index * domain c + x)
+  room c x l =
+      let a = start c .args in
+      let q = start c .pre .1 in
+      room-next (now (a .sizes)) (now (a .s)) (a .at) (q .0) (a .k) (a .index) (q .4) (inside c) x l
+
+  first : (c : Variable) → let a = start c .args in Room (now (a .sizes)) (now (a .s)) (a .at) (a .k + 1) (a .index * domain c)
+  first c = rw add-zero at (room c 0 (size c .0))
+
+  fits : (c : Variable) (x : ℕ) → x < domain c → let a = start c .args in a .index * domain c + x < length (now (a .s))
+  fits c x l =
+      let a = start c .args in
+      let q = start c .pre .1 in
+      room-fits (now (a .sizes)) (now (a .s)) (a .at) (q .0) (q .1) (a .k + 1) _ (room c x l)
+
+  row : (c : Variable) → let a = start c .args in a .index * domain c + domain c ≤ entriesAt (now (a .sizes)) (now (a .s)) (a .at)
+  row c =
+      let a = start c .args in
+      let q = start c .pre .1 in
+      let l : domain c - 1 < domain c = omega (arith, size c) in
+      omega (arith, size c, room-index (now (a .sizes)) (now (a .s)) (a .at) (q .0) (q .1) (a .k + 1) _ (room c (domain c - 1) l))
+
+  -- what a call for the next variable asks
+  again : (c : Variable) (i : ℕ) → let a = start c .args in Room (now (a .sizes)) (now (a .s)) (a .at) (a .k + 1) i → (maxArity - (a .k + 1) < t) × (Whole (now (a .sizes)) (now (a .s)) (a .at) × All DomainSize (now (a .sizes)) × (prefixOk (now (a .sizes)) (now (a .prefix)) ≡ true) × (a .k + 1 ≤ tableArity (drop (a .at) (now (a .s)))) × Room (now (a .sizes)) (now (a .s)) (a .at) (a .k + 1) i)
+  again c i next =
+      let q = start c .pre .1 in
+      (omega (arith, short c, start c .pre .0), (q .0, q .1, q .2, rw getD-drop (omega (arith, inside c)), next))
+
+  below : (c : Fixed) → let a = start (c .before .before .before) .args in getD (now (a .prefix)) (getD (now (a .s)) (a .at + 4 + a .k) 0) 0 < domain (c .before .before .before)
+  below c =
+      let a = start (c .before .before .before) .args in
+      let q = start (c .before .before .before) .pre .1 in
+      prefix-below (now (a .sizes)) (now (a .prefix)) (q .2) _ (c .if2 .taken)
+
+  free : (c : Free) (r : ℕ) → r ≡ leastTo (domain (c .before .before .before) - 1) (rest (c .before .before .before)) → let a = start (c .before .before .before) .args in r ≡ leastFrom (now (a .sizes)) (now (a .prefix)) (entryAt (now (a .sizes)) (now (a .s)) (a .at)) (a .index) (drop (a .k) (scopeAt (now (a .s)) (a .at)))
+  free c r e =
+      let a = start (c .before .before .before) .args in
+      let q = start (c .before .before .before) .pre .1 in
+      rw (scope-next (now (a .sizes)) (now (a .s)) (a .at) (q .0) (a .k) (inside (c .before .before .before)), least-free (now (a .sizes)) (now (a .prefix)) (entryAt (now (a .sizes)) (now (a .s)) (a .at)) (a .index) _ (drop (a .k + 1) (scopeAt (now (a .s)) (a .at))) (c .if2 .left)) e
+
+  -- ## the needs, in the order of the code
+
+  add-a : lts.Need-add-a (calls t) (asked t) least-from.Post Inv-loop μ-loop
+  add-a c =
+      let a = c .before .before .before .args in
+      let q = c .before .before .before .pre .1 in
+      omega (arith, whole-long (now (a .sizes)) (now (a .s)) (a .at) (q .0))
+
+  shared-slice-read-a : lts.Need-shared-slice-read-a (calls t) (asked t) least-from.Post Inv-loop μ-loop
+  shared-slice-read-a c =
+      let a = c .before .before .before .before .args in
+      let q = c .before .before .before .before .pre .1 in
+      omega (arith, whole-long (now (a .sizes)) (now (a .s)) (a .at) (q .0))
+
+  cast-a : lts.Need-cast-a (calls t) (asked t) least-from.Post Inv-loop μ-loop
+  cast-a c = omega (arith, c .shared-slice-known4 .given (c .before .before .before .before .args .at + 3))
+
+  table-entry-requires : lts.Need-table-entry-requires (calls t) (asked t) least-from.Post Inv-loop μ-loop
+  table-entry-requires c κs =
+      let a = c .before .before .before .before .before .args in
+      let q = c .before .before .before .before .before .pre .1 in
+      (q .0, room-index (now (a .sizes)) (now (a .s)) (a .at) (q .0) (q .1) (a .k) (a .index) (q .4))
+
+  returns : lts.Need-returns (calls t) (asked t) least-from.Post Inv-loop μ-loop
+  returns c =
+      let a = c .before .before .before .before .before .before .args in
+      let q = c .before .before .before .before .before .before .pre .1 in
+      rw (c .before .if1 .taken, scope-end (now (a .sizes)) (now (a .s)) (a .at) (q .0), least-none) (c .table-entry .ensures)
+
+  add-v : lts.Need-add-v (calls t) (asked t) least-from.Post Inv-loop μ-loop
+  add-v c =
+      let a = c .before .before .before .before .before .args in
+      let q = c .before .before .before .before .before .pre .1 in
+      omega (arith, whole-long (now (a .sizes)) (now (a .s)) (a .at) (q .0), inside c)
+
+  add-v-2 : lts.Need-add-v-2 (calls t) (asked t) least-from.Post Inv-loop μ-loop
+  add-v-2 c =
+      let a = c .before .before .before .before .before .args in
+      let q = c .before .before .before .before .before .pre .1 in
+      omega (arith, whole-long (now (a .sizes)) (now (a .s)) (a .at) (q .0), inside c)
+
+  shared-slice-read-v : lts.Need-shared-slice-read-v (calls t) (asked t) least-from.Post Inv-loop μ-loop
+  shared-slice-read-v c =
+      let a = c .before .before .before .before .before .before .args in
+      let q = c .before .before .before .before .before .before .pre .1 in
+      omega (arith, whole-long (now (a .sizes)) (now (a .s)) (a .at) (q .0), inside (c .before))
+
+  cast-v : lts.Need-cast-v (calls t) (asked t) least-from.Post Inv-loop μ-loop
+  cast-v c =
+      let a = c .before .before .before .before .before .before .args in
+      omega (arith, c .shared-slice-known5 .given (a .at + 4 + a .k))
+
+  shared-slice-read-d : lts.Need-shared-slice-read-d (calls t) (asked t) least-from.Post Inv-loop μ-loop
+  shared-slice-read-d c =
+      let a = c .before .before .before .before .before .before .before .args in
+      let q = c .before .before .before .before .before .before .before .pre .1 in
+      variable-exists (now (a .sizes)) (now (a .s)) (a .at) (q .0) (a .k) (inside (c .before .before))
+
+  cast-d : lts.Need-cast-d (calls t) (asked t) least-from.Post Inv-loop μ-loop
+  cast-d c = omega (arith, size (c .before .before))
+
+  add-least-from : lts.Need-add-least-from (calls t) (asked t) least-from.Post Inv-loop μ-loop
+  add-least-from c = omega (arith, short (c .before .before .before))
+
+  mul-least-from : lts.Need-mul-least-from (calls t) (asked t) least-from.Post Inv-loop μ-loop
+  mul-least-from c = omega (arith, fits (c .before .before .before) _ (below c))
+
+  shared-slice-read-least-from : lts.Need-shared-slice-read-least-from (calls t) (asked t) least-from.Post Inv-loop μ-loop
+  shared-slice-read-least-from c = omega (arith, c .before .if2 .taken)
+
+  cast-least-from : lts.Need-cast-least-from (calls t) (asked t) least-from.Post Inv-loop μ-loop
+  cast-least-from c = omega (arith, below (c .before), size (c .before .before .before .before))
+
+  add-least-from-2 : lts.Need-add-least-from-2 (calls t) (asked t) least-from.Post Inv-loop μ-loop
+  add-least-from-2 c = omega (arith, fits (c .before .before .before .before) _ (below (c .before)))
+
+  least-from-requires : lts.Need-least-from-requires (calls t) (asked t) least-from.Post Inv-loop μ-loop
+  least-from-requires c κs = again (c .before .before .before .before) _ (room (c .before .before .before .before) _ (below (c .before)))
+
+  returns-2 : lts.Need-returns-2 (calls t) (asked t) least-from.Post Inv-loop μ-loop
+  returns-2 c =
+      let a = c .before .before .before .before .before .before .before .before .before .before .args in
+      let q = c .before .before .before .before .before .before .before .before .before .before .pre .1 in
+      rw (scope-next (now (a .sizes)) (now (a .s)) (a .at) (q .0) (a .k) (inside (c .before .before .before .before .before)), least-fixed (now (a .sizes)) (now (a .prefix)) (entryAt (now (a .sizes)) (now (a .s)) (a .at)) (a .index) _ (drop (a .k + 1) (scopeAt (now (a .s)) (a .at))) (c .before .before .if2 .taken)) (c .least-from .ensures)
+
+  add-if3 : lts.Need-add-if3 (calls t) (asked t) least-from.Post Inv-loop μ-loop
+  add-if3 c = omega (arith, short (c .before .before .before))
+
+  mul-least-row : lts.Need-mul-least-row (calls t) (asked t) least-from.Post Inv-loop μ-loop
+  mul-least-row c = omega (arith, fits (c .before .before .before .before) 0 (size (c .before .before .before .before) .0))
+
+  least-row-requires : lts.Need-least-row-requires (calls t) (asked t) least-from.Post Inv-loop μ-loop
+  least-row-requires c κs = (c .before .before .before .before .before .before .before .before .before .pre .1 .0, size (c .before .before .before .before) .0, row (c .before .before .before .before))
+
+  returns-3 : lts.Need-returns-3 (calls t) (asked t) least-from.Post Inv-loop μ-loop
+  returns-3 c =
+      let a = c .before .before .before .before .before .before .before .before .before .before .args in
+      let q = c .before .before .before .before .before .before .before .before .before .before .pre .1 in
+      let last : a .k + 1 ≡ getD (now (a .s)) (a .at + 3) 0 = c .before .if3 .taken in
+      let none : drop (a .k + 1) (scopeAt (now (a .s)) (a .at)) ≡ [] = rw last (scope-end (now (a .sizes)) (now (a .s)) (a .at) (q .0)) in
+      free (c .before .before) _ (least-last (domain (c .before .before .before .before .before) - 1) (now (a .sizes)) (now (a .prefix)) (entryAt (now (a .sizes)) (now (a .s)) (a .at)) (a .index * domain (c .before .before .before .before .before)) (drop (a .k + 1) (scopeAt (now (a .s)) (a .at))) none (c .least-row .ensures))
+
+  add-least-from-3 : lts.Need-add-least-from-3 (calls t) (asked t) least-from.Post Inv-loop μ-loop
+  add-least-from-3 c = omega (arith, short (c .before .before .before .before))
+
+  mul-least-from-2 : lts.Need-mul-least-from-2 (calls t) (asked t) least-from.Post Inv-loop μ-loop
+  mul-least-from-2 c = omega (arith, fits (c .before .before .before .before) 0 (size (c .before .before .before .before) .0))
+
+  least-from-requires-2 : lts.Need-least-from-requires-2 (calls t) (asked t) least-from.Post Inv-loop μ-loop
+  least-from-requires-2 c κs = again (c .before .before .before .before) _ (first (c .before .before .before .before))
+
+  loop-holds : lts.Need-loop-holds (calls t) (asked t) least-from.Post Inv-loop μ-loop
+  unfolding leastTo
+  loop-holds c = (omega arith, size (c .before .before .before .before .before) .0, rw add-zero (c .least-from2 .ensures))
+
+  add-least-from-4 : lts.Need-add-least-from-4 (calls t) (asked t) least-from.Post Inv-loop μ-loop
+  add-least-from-4 c = omega (arith, short (c .before .before .before .before .before .before .before))
+
+  mul-least-from-3 : lts.Need-mul-least-from-3 (calls t) (asked t) least-from.Post Inv-loop μ-loop
+  mul-least-from-3 c = omega (arith, fits (c .before .before .before .before .before .before .before) 0 (size (c .before .before .before .before .before .before .before) .0))
+
+  add-least-from-5 : lts.Need-add-least-from-5 (calls t) (asked t) least-from.Post Inv-loop μ-loop
+  add-least-from-5 c = omega (arith, fits (c .before .before .before .before .before .before .before) (c .before .loop .x) (c .loop-test .taken))
+
+  least-from-requires-3 : lts.Need-least-from-requires-3 (calls t) (asked t) least-from.Post Inv-loop μ-loop
+  least-from-requires-3 c κs = again (c .before .before .before .before .before .before .before) _ (room (c .before .before .before .before .before .before .before) (c .before .loop .x) (c .loop-test .taken))
+
+  lesser-requires : lts.Need-lesser-requires (calls t) (asked t) least-from.Post Inv-loop μ-loop
+  lesser-requires c κs = tt
+
+  add-x : lts.Need-add-x (calls t) (asked t) least-from.Post Inv-loop μ-loop
+  add-x c = omega (arith, size (c .before .before .before .before .before .before .before .before .before))
+
+  loop-less : lts.Need-loop-less (calls t) (asked t) least-from.Post Inv-loop μ-loop
+  loop-less c = omega arith
+
+  loop-again : lts.Need-loop-again (calls t) (asked t) least-from.Post Inv-loop μ-loop
+  loop-again c =
+      let w = c .before .before .before .loop in
+      (omega arith, omega arith, rw (least-next (w .x) (rest (c .before .before .before .before .before .before .before .before .before)) (w .inv .0), c .lesser .ensures, w .inv .2, c .before .least-from3 .ensures))
+
+  returns-4 : lts.Need-returns-4 (calls t) (asked t) least-from.Post Inv-loop μ-loop
+  returns-4 c =
+      let w = c .before .loop in
+      let end : w .x ≡ domain (c .before .before .before .before .before .before .before) = omega arith in
+      free (c .before .before .before .before) _ (rw end at (w .inv .2))
+
+pub +least-from-spec : {M : Type 1} → statement M
++least-from-spec =
+    close
+    μ-least-from
+    λ t. lts.spec
+    (calls t)
+    (asked t)
+    least-from.Post
+    Inv-loop
+    μ-loop
+    (add-a t)
+    (shared-slice-read-a t)
+    (cast-a t)
+    (table-entry-requires t)
+    (returns t)
+    (add-v t)
+    (add-v-2 t)
+    (shared-slice-read-v t)
+    (cast-v t)
+    (shared-slice-read-d t)
+    (cast-d t)
+    (add-least-from t)
+    (mul-least-from t)
+    (shared-slice-read-least-from t)
+    (cast-least-from t)
+    (add-least-from-2 t)
+    (least-from-requires t)
+    (returns-2 t)
+    (add-if3 t)
+    (mul-least-row t)
+    (least-row-requires t)
+    (returns-3 t)
+    (add-least-from-3 t)
+    (mul-least-from-2 t)
+    (least-from-requires-2 t)
+    (loop-holds t)
+    (add-least-from-4 t)
+    (mul-least-from-3 t)
+    (add-least-from-5 t)
+    (least-from-requires-3 t)
+    (lesser-requires t)
+    (add-x t)
+    (loop-less t)
+    (loop-again t)
+    (returns-4 t)

@@ -1,0 +1,8 @@
+-- The laws that the functions' proofs share.
+pub mod ScopeVariables
+pub mod TableEntries
+pub mod Rooms
+pub mod PrefixSteps
+pub mod LeastSteps
+pub mod RecordSteps
+pub mod SumSteps

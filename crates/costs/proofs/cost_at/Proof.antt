@@ -1,0 +1,19 @@
+-- `costs::cost_at` meets its contract.
+use Rattle.model.specs.Reading.{tableOf}
+use Rattle.model.specs.Costs.{costOf}
+use borrow.Author.Needs.{needs}
+use Rattle.costs.proofs.cost_at.Statement.{statement}
+use Rattle.costs.proofs.cost_at.Tie as tie
+
+entry-index-requires : tie.Need-entry-index-requires
+entry-index-requires c κs = search needs
+
+table-entry-requires : tie.Need-table-entry-requires
+table-entry-requires c κs = search needs
+
+returns : tie.Need-returns
+unfolding costOf tableOf
+returns c = rw (← c .before .entry-index .ensures .0) (c .table-entry .ensures)
+
+pub cost-at-spec : {M : Type 1} → statement M
+cost-at-spec = tie.close (tie.spec entry-index-requires table-entry-requires returns)

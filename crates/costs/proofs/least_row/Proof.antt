@@ -1,0 +1,76 @@
+-- `costs::least_row` meets its contract. The invariant: the least so far is the least of the first i entries.
+use mathlib.Core.Path.{_≡_}
+use Prim.Native.Nat.{_+_, _-_, _≤_}
+use native.Mathlib.Omega.{arith}
+use native.Mathlib.Nat.{add-zero}
+use denote.Ref.{now}
+use Rattle.model.specs.Bounds.{leastTo}
+use Rattle.problem.proofs.WholeRecord.{whole-long}
+use Rattle.costs.specs.Entries.{entryAt}
+use Rattle.costs.proofs.LeastSteps.{least-next}
+use Rattle.costs.proofs.least_row.Statement.{statement}
+use Rattle.costs.proofs.least_row.Tie as tie
+
+abbrev Inv-loop : tie.InvT-loop
+Inv-loop s at first count sizes least₀ i₀ least i = (1 ≤ i) × (i ≤ count) × (least ≡ leastTo (i - 1) (λ a. entryAt sizes s at (first + a)))
+
+abbrev μ-loop : tie.MeasureT-loop
+μ-loop s at first count sizes least₀ i₀ least i = count - i
+
+table-entry-requires : tie.Need-table-entry-requires Inv-loop μ-loop
+table-entry-requires c κs =
+    let q = c .before .before .pre in
+    (q .0, omega arith)
+
+loop-holds : tie.Need-loop-holds Inv-loop μ-loop
+unfolding leastTo
+loop-holds c = (omega arith, omega (arith, c .before .before .before .pre .1), rw (c .table-entry .ensures, add-zero))
+
+add-table-entry : tie.Need-add-table-entry Inv-loop μ-loop
+add-table-entry c =
+    let a = c .before .before .before .before .before .args in
+    let q = c .before .before .before .before .before .pre in
+    omega (arith, whole-long (now (a .sizes)) (now (a .s)) (a .at) (q .0))
+
+table-entry-requires-2 : tie.Need-table-entry-requires-2 Inv-loop μ-loop
+table-entry-requires-2 c κs =
+    let q = c .before .before .before .before .before .pre in
+    (q .0, omega arith)
+
+lesser-requires : tie.Need-lesser-requires Inv-loop μ-loop
+lesser-requires c κs = tt
+
+add-i : tie.Need-add-i Inv-loop μ-loop
+add-i c = omega arith
+
+loop-less : tie.Need-loop-less Inv-loop μ-loop
+loop-less c = omega arith
+
+loop-again : tie.Need-loop-again Inv-loop μ-loop
+loop-again c =
+    let a = c .before .before .before .before .before .before .before .args in
+    let w = c .before .before .before .loop in
+    (omega arith, omega arith, rw (least-next (w .i) (λ j. entryAt (now (a .sizes)) (now (a .s)) (a .at) (a .first + j)) (w .inv .0), c .lesser .ensures, w .inv .2, c .before .table-entry2 .ensures))
+
+returns : tie.Need-returns Inv-loop μ-loop
+returns c =
+    let a = c .before .before .before .before .before .args in
+    let w = c .before .loop in
+    let k : w .i ≡ a .count = omega arith in
+    rw k at (w .inv .2)
+
+pub least-row-spec : {M : Type 1} → statement M
+least-row-spec =
+    tie.close
+    (tie.spec
+    Inv-loop
+    μ-loop
+    table-entry-requires
+    loop-holds
+    add-table-entry
+    table-entry-requires-2
+    lesser-requires
+    add-i
+    loop-less
+    loop-again
+    returns)

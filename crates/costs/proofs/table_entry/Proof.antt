@@ -1,0 +1,69 @@
+-- `costs::table_entry` meets its contract. The entry is a four-byte number of the problem (`entry-place`), and lies in it (`entry-inside`).
+use mathlib.Core.Path.{sym, _∙_}
+use Prim.Native.Nat.{_+_}
+use native.Mathlib.Omega.{arith}
+use denote.Ref.{now}
+use Rattle.problem.proofs.WholeRecord.{whole-long}
+use Rattle.costs.proofs.TableEntries.{entry-place, entry-inside}
+use borrow.Author.Needs.{needs}
+use Rattle.costs.proofs.table_entry.Statement.{statement}
+use Rattle.costs.proofs.table_entry.Tie as tie
+
+add-a : tie.Need-add-a
+add-a c = search needs
+
+shared-slice-read-a : tie.Need-shared-slice-read-a
+shared-slice-read-a c =
+    let a = c .before .before .before .args in
+    let q = c .before .before .before .pre in
+    omega (arith, whole-long (now (a .sizes)) (now (a .s)) (a .at) (q .0))
+
+cast-a : tie.Need-cast-a
+cast-a c = omega (arith, c .shared-slice-known3 .given (c .before .before .before .args .at + 3))
+
+add-four-at : tie.Need-add-four-at
+add-four-at c = search needs
+
+add-four-at-2 : tie.Need-add-four-at-2
+add-four-at-2 c =
+    let a = c .before .before .before .args in
+    let q = c .before .before .before .pre in
+    omega (arith, entry-inside (now (a .sizes)) (now (a .s)) (a .at) (a .i) (q .1) (q .0))
+
+mul-four-at : tie.Need-mul-four-at
+mul-four-at c =
+    let a = c .before .before .before .args in
+    let q = c .before .before .before .pre in
+    omega (arith, entry-inside (now (a .sizes)) (now (a .s)) (a .at) (a .i) (q .1) (q .0))
+
+add-four-at-3 : tie.Need-add-four-at-3
+add-four-at-3 c =
+    let a = c .before .before .before .args in
+    let q = c .before .before .before .pre in
+    omega (arith, entry-inside (now (a .sizes)) (now (a .s)) (a .at) (a .i) (q .1) (q .0))
+
+four-at-requires : tie.Need-four-at-requires
+four-at-requires c κs =
+    let a = c .before .before .before .args in
+    let q = c .before .before .before .pre in
+    omega (arith, entry-inside (now (a .sizes)) (now (a .s)) (a .at) (a .i) (q .1) (q .0))
+
+returns : tie.Need-returns
+returns c =
+    let a = c .before .before .before .before .args in
+    let q = c .before .before .before .before .pre in
+    c .four-at .ensures ∙ sym (entry-place (now (a .sizes)) (now (a .s)) (a .at) (a .i) (q .1))
+
+pub table-entry-spec : {M : Type 1} → statement M
+table-entry-spec =
+    tie.close
+    (tie.spec
+    add-a
+    shared-slice-read-a
+    cast-a
+    add-four-at
+    add-four-at-2
+    mul-four-at
+    add-four-at-3
+    four-at-requires
+    returns)

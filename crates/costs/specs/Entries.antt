@@ -1,0 +1,19 @@
+-- A record's table by the place where the record starts.
+use Prim.Native.Nat.{ℕ}
+use mathlib.Core.List.{List}
+use lib.ListN.{getD, drop}
+use Rattle.model.specs.Problems.{Table, sizeOf}
+use Rattle.model.specs.Reading.{tableScope, tableOf}
+
+-- the table of the record at `at`, its entry i, and how many entries it has
+abbrev pub tableAt : List ℕ → List ℕ → ℕ → Table
+tableAt ds s at = tableOf ds (drop at s)
+
+abbrev pub entryAt : List ℕ → List ℕ → ℕ → ℕ → ℕ
+entryAt ds s at i = getD (tableAt ds s at .costs) i 0
+
+abbrev pub scopeAt : List ℕ → ℕ → List ℕ
+scopeAt s at = tableScope (drop at s)
+
+abbrev pub entriesAt : List ℕ → List ℕ → ℕ → ℕ
+entriesAt ds s at = sizeOf ds (scopeAt s at)

@@ -1,0 +1,2 @@
+-- What the functions over accepted records rely on and ensure.
+pub mod Entries

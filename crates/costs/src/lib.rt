@@ -1,0 +1,169 @@
+// Costs of choices and bounds of prefixes, over the accepted records of a problem.
+ghost use mathlib.Core.Path.{_≡_};
+ghost use mathlib.Core.Bool.{true};
+ghost use Prim.Native.Nat.{ℕ, _+_, _-_, _*_, _<_, _≤_};
+ghost use lib.ListN.{length, drop};
+ghost use Rattle.model.specs.Basics.{All};
+ghost use Rattle.model.specs.Limits.{maxTables, maxObjectives};
+ghost use Rattle.model.specs.Problems.{DomainSize, sizeOf};
+ghost use Rattle.model.specs.Reading.{tableArity, tablesAt};
+ghost use Rattle.model.specs.Costs.{isChoice, entryFrom, costOf, totalsFrom};
+ghost use Rattle.model.specs.Bounds.{prefixOk, leastTo, leastFrom, leastOf};
+ghost use Rattle.problem.specs.Records.{Whole, AllWhole};
+ghost use Rattle.costs.specs.Entries.{tableAt, entryAt, scopeAt, entriesAt};
+
+// Entry `i` of the table of the record at `at`: the one place that knows where tables stand.
+pub fn table_entry(s: &[u8], at: usize, i: usize, sizes: &[u8]) -> u32
+    requires { ⌜ Whole (now sizes) (now s) at × (i < entriesAt (now sizes) (now s) at) ⌝ }
+    ensures { λ r. ⌜ r ≡ entryAt (now (sizes .entry)) (now (s .entry)) at i ⌝ }
+{
+    let a = s[at + 3] as usize;
+    problem::four_at(s, at + 4 + a + 4 * i)
+}
+
+// Which entry of the record at `at` a complete choice has.
+pub fn entry_index(s: &[u8], at: usize, sizes: &[u8], choice: &[u8]) -> usize
+    requires { ⌜ Whole (now sizes) (now s) at × All DomainSize (now sizes) × (isChoice (now sizes) (now choice) ≡ true) ⌝ }
+    ensures { λ r. ⌜ (r ≡ entryFrom 0 (now (sizes .entry)) (scopeAt (now (s .entry)) at) (now (choice .entry))) × (r < entriesAt (now (sizes .entry)) (now (s .entry)) at) ⌝ }
+{
+    let a = s[at + 3] as usize;
+    let mut index: usize = 0;
+    let mut k: usize = 0;
+    while k < a {
+        let v = s[at + 4 + k] as usize;
+        let d = sizes[v] as usize;
+        let x = choice[v] as usize;
+        index = index * d + x;
+        k += 1;
+    }
+    index
+}
+
+// What the record at `at` costs a complete choice.
+pub fn cost_at(s: &[u8], at: usize, sizes: &[u8], choice: &[u8]) -> u32
+    requires { ⌜ Whole (now sizes) (now s) at × All DomainSize (now sizes) × (isChoice (now sizes) (now choice) ≡ true) ⌝ }
+    ensures { λ r. ⌜ r ≡ costOf (now (sizes .entry)) (now (choice .entry)) (tableAt (now (sizes .entry)) (now (s .entry)) at) ⌝ }
+{
+    let i = entry_index(s, at, sizes, choice);
+    table_entry(s, at, i, sizes)
+}
+
+// The cost vector of a complete choice: the sums over the `r` records from `at` on.
+pub fn costs_of(s: &[u8], at: usize, r: u32, sizes: &[u8], choice: &[u8]) -> [u64; 4]
+    requires { ⌜ AllWhole r (now sizes) (now s) at × (r ≤ maxTables) × All DomainSize (now sizes) × (isChoice (now sizes) (now choice) ≡ true) ⌝ }
+    ensures { λ t. ⌜ t ≡ totalsFrom maxObjectives 0 (costOf (now (sizes .entry)) (now (choice .entry))) (tablesAt r (now (sizes .entry)) (now (s .entry)) at) ⌝ }
+{
+    let mut sums = [0u64; 4];
+    let mut here = at;
+    let mut left = r;
+    while left > 0 {
+        let t = problem::record_at(s, here, sizes);
+        let o = t.objective as usize;
+        sums[o] = sums[o] + (cost_at(s, here, sizes, choice) as u64);
+        here += t.length;
+        left -= 1;
+    }
+    sums
+}
+
+// Whether a prefix is no longer than the domains, each value in its own.
+pub fn prefix_ok(sizes: &[u8], prefix: &[u8]) -> bool
+    ensures { λ r. ⌜ r ≡ prefixOk (now (sizes .entry)) (now (prefix .entry)) ⌝ }
+{
+    if sizes.len() < prefix.len() {
+        return false;
+    }
+    let mut i: usize = 0;
+    while i < prefix.len() {
+        if sizes[i] <= prefix[i] {
+            return false;
+        }
+        i += 1;
+    }
+    true
+}
+
+fn lesser(a: u32, b: u32) -> u32
+    ensures { λ r. ⌜ r ≡ Prim.Native.Nat.min a b ⌝ }
+{
+    if a <= b {
+        return a;
+    }
+    b
+}
+
+// The least of `count` entries in a row, from entry `first` on: the last scope variable runs fastest.
+pub fn least_row(s: &[u8], at: usize, first: usize, count: usize, sizes: &[u8]) -> u32
+    requires { ⌜ Whole (now sizes) (now s) at × (1 ≤ count) × (first + count ≤ entriesAt (now sizes) (now s) at) ⌝ }
+    ensures { λ r. ⌜ r ≡ leastTo (count - 1) (λ a. entryAt (now (sizes .entry)) (now (s .entry)) at (first + a)) ⌝ }
+{
+    let mut least = table_entry(s, at, first, sizes);
+    let mut i: usize = 1;
+    while i < count {
+        least = lesser(least, table_entry(s, at, first + i, sizes));
+        i += 1;
+    }
+    least
+}
+
+// The least entry over the scope variables from number `k` on that agrees with the prefix, after the index `index`.
+pub fn least_from(s: &[u8], at: usize, k: usize, index: usize, sizes: &[u8], prefix: &[u8]) -> u32
+    requires { ⌜ Whole (now sizes) (now s) at × All DomainSize (now sizes) × (prefixOk (now sizes) (now prefix) ≡ true) × (k ≤ tableArity (drop at (now s))) × ((index + 1) * sizeOf (now sizes) (drop k (scopeAt (now s) at)) ≤ entriesAt (now sizes) (now s) at) ⌝ }
+    ensures { λ r. ⌜ r ≡ leastFrom (now (sizes .entry)) (now (prefix .entry)) (entryAt (now (sizes .entry)) (now (s .entry)) at) index (drop k (scopeAt (now (s .entry)) at)) ⌝ }
+{
+    let a = s[at + 3] as usize;
+    if k == a {
+        return table_entry(s, at, index, sizes);
+    }
+    let v = s[at + 4 + k] as usize;
+    let d = sizes[v] as usize;
+    if v < prefix.len() {
+        return least_from(
+            s,
+            at,
+            k + 1,
+            index * d + (prefix[v] as usize),
+            sizes,
+            prefix,
+        );
+    }
+    if k + 1 == a {
+        return least_row(s, at, index * d, d, sizes);
+    }
+    let mut least = least_from(s, at, k + 1, index * d, sizes, prefix);
+    let mut x: usize = 1;
+    while x < d {
+        least = lesser(
+            least,
+            least_from(s, at, k + 1, index * d + x, sizes, prefix),
+        );
+        x += 1;
+    }
+    least
+}
+
+// The least entry of the record at `at` that agrees with the prefix.
+pub fn least_at(s: &[u8], at: usize, sizes: &[u8], prefix: &[u8]) -> u32
+    requires { ⌜ Whole (now sizes) (now s) at × All DomainSize (now sizes) × (prefixOk (now sizes) (now prefix) ≡ true) ⌝ }
+    ensures { λ r. ⌜ r ≡ leastOf (now (sizes .entry)) (now (prefix .entry)) (tableAt (now (sizes .entry)) (now (s .entry)) at) ⌝ }
+{
+    least_from(s, at, 0, 0, sizes, prefix)
+}
+
+// The bound of a prefix: the sums of least entries over the `r` records from `at` on.
+pub fn bounds_of(s: &[u8], at: usize, r: u32, sizes: &[u8], prefix: &[u8]) -> [u64; 4]
+    requires { ⌜ AllWhole r (now sizes) (now s) at × (r ≤ maxTables) × All DomainSize (now sizes) × (prefixOk (now sizes) (now prefix) ≡ true) ⌝ }
+    ensures { λ t. ⌜ t ≡ totalsFrom maxObjectives 0 (leastOf (now (sizes .entry)) (now (prefix .entry))) (tablesAt r (now (sizes .entry)) (now (s .entry)) at) ⌝ }
+{
+    let mut sums = [0u64; 4];
+    let mut here = at;
+    let mut left = r;
+    while left > 0 {
+        let t = problem::record_at(s, here, sizes);
+        let owner = t.objective as usize;
+        sums[owner] = sums[owner] + (least_at(s, here, sizes, prefix) as u64);
+        here += t.length;
+        left -= 1;
+    }
+    sums
+}

@@ -1,0 +1,17 @@
+-- Laws that the functions' proofs cite.
+-- lists and arrays
+pub mod Behind
+pub mod Filled
+-- one record
+pub mod Chains
+pub mod HeadFields
+pub mod Rising
+pub mod Sizes
+pub mod TableFields
+pub mod WholeRecord
+-- records in a row
+pub mod DomainSteps
+pub mod TableSteps
+-- the whole
+pub mod Parts
+pub mod Accepted

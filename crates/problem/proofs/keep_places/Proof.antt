@@ -1,0 +1,98 @@
+-- `keep_places` meets its contract. The invariant: the records left are whole, and writing their places after those written gives the whole.
+use mathlib.Core.Path.{_≡_, refl, sym, _∙_}
+use mathlib.Core.List.{_++_}
+use Prim.Native.Nat.{suc, _+_, _-_, _≤_, _<_}
+use native.Mathlib.Omega.{arith}
+use native.Mathlib.Nat.{sub-zero}
+use lib.ListN.{length, take, drop, length-set}
+use denote.Ref.{now}
+use Rattle.model.specs.Reading.{tableLength, placesAt}
+use Rattle.model.specs.Calls.{over}
+use Rattle.problem.specs.Records.{AllWhole}
+use Rattle.problem.proofs.Filled.{over-step, over-end}
+use Rattle.problem.proofs.TableSteps.{places-none, places-go}
+use Rattle.problem.proofs.keep_places.Statement.{statement}
+use Rattle.problem.proofs.keep_places.Tie as tie
+
+abbrev Inv-loop : tie.InvT-loop
+Inv-loop s at r sizes places₀ count here₀ i₀ places here i =
+    (i ≤ r)
+    × AllWhole (r - i) sizes s here
+    × (length places ≡ length places₀)
+    × (take i places ++ over (placesAt (r - i) sizes s here) (drop i places) ≡ over (placesAt r sizes s at) places₀)
+
+abbrev μ-loop : tie.MeasureT-loop
+μ-loop s at r sizes places₀ count here₀ i₀ places here i = r - i
+
+-- in the loop: the record here is whole, and those after it
+ahead : (c : tie.In-loop Inv-loop μ-loop) → AllWhole (suc (c .before .before .before .before .before .args .r - (c .before .loop .i + 1))) (now (c .before .before .before .before .before .args .sizes)) (now (c .before .before .before .before .before .args .s)) (c .before .loop .here)
+ahead c =
+    let more : c .before .before .before .before .before .args .r - c .before .loop .i ≡ suc (c .before .before .before .before .before .args .r - (c .before .loop .i + 1)) = omega arith in
+    rw more at (c .before .loop .inv .1)
+
+loop-holds : tie.Need-loop-holds Inv-loop μ-loop
+loop-holds c = (omega arith, rw sub-zero (c .before .before .before .pre .0), refl, rw sub-zero)
+
+cast-places : tie.Need-cast-places Inv-loop μ-loop
+cast-places c = omega (arith, ahead c .0 .long, c .before .before .before .before .before .pre .3)
+
+mul-places : tie.Need-mul-places Inv-loop μ-loop
+mul-places c = omega arith
+
+slice-write-places : tie.Need-slice-write-places Inv-loop μ-loop
+slice-write-places c = omega (arith, c .before .loop .inv .2, c .before .before .before .before .before .pre .2)
+
+record-at-requires : tie.Need-record-at-requires Inv-loop μ-loop
+record-at-requires c κs = (ahead c .0, c .before .before .before .before .before .pre .1)
+
+add-here : tie.Need-add-here Inv-loop μ-loop
+add-here c =
+    let long = c .before .record-at .ensures .width in
+    omega (arith, long, ahead (c .before .before) .0 .long, c .before .before .before .before .before .before .before .pre .3)
+
+add-i : tie.Need-add-i Inv-loop μ-loop
+add-i c = omega arith
+
+loop-less : tie.Need-loop-less Inv-loop μ-loop
+loop-less c = omega arith
+
+loop-again : tie.Need-loop-again Inv-loop μ-loop
+loop-again c =
+    let a = c .before .before .before .before .before .before .before .args in
+    let w = c .before .before .before .loop in
+    let rest = placesAt (a .r - (w .i + 1)) (now (a .sizes)) (now (a .s)) (w .here + tableLength (now (a .sizes)) (drop (w .here) (now (a .s)))) in
+    let long = c .before .record-at .ensures .width in
+    let room : w .i < length (w .places) = omega (arith, w .inv .2, c .before .before .before .before .before .before .before .pre .2) in
+    let more : a .r - w .i ≡ suc (a .r - (w .i + 1)) = omega arith in (
+      omega arith,
+      rw long (ahead (c .before .before) .1),
+      length-set (w .places) (w .i) (w .here) ∙ w .inv .2,
+      rw long (over-step (w .i) (w .here) rest (w .places) room ∙ rw (more, places-go) at (w .inv .3)),
+    )
+
+same-length : tie.Need-same-length Inv-loop μ-loop
+same-length c = c .before .loop .inv .2
+
+returns : tie.Need-returns Inv-loop μ-loop
+returns c =
+    let w = c .before .loop in
+    let none : c .before .before .before .before .before .args .r - w .i ≡ 0 = omega arith in
+    sym (over-end (w .i) (w .places)) ∙ rw (none, places-none) at (w .inv .3)
+
+pub keep-places-spec : {M : Type 1} → statement M
+keep-places-spec =
+    tie.close
+    (tie.spec
+    Inv-loop
+    μ-loop
+    loop-holds
+    cast-places
+    mul-places
+    slice-write-places
+    record-at-requires
+    add-here
+    add-i
+    loop-less
+    loop-again
+    same-length
+    returns)

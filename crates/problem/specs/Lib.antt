@@ -1,0 +1,3 @@
+-- What the reading functions rely on and ensure.
+pub mod Records
+pub mod Says

@@ -1,0 +1,375 @@
+// Reads a problem: its records in byte order, refusals 1 to 11 with their places, and where each cost record starts.
+ghost use mathlib.Core.Path.{_≡_};
+ghost use Prim.Native.Nat.{ℕ, _+_, _-_, _*_, _<_, _≤_};
+ghost use lib.ListN.{length, getD, take, drop};
+ghost use Rattle.model.specs.Basics.{All};
+ghost use Rattle.model.specs.Limits.{maxBytes, maxVariables, maxObjectives, maxArity, shortEnd};
+ghost use Rattle.model.specs.Problems.{DomainSize, InRange, sizeOf, scopeOk};
+ghost use Rattle.model.specs.Reading.{word2, word4, wordsIn, startNumber, headNumber, domainNumber, tablesVerdict, placesAt};
+ghost use Rattle.model.specs.Calls.{padded, over};
+ghost use Rattle.problem.specs.Records.{Whole, AllWhole};
+ghost use Rattle.problem.specs.Says.{HeadSays, DomainsSays, ScanSays, RefusalSays, RecordSays, refusal, ReadSays};
+
+pub fn wide(x: u8) -> u32
+    ensures { λ r. ⌜ r ≡ x ⌝ }
+{
+    x as u32
+}
+
+// The two-byte number at `at`.
+pub fn two_at(s: &[u8], at: usize) -> u32
+    requires { ⌜ at + 2 ≤ length (now s) ⌝ }
+    ensures { λ r. ⌜ (r ≡ word2 0 (drop at (now (s .entry)))) × (r < shortEnd) ⌝ }
+{
+    let low = wide(s[at]);
+    let high = wide(s[at + 1]);
+    low + 256 * high
+}
+
+// The four-byte number at `at`.
+pub fn four_at(s: &[u8], at: usize) -> u32
+    requires { ⌜ at + 4 ≤ length (now s) ⌝ }
+    ensures { λ r. ⌜ r ≡ word4 (drop at (now (s .entry))) ⌝ }
+{
+    let low = two_at(s, at);
+    let high = two_at(s, at + 2);
+    low + 65536 * high
+}
+
+// The mark due at `at`, and the single fields after it: 2, 3, 2, else 0.
+pub fn start_number(s: &[u8], at: usize, a: u8, b: u8, fields: usize) -> u8
+    requires { ⌜ (at ≤ length (now s)) × (fields ≤ 4) ⌝ }
+    ensures { λ r. ⌜ r ≡ startNumber a b fields (drop at (now (s .entry))) ⌝ }
+{
+    let left = s.len() - at;
+    if left < 2 {
+        return 2;
+    }
+    if s[at] != a {
+        return 3;
+    }
+    if s[at + 1] != b {
+        return 3;
+    }
+    if left < 2 + fields {
+        return 2;
+    }
+    0
+}
+
+// The header's number of refusal, else 0.
+pub fn head_number(s: &[u8]) -> u8
+    ensures { λ r. ⌜ r ≡ headNumber (now (s .entry)) ⌝ }
+{
+    let e = start_number(s, 0, b'H', b'D', 4);
+    if e != 0 {
+        return e;
+    }
+    if !model::Header::allows_variables(s[2]) {
+        return 4;
+    }
+    let p = s[3];
+    if !model::Header::allows_objectives(p) {
+        return 5;
+    }
+    if !model::Header::allows_tables(two_at(s, 4)) {
+        return 6;
+    }
+    if s.len() < 6 + 4 * (p as usize) {
+        return 2;
+    }
+    0
+}
+
+// `count` ceilings after the header's single fields, and zeros.
+fn read_ceilings(s: &[u8], count: usize) -> [u32; 4]
+    requires { ⌜ (6 + 4 * count ≤ length (now s)) × (count ≤ maxObjectives) ⌝ }
+    ensures { λ r. ⌜ r ≡ padded maxObjectives (wordsIn count (drop 6 (now (s .entry)))) ⌝ }
+{
+    let mut ceilings = [0u32; 4];
+    let mut i: usize = 0;
+    while i < count {
+        ceilings[i] = four_at(s, 6 + 4 * i);
+        i += 1;
+    }
+    ceilings
+}
+
+// The header of a problem whose header is not refused.
+pub fn read_head(s: &[u8]) -> model::Header
+    requires { ⌜ headNumber (now s) ≡ 0 ⌝ }
+    ensures { λ r. ⌜ HeadSays (now (s .entry)) r ⌝ }
+{
+    let variables = s[2];
+    let objectives = s[3];
+    let tables = two_at(s, 4);
+    let ceilings = read_ceilings(s, objectives as usize);
+    model::Header {
+        variables,
+        objectives,
+        tables,
+        ceilings,
+    }
+}
+
+// The number of the domain record at `at`, else 0.
+pub fn domain_number(s: &[u8], at: usize) -> u8
+    requires { ⌜ at ≤ length (now s) ⌝ }
+    ensures { λ r. ⌜ r ≡ domainNumber (drop at (now (s .entry))) ⌝ }
+{
+    let e = start_number(s, at, b'D', b'O', 1);
+    if e != 0 {
+        return e;
+    }
+    if !model::Domain::allows_size(s[at + 2]) {
+        return 7;
+    }
+    0
+}
+
+// What reading the domain records finds: a refusal's number and place, or 0 and 0 and the sizes.
+pub struct Domains {
+    pub number: u8,
+    pub place: usize,
+    pub sizes: [u8; 24],
+}
+
+// `n` domain records from `at` on.
+pub fn read_domains(s: &[u8], at: usize, n: usize) -> Domains
+    requires { ⌜ (at ≤ length (now s)) × (n ≤ maxVariables) ⌝ }
+    ensures { λ r. ⌜ DomainsSays (now (s .entry)) at n r ⌝ }
+{
+    let mut sizes = [0u8; 24];
+    let mut here = at;
+    let mut i: usize = 0;
+    while i < n {
+        let e = domain_number(s, here);
+        if e != 0 {
+            return Domains {
+                number: e,
+                place: here,
+                sizes: [0u8; 24],
+            };
+        }
+        sizes[i] = s[here + 2];
+        here += 3;
+        i += 1;
+    }
+    Domains {
+        number: 0,
+        place: 0,
+        sizes,
+    }
+}
+
+// Whether the `arity` variables at `at` are below `n`, each above the one before.
+pub fn scope_ok(s: &[u8], at: usize, arity: usize, n: usize) -> bool
+    requires { ⌜ at + arity ≤ length (now s) ⌝ }
+    ensures { λ r. ⌜ r ≡ scopeOk n 0 (take arity (drop at (now (s .entry)))) ⌝ }
+{
+    let mut low: usize = 0;
+    let mut i: usize = 0;
+    while i < arity {
+        let v = s[at + i] as usize;
+        if n <= v {
+            return false;
+        }
+        if v < low {
+            return false;
+        }
+        low = v + 1;
+        i += 1;
+    }
+    true
+}
+
+// How many entries a table has whose scope is the `arity` variables at `at`.
+pub fn size_of(s: &[u8], at: usize, arity: usize, sizes: &[u8]) -> usize
+    requires { ⌜ (at + arity ≤ length (now s)) × (arity ≤ maxArity) × InRange (length (now sizes)) (take arity (drop at (now s))) × All DomainSize (now sizes) ⌝ }
+    ensures { λ r. ⌜ (r ≡ sizeOf (now (sizes .entry)) (take arity (drop at (now (s .entry))))) × (r ≤ 512) ⌝ }
+{
+    if arity == 0 {
+        return 1;
+    }
+    let rest = size_of(s, at + 1, arity - 1, sizes);
+    let v = s[at] as usize;
+    (sizes[v] as usize) * rest
+}
+
+// What reading a cost record finds: its number of refusal, or 0 and how many bytes it has.
+pub struct Scan {
+    pub number: u8,
+    pub length: usize,
+}
+
+// The cost record at `at`, of a problem with `p` objectives.
+pub fn scan_table(s: &[u8], at: usize, p: u8, sizes: &[u8]) -> Scan
+    requires { ⌜ (at ≤ length (now s)) × All DomainSize (now sizes) ⌝ }
+    ensures { λ r. ⌜ ScanSays p (now (sizes .entry)) (drop at (now (s .entry))) r ⌝ }
+{
+    let e = start_number(s, at, b'C', b'F', 2);
+    if e != 0 {
+        return Scan {
+            number: e,
+            length: 0,
+        };
+    }
+    if p <= s[at + 2] {
+        return Scan {
+            number: 8,
+            length: 0,
+        };
+    }
+    let arity = s[at + 3];
+    if !model::CostRecord::allows_arity(arity) {
+        return Scan {
+            number: 9,
+            length: 0,
+        };
+    }
+    let a = arity as usize;
+    let left = s.len() - at;
+    if left < 4 + a {
+        return Scan {
+            number: 2,
+            length: 0,
+        };
+    }
+    if !scope_ok(s, at + 4, a, sizes.len()) {
+        return Scan {
+            number: 10,
+            length: 0,
+        };
+    }
+    let length = 4 + (a + 4 * size_of(s, at + 4, a, sizes));
+    if left < length {
+        return Scan {
+            number: 2,
+            length: 0,
+        };
+    }
+    Scan { number: 0, length }
+}
+
+// A refusal's number and place, or 0 and 0.
+pub struct Refusal {
+    pub number: u8,
+    pub place: usize,
+}
+
+// `r` cost records from `at` on, and nothing after them.
+pub fn scan_tables(s: &[u8], at: usize, r: u32, p: u8, sizes: &[u8]) -> Refusal
+    requires { ⌜ (at ≤ length (now s)) × All DomainSize (now sizes) ⌝ }
+    ensures { λ f. ⌜ RefusalSays (tablesVerdict r p (now (sizes .entry)) (now (s .entry)) at) f ⌝ }
+{
+    let mut here = at;
+    let mut left = r;
+    while left > 0 {
+        let t = scan_table(s, here, p, sizes);
+        if t.number != 0 {
+            return Refusal {
+                number: t.number,
+                place: here,
+            };
+        }
+        here += t.length;
+        left -= 1;
+    }
+    if here < s.len() {
+        return Refusal {
+            number: 11,
+            place: here,
+        };
+    }
+    Refusal {
+        number: 0,
+        place: 0,
+    }
+}
+
+// What reading a problem finds: a refusal's number and place, or 0 and 0 with the header and the domain sizes.
+pub struct Reading {
+    pub number: u8,
+    pub place: usize,
+    pub head: model::Header,
+    pub sizes: [u8; 24],
+}
+
+fn refused(number: u8, place: usize) -> Reading
+    ensures { λ r. ⌜ r ≡ refusal number place ⌝ }
+{
+    Reading {
+        number,
+        place,
+        head: model::Header {
+            variables: 0,
+            objectives: 0,
+            tables: 0,
+            ceilings: [0u32; 4],
+        },
+        sizes: [0u8; 24],
+    }
+}
+
+pub fn read_problem(s: &[u8]) -> Reading
+    ensures { λ r. ⌜ ReadSays (now (s .entry)) r ⌝ }
+{
+    if !model::Header::allows_bytes(s.len()) {
+        return refused(1, 0);
+    }
+    let e = head_number(s);
+    if e != 0 {
+        return refused(e, 0);
+    }
+    let head = read_head(s);
+    let n = head.variables as usize;
+    let p = head.objectives;
+    let start = 6 + 4 * (p as usize);
+    let d = read_domains(s, start, n);
+    if d.number != 0 {
+        return refused(d.number, d.place);
+    }
+    let sizes = d.sizes;
+    let t = scan_tables(s, start + 3 * n, head.tables, p, &sizes[..n]);
+    if t.number != 0 {
+        return refused(t.number, t.place);
+    }
+    Reading {
+        number: 0,
+        place: 0,
+        head,
+        sizes,
+    }
+}
+
+// The fields of the accepted cost record at `at`.
+pub fn record_at(s: &[u8], at: usize, sizes: &[u8]) -> model::CostRecord
+    requires { ⌜ Whole (now sizes) (now s) at × All DomainSize (now sizes) ⌝ }
+    ensures { λ r. ⌜ RecordSays (now (sizes .entry)) (now (s .entry)) at r ⌝ }
+{
+    let arity = s[at + 3];
+    let a = arity as usize;
+    let length = 4 + (a + 4 * size_of(s, at + 4, a, sizes));
+    model::CostRecord {
+        objective: s[at + 2],
+        arity,
+        at,
+        length,
+    }
+}
+
+// Writes where each of the `r` accepted cost records from `at` on starts over the front of a buffer.
+pub fn keep_places(s: &[u8], at: usize, r: u32, sizes: &[u8], places: &mut [u32])
+    requires { ⌜ AllWhole r (now sizes) (now s) at × All DomainSize (now sizes) × (r ≤ length (now places)) × (length (now s) ≤ maxBytes) ⌝ }
+    ensures { λ _. ⌜ now (places .exit) ≡ over (placesAt r (now (sizes .entry)) (now (s .entry)) at) (now (places .entry)) ⌝ }
+{
+    let count = r as usize;
+    let mut here = at;
+    let mut i: usize = 0;
+    while i < count {
+        places[i] = here as u32;
+        let t = record_at(s, here, sizes);
+        here += t.length;
+        i += 1;
+    }
+}
