@@ -1,9 +1,32 @@
-/* The variant chooser's limits and numbers of refusal, for C. The calls' declarations come with the calls.
+/* The variant chooser's limits, numbers of refusal and calls, for C and C++. Link libfrontier.a; it needs nothing but
+ * the C library. The bound call is here; the calls that list the frontier come later.
+ *
+ * A problem is a string of bytes. Numbers in it are unsigned and little-endian, at any address, with nothing between
+ * them. It is made of records, each of which starts with a mark of two letters:
+ *
+ *   HD  n (1 byte), p (1 byte), r (2 bytes), then p ceilings of 4 bytes
+ *   DO  the domain size d (1 byte)
+ *   CF  an objective (1 byte), the arity (1 byte), the scope (1 byte a variable), then the table of 4-byte costs
+ *
+ * One HD, n DO, r CF, and no byte more. There are n variables (modules), numbered from 0; the DO records give the
+ * number d of values (variants) of each, in the variables' order, and its values are 0 to d - 1. There are p
+ * objectives, numbered from 0. A CF record charges its objective for the values of the variables in its scope, which
+ * stand in strictly rising order. Its table has an entry for each combination of their values, so as many as the
+ * product of their domain sizes, and one if the scope is empty. The last variable of the scope runs fastest: with scope
+ * (u, v) the entry for values a and b has the index a * (domain size of v) + b.
+ *
+ * The cost of a choice (a value for each variable) in an objective is the sum of the entries that its values select in
+ * that objective's records. A choice is allowed if every cost is strictly below its objective's ceiling. An entry of
+ * 4294967295 is below no ceiling, so it forbids its combination.
  *
  * A refusal gives a number and a place: the first byte of the record concerned (2 to 10, and 14 for the first
- * linked record), the first leftover byte (11), else 0. Number 0 says that nothing is refused. */
+ * linked record), the first leftover byte (11), else 0. Number 0 says that nothing is refused. Of several faults one is
+ * told: number 1 before all others, then what reading the bytes in their order meets first, then the rest. */
 #ifndef FRONTIER_H
 #define FRONTIER_H
+
+#include <stddef.h>
+#include <stdint.h>
 
 /* limits of a problem */
 #define FRONTIER_MAX_BYTES 60000
@@ -34,5 +57,31 @@
 #define FRONTIER_LINKED 14    /* a record's scope has both sides */
 #define FRONTIER_FULL 15      /* more points than room; in the cut call also a half's frontier above 64 */
 #define FRONTIER_PREFIX 16    /* prefix longer than n, or a value not in its domain */
+
+/* What holds of every call: it may be given any bytes, since it checks them itself. A pointer that goes with a length
+ * must be valid for that many elements and not null, even if the length is 0 (then nothing is read through it). What is
+ * written must overlap nothing else that is handed in. A call writes nothing but what its comment names, allocates
+ * nothing, and keeps nothing from one call to the next, so calls may run side by side in several threads, also on the
+ * same problem. The same input always gives the same answer. */
+#ifdef __cplusplus
+extern "C" {
+#endif
+
+/* Bounds from below what any completion of a partial choice costs.
+ *
+ * The prefix has the values of variables 0, 1, and so on, one byte each; the variables after it are free. With length 0
+ * all are free, with length n none is, and then the bound is the cost itself.
+ *
+ * least[k] becomes the sum, over the records of objective k, of the least table entry that agrees with the prefix:
+ * below 2^40, and 0 for k from p on. Ceilings play no part. The number of refusal is the result: 0 for none, 1 to 11
+ * for the problem, or FRONTIER_PREFIX for the prefix, which is looked at last. *place becomes the place of the refusal,
+ * and 0 without one. All four numbers of least and *place are always written, whatever they held; after a refusal least
+ * is all 0. */
+uint8_t frontier_bound(const uint8_t *problem, size_t problem_len, const uint8_t *prefix, size_t prefix_len,
+                       uint64_t least[FRONTIER_MAX_OBJECTIVES], uint32_t *place);
+
+#ifdef __cplusplus
+}
+#endif
 
 #endif

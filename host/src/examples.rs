@@ -127,6 +127,26 @@ pub fn unary() -> Problem {
     shifted(Table::new(0, &[1], &[1, 1]))
 }
 
+/// Every arity: four variables of 2, 3, 4 and 1 values, and in each of four objectives a table of
+/// another arity, so that the bound of every prefix has four numbers of its own.
+pub fn every_arity() -> Problem {
+    let costs = |weight: u32, size: u32| -> Vec<u32> {
+        // 7 has no factor in common with 24, so the entries are all different and do not rise.
+        (0..size).map(|i| weight * (1 + 7 * i % 24)).collect()
+    };
+    Problem {
+        ceilings: vec![100, 0x1_0000, FORBIDDEN, 1],
+        domains: vec![2, 3, 4, 1],
+        tables: vec![
+            Table::new(3, &[], &[FORBIDDEN]),
+            Table::new(2, &[2], &costs(0x100_0000, 4)),
+            Table::new(1, &[0, 3], &costs(0x100, 2)),
+            Table::new(0, &[0, 1, 2], &costs(1, 24)),
+            Table::new(2, &[1, 2], &costs(0x1_0000, 12)),
+        ],
+    }
+}
+
 /// All 2-clauses over n variables (the problem of source document 000, section 7, complete):
 /// objective 0 counts violated clauses, objective 1 variables at 0. Every choice violates one
 /// clause of each pair.

@@ -1,14 +1,16 @@
-//! An independent brute force of the variant chooser, written from the prose of document 01.
+//! The variant chooser twice: the proved one, linked from its static library, and an independent
+//! brute force, written from the prose of document 01, to compare it with.
 //!
-//! Every answer is found by going through all complete choices, so nothing here is fast and
-//! nothing here is clever: the crate exists to be compared with. Feed it only problems whose
-//! choices can be counted through.
+//! The brute force finds every answer by going through all complete choices, so nothing in it is
+//! fast and nothing is clever. Feed it only problems whose choices can be counted through.
 
 pub mod bound;
 pub mod brute;
+pub mod chooser;
 pub mod cut;
 pub mod examples;
 pub mod limits;
+pub mod mixed;
 pub mod owned;
 pub mod problem;
 pub mod random;

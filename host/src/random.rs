@@ -68,6 +68,19 @@ impl Shape {
             choices: 200,
         }
     }
+
+    /// Every size up to its limit, except that there are few tables. Too many choices for the
+    /// calls that go through them; the bound call does not.
+    pub fn wide() -> Shape {
+        Shape {
+            objectives: 4,
+            variables: 24,
+            domain: 8,
+            arity: 3,
+            tables: 12,
+            choices: 1 << 62,
+        }
+    }
 }
 
 /// How the entries of one problem's tables are drawn.

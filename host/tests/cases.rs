@@ -1,20 +1,30 @@
 //! The cases of document 01: its table, its printed example, and each limit from both sides.
 
-use frontier_host::brute::{bound_prefix, list_points, solve_cut, solve_problem, Answer, Point};
+use frontier_host::brute::{
+    bound_prefix, list_points, solve_cut, solve_problem, Answer, Least, Point,
+};
+use frontier_host::chooser;
 use frontier_host::examples::{bent, brimful, colours, lone, pair, staircase, three};
 use frontier_host::limits::{LEAST_WORK, MAX_BYTES};
 use frontier_host::owned::{cut_of, frontier_of, list_text, Listed};
 use frontier_host::problem::{Problem, Table};
 use frontier_host::refusal::Refusal;
 
+type BoundCall = fn(&[u8], &[u8]) -> Least;
+
+/// The bound calls of the brute force and of the static library; each case is asked of both.
+const BOUND_CALLS: [BoundCall; 2] = [bound_prefix, chooser::bound_prefix];
+
 /// A refusal with this number and place.
 fn refusal(number: u8, place: u32) -> Refusal {
     Refusal { number, place }
 }
 
-/// Asserts that the problem has exactly these points.
+/// Asserts that the problem has exactly these points, so that every call accepts it.
 fn assert_points(problem: &Problem, expected: &[(&[u32], &[u8])]) {
-    assert_eq!(frontier_of(&problem.encode()), Ok(listed(expected)));
+    let bytes = problem.encode();
+    assert_eq!(frontier_of(&bytes), Ok(listed(expected)));
+    assert_eq!(chooser::bound_prefix(&bytes, &[]).number, 0);
 }
 
 fn listed(points: &[(&[u32], &[u8])]) -> Vec<Listed> {
@@ -31,7 +41,9 @@ fn assert_refused(bytes: &[u8], number: u8, place: u32) {
     let cut = solve_cut(bytes, &[], &mut costs, &mut choices, &mut work);
     assert_eq!(cut, expected.into());
     assert_eq!(list_points(bytes, &mut points, &mut work), expected.into());
-    assert_eq!(bound_prefix(bytes, &[]), expected.into());
+    for bound in BOUND_CALLS {
+        assert_eq!(bound(bytes, &[]), expected.into());
+    }
     assert_eq!((costs, choices, work), ([7; 4], [7; 24], [7; LEAST_WORK]));
     assert_eq!(points, [junk_point(); 2]);
 }
@@ -416,32 +428,53 @@ fn sixty_thousand_bytes() {
     assert_refused(&padded, 11, 155);
 }
 
+/// Asserts what both bound calls answer for a prefix.
+fn assert_least(problem: &Problem, prefix: &[u8], least: [u64; 4]) {
+    for bound in BOUND_CALLS {
+        let expected = Least {
+            number: 0,
+            place: 0,
+            least,
+        };
+        assert_eq!(bound(&problem.encode(), prefix), expected, "{prefix:?}");
+    }
+}
+
+/// Asserts that both bound calls refuse a prefix.
+fn assert_prefix_refused(problem: &Problem, prefix: &[u8]) {
+    for bound in BOUND_CALLS {
+        let answer = bound(&problem.encode(), prefix);
+        assert_eq!(answer, refusal(16, 0).into(), "{prefix:?}");
+    }
+}
+
 #[test]
 fn prefixes() {
-    let bytes = three([3, 3]).encode();
-    assert_eq!(bound_prefix(&bytes, &[]).least, [0, 0, 0, 0]);
-    assert_eq!(bound_prefix(&bytes, &[2]).least, [2, 0, 0, 0]);
+    assert_least(&three([3, 3]), &[], [0, 0, 0, 0]);
+    assert_least(&three([3, 3]), &[2], [2, 0, 0, 0]);
     let bad: [&[u8]; 4] = [&[3], &[255], &[0, 0], &[3, 0]];
     for prefix in bad {
-        assert_eq!(bound_prefix(&bytes, prefix), refusal(16, 0).into());
+        assert_prefix_refused(&three([3, 3]), prefix);
     }
     let mut unequal = pair([9, 9]);
     unequal.domains = vec![2, 1];
     unequal.tables.truncate(2);
-    let bytes = unequal.encode();
-    assert_eq!(bound_prefix(&bytes, &[1, 0]).least, [1, 0, 0, 0]);
-    assert_eq!(bound_prefix(&bytes, &[0, 1]), refusal(16, 0).into());
+    assert_least(&unequal, &[1, 0], [1, 0, 0, 0]);
+    assert_prefix_refused(&unequal, &[0, 1]);
     // A fault of the bytes comes first.
-    let short = &bytes[..bytes.len() - 1];
-    assert_eq!(bound_prefix(short, &[9; 30]), refusal(2, 33).into());
+    let bytes = unequal.encode();
+    for bound in BOUND_CALLS {
+        let answer = bound(&bytes[..bytes.len() - 1], &[9; 30]);
+        assert_eq!(answer, refusal(2, 33).into());
+    }
 }
 
 #[test]
 fn a_bound_has_more_than_32_bits() {
     let mut problem = lone(1, 5);
     problem.tables = vec![Table::new(0, &[0], &[u32::MAX]); 256];
-    let least = bound_prefix(&problem.encode(), &[]).least;
-    assert_eq!(least, [256 * u64::from(u32::MAX), 0, 0, 0]);
-    assert!(least[0] < 1 << 40);
+    let sum = 256 * u64::from(u32::MAX);
+    assert_least(&problem, &[], [sum, 0, 0, 0]);
+    assert!(sum < 1 << 40);
     assert_points(&problem, &[]);
 }

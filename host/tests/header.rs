@@ -1,6 +1,10 @@
-//! The C header says the same limits and numbers of refusal as this package.
+//! The C header says the same limits and numbers of refusal as this package, and C and C++ programs
+//! that include it can call the static library.
 
-use std::collections::BTreeMap;
+use std::collections::{BTreeMap, BTreeSet};
+use std::io::{self, Write};
+use std::path::Path;
+use std::process::Command;
 
 use frontier_host::limits as limit;
 use frontier_host::refusal as number;
@@ -63,4 +67,71 @@ fn numbers_of_refusal_agree() {
     for (name, value) in expected {
         assert_eq!(defined.get(name), Some(&value.into()), "FRONTIER_{name}");
     }
+}
+
+/// The names of the calls that a text declares or makes.
+fn calls(text: &str) -> BTreeSet<&str> {
+    let named = |(start, _): (usize, &str)| {
+        let (name, _) = text[start..].split_once('(')?;
+        let is_name = name.chars().all(|c| c.is_ascii_lowercase() || c == '_');
+        is_name.then_some(name)
+    };
+    text.match_indices("frontier_").filter_map(named).collect()
+}
+
+#[test]
+fn rust_has_the_calls_of_the_header() {
+    let expected = calls(HEADER);
+    assert!(expected.contains("frontier_bound"));
+    assert_eq!(calls(include_str!("../src/chooser.rs")), expected);
+}
+
+/// The folder of the package; the header and the archive stand beside it.
+const HOST: &str = env!("CARGO_MANIFEST_DIR");
+
+/// What `tests/c/bound.c` prints: number, place and the four numbers of each call.
+const C_ANSWERS: &str = "0 0 4 0 0 0\n0 0 4 0 0 0\n0 0 259 0 0 0\n16 0 0 0 0 0\n2 16 0 0 0 0\n";
+
+/// Whether a compiler is installed. If not, it says so where the test harness hides nothing.
+fn is_installed(compiler: &str) -> bool {
+    let found = Command::new(compiler).arg("--version").output().is_ok();
+    if !found {
+        let skipped = format!("{compiler} is not installed: the header is not compiled with it");
+        writeln!(io::stderr(), "{skipped}").expect("stderr can be written to");
+    }
+    found
+}
+
+/// Compiles the C program with every warning an error, links the static library, and runs it.
+fn assert_compiled_program_answers(compiler: &str, language: &str, standard: &str) {
+    if !is_installed(compiler) {
+        return;
+    }
+    let program = Path::new(env!("CARGO_TARGET_TMPDIR")).join(format!("bound_{language}"));
+    let compiled = Command::new(compiler)
+        .arg(format!("-std={standard}"))
+        .args(["-Wall", "-Wextra", "-Wpedantic", "-Werror"])
+        .arg(format!("-I{HOST}/../include"))
+        .args(["-x", language, &format!("{HOST}/tests/c/bound.c")])
+        .args(["-x", "none"])
+        .arg(format!("{HOST}/../target/staticlib/libfrontier.a"))
+        .arg("-o")
+        .arg(&program)
+        .output()
+        .expect("the compiler starts");
+    let complaint = String::from_utf8_lossy(&compiled.stderr);
+    assert!(compiled.status.success(), "{compiler}: {complaint}");
+    let run = Command::new(&program).output().expect("the program starts");
+    assert_eq!(String::from_utf8_lossy(&run.stdout), C_ANSWERS);
+    assert!(run.status.success());
+}
+
+#[test]
+fn a_c11_program_calls_the_library() {
+    assert_compiled_program_answers("cc", "c", "c11");
+}
+
+#[test]
+fn a_cxx_program_calls_the_library() {
+    assert_compiled_program_answers("c++", "c++", "c++11");
 }

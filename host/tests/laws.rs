@@ -7,15 +7,18 @@ use std::collections::BTreeMap;
 
 use checker::case::{ask, Case};
 use checker::law::{
-    bound_law, bytes_law, cut_law, exchange_law, flat_law, points_law, sides_refusal, Cutter,
+    bound_law, bytes_law, cut_law, exchange_law, flat_law, points_law, sides_refusal, Bounder,
+    Cutter,
 };
 use checker::mutants::{
-    each_faulty_bounder, each_faulty_lister, each_missided_cutter, each_missized_cutter,
-    each_untidy_solver, each_wrong_solver, wrong_lists, WRONG_LISTS,
+    each_faulty_bounder, each_faulty_lister, each_misread_bounder, each_missided_cutter,
+    each_missized_cutter, each_untidy_solver, each_wrong_solver, wrong_lists, WRONG_LISTS,
 };
 use checker::{check_frontier, consistent_choices, ensure, record_starts, Verdict};
 use frontier_host::brute::{bound_prefix, list_points, solve_cut, solve_problem};
+use frontier_host::chooser;
 use frontier_host::examples::{colours, objects, pair, three};
+use frontier_host::mixed::Mixed;
 use frontier_host::owned::{cut_of, frontier_of, Listed};
 use frontier_host::problem::FORBIDDEN;
 use frontier_host::random::{bad_sides, damage, random_sides, uncrossed_sides};
@@ -74,6 +77,11 @@ fn sides_may_be_exchanged() {
 #[test]
 fn bounds_are_bounds() {
     ask(CASES, |case| bound_law(case, &bound_prefix));
+}
+
+#[test]
+fn bounds_of_the_static_library_are_bounds() {
+    ask(CASES, |case| bound_law(case, &chooser::bound_prefix));
 }
 
 #[test]
@@ -226,6 +234,16 @@ fn faulty_flat_calls_are_caught() {
 fn faulty_point_and_bound_calls_are_caught() {
     each_faulty_lister(|name, call| assert_caught(name, |case| points_law(case, call)));
     each_faulty_bounder(|name, call| assert_caught(name, |case| bound_law(case, call)));
+}
+
+#[test]
+fn faulty_bound_calls_are_caught_by_mixed_cases() {
+    let assert_differs = |name: &str, call: Bounder| {
+        let differs = (0..FEW).any(|seed| Mixed::new(seed).compare(call).is_err());
+        assert!(differs, "{name} is not caught");
+    };
+    each_faulty_bounder(assert_differs);
+    each_misread_bounder(assert_differs);
 }
 
 #[test]

@@ -1,6 +1,7 @@
 //! Test vectors beyond document 01's table, most of them worked examples of the source documents.
 
 use frontier_host::brute::{bound_prefix, list_points, solve_problem, Answer, Point};
+use frontier_host::chooser;
 use frontier_host::examples::{
     all_clauses, colours, colours_first, constant, days_and_gain, objects, pair_with_constant,
     unary, xor,
@@ -93,7 +94,9 @@ fn bounds_of_objects() {
         (&[0, 0, 1], [6, 2, 3, 0]),
     ];
     for (prefix, least) in bounds {
-        assert_eq!(bound_prefix(&bytes, prefix).least, least, "{prefix:?}");
+        for bound in [bound_prefix, chooser::bound_prefix] {
+            assert_eq!(bound(&bytes, prefix).least, least, "{prefix:?}");
+        }
     }
 }
 
@@ -143,12 +146,9 @@ fn entries_use_all_four_bytes_and_the_last_variable_runs_fastest() {
         tables: vec![Table::new(0, &[0, 1, 2], &costs)],
     };
     assert_points(&problem, &[(&[0x00ff_ffff], &[1, 2, 1])]);
-    assert_eq!(
-        bound_prefix(&problem.encode(), &[1, 2]).least[0],
-        0x00ff_ffff
-    );
-    assert_eq!(
-        bound_prefix(&problem.encode(), &[1, 1]).least[0],
-        0x0100_0000
-    );
+    for bound in [bound_prefix, chooser::bound_prefix] {
+        let least = |prefix: &[u8]| bound(&problem.encode(), prefix).least[0];
+        assert_eq!(least(&[1, 2]), 0x00ff_ffff);
+        assert_eq!(least(&[1, 1]), 0x0100_0000);
+    }
 }

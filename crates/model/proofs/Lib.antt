@@ -46,3 +46,14 @@ pub mod Demands
 -- what is proved by computation
 pub mod Computing
 pub mod Counterexample
+-- the examples: rows of one table
+pub mod ExampleBytes
+pub mod ExampleProblems
+pub mod ExampleRow
+pub mod RowBuilders
+pub mod StarredRows
+pub mod ReadingRows
+pub mod FrontierRows
+pub mod CutRows
+pub mod BoundRows
+pub mod Rows

@@ -264,3 +264,32 @@ pub fn each_faulty_bounder(test: impl Fn(&str, Bounder)) {
         bound
     });
 }
+
+/// Hands each bound call that tells a refusal wrongly to the test, by name. Valid problems with
+/// good prefixes do not tell these apart.
+pub fn each_misread_bounder(test: impl Fn(&str, Bounder)) {
+    test("place dropped", &|problem, prefix| Least {
+        place: 0,
+        ..bound_prefix(problem, prefix)
+    });
+    test(
+        "prefix asked first",
+        &|problem, prefix| match prefix.len() > MAX_VARIABLES {
+            true => Refusal::placeless(16).into(),
+            false => bound_prefix(problem, prefix),
+        },
+    );
+    test("least after a refusal", &|problem, prefix| {
+        let mut bound = bound_prefix(problem, prefix);
+        bound.least[0] |= u64::from(bound.number != 0);
+        bound
+    });
+    test("last byte not read", &|problem, prefix| {
+        bound_prefix(&problem[..problem.len().saturating_sub(1)], prefix)
+    });
+    test("value at its domain's size", &|problem, prefix| {
+        let mut bound = bound_prefix(problem, prefix);
+        bound.number %= 16;
+        bound
+    });
+}

@@ -1,0 +1,52 @@
+//! The proved chooser by way of its C interface: what `include/frontier.h` declares, and for each
+//! call a safe wrapper that answers as the brute force does.
+
+use crate::bound::Least;
+use crate::limits::MAX_OBJECTIVES;
+
+// The exported calls. Nothing checks these lines against the library, so they stand together and
+// in the header's order, to be compared by eye.
+extern "C" {
+    fn frontier_bound(
+        problem: *const u8,
+        problem_len: usize,
+        prefix: *const u8,
+        prefix_len: usize,
+        least: *mut [u64; MAX_OBJECTIVES],
+        place: *mut u32,
+    ) -> u8;
+}
+
+/// The bound call as C has it: the number of refusal is the result, and `least` and `place` are
+/// written whatever they held. Callers that only want the answer use `bound_prefix`.
+pub fn write_bound(
+    problem: &[u8],
+    prefix: &[u8],
+    least: &mut [u64; MAX_OBJECTIVES],
+    place: &mut u32,
+) -> u8 {
+    // SAFETY: each pointer comes from a reference, so it is aligned, never null (not even for an
+    // empty slice) and valid for the length beside it; the two that are written are exclusive.
+    // The call keeps no pointer after it returns.
+    unsafe {
+        frontier_bound(
+            problem.as_ptr(),
+            problem.len(),
+            prefix.as_ptr(),
+            prefix.len(),
+            least,
+            place,
+        )
+    }
+}
+
+/// Bounds the cost of every completion of a prefix: values for variables 0, 1, and so on.
+pub fn bound_prefix(problem: &[u8], prefix: &[u8]) -> Least {
+    let (mut least, mut place) = ([0; MAX_OBJECTIVES], 0);
+    let number = write_bound(problem, prefix, &mut least, &mut place);
+    Least {
+        number,
+        place,
+        least,
+    }
+}
