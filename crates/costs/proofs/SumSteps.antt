@@ -18,18 +18,18 @@ use Rattle.costs.proofs.RecordSteps.{whole-next, tables-next}
 
 -- ## vectors of sums
 
-all-set : (P : ℕ → Type 0) (xs : List ℕ) (i x : ℕ) → All P xs → P x → All P (set xs i x)
+pub all-set : (P : ℕ → Type 0) (xs : List ℕ) (i x : ℕ) → All P xs → P x → All P (set xs i x)
 all-set P [] i x h p = h
 all-set P (y ∷ xs) zero x h p = (p, h .1)
 all-set P (y ∷ xs) (suc i) x h p = (h .0, all-set P xs i x (h .1) p)
 
 module _ (f : Table → ℕ) where
-  added-zeros : (p o : ℕ) (ts : List Table) → added (replicate p 0) (totalsFrom p o f ts) ≡ totalsFrom p o f ts
+  pub added-zeros : (p o : ℕ) (ts : List Table) → added (replicate p 0) (totalsFrom p o f ts) ≡ totalsFrom p o f ts
   unfolding added totalsFrom
   added-zeros zero o ts = refl
   added-zeros (suc p) o ts = rw (zero-add, added-zeros p (suc o) ts)
 
-  added-none : (p o : ℕ) (xs : List ℕ) → length xs ≡ p → added xs (totalsFrom p o f []) ≡ xs
+  pub added-none : (p o : ℕ) (xs : List ℕ) → length xs ≡ p → added xs (totalsFrom p o f []) ≡ xs
   unfolding added totalsFrom total
   added-none p o [] e = refl
   added-none zero o (x ∷ xs) e = absurd (omega arith)
@@ -50,7 +50,7 @@ module _ (f : Table → ℕ) where
     totals-other zero o h = refl
     totals-other (suc p) o h = rw (total-other o (λ e. omega arith), totals-other p (suc o) (omega arith))
 
-    added-next : (p o i : ℕ) (xs : List ℕ) → length xs ≡ p → i < p → t .objective ≡ o + i → added (set xs i (getD xs i 0 + f t)) (totalsFrom p o f ts) ≡ added xs (totalsFrom p o f (t ∷ ts))
+    pub added-next : (p o i : ℕ) (xs : List ℕ) → length xs ≡ p → i < p → t .objective ≡ o + i → added (set xs i (getD xs i 0 + f t)) (totalsFrom p o f ts) ≡ added xs (totalsFrom p o f (t ∷ ts))
     unfolding added totalsFrom
     added-next p o i [] l h e = absurd (omega arith)
     added-next zero o i (x ∷ xs) l h e = absurd (omega arith)

@@ -152,10 +152,10 @@ module _ (q : Problem) (ps : List Point) where
   seen-all : (r : Point) → Left r → Seen Left (Through (q .domains) []) r
   seen-all r u = (u, inr (u .0 .complete, tt))
 
-  pass-none : Prefix (Reached q) ps → After [] nothing → ps ≡ frontier q
+  pub pass-none : Prefix (Reached q) ps → After [] nothing → ps ≡ frontier q
   pass-none f k = none-left q ps f (λ r u. k r (seen-all r u))
 
-  pass-some : (x : Point) → Prefix (Reached q) ps → After [] (just x) → Prefix (Reached q) (ps ++ (x ∷ []))
+  pub pass-some : (x : Point) → Prefix (Reached q) ps → After [] (just x) → Prefix (Reached q) (ps ++ (x ∷ []))
   pass-some x f k = next-point q ps f x (record { inside = k .inside .0; least = λ r u. k .least r (seen-all r u) })
 
 -- a rule to leave branches unopened is sound, if what it leaves is hopeless
@@ -164,8 +164,8 @@ Sound q skip = (ps : List Point) → Prefix (Reached q) ps → (pre : List ℕ) 
 
 module _ (q : Problem) (skip : List Point → List ℕ → Held → Bool) where
   module _ (sound : Sound q skip) where
-    held : (ps : List Point) → Prefix (Reached q) ps → After q ps [] (pass q skip ps)
-    held ps f = search-holds q ps (skip ps) (sound ps f)
+    pub pass-holds : (ps : List Point) → Prefix (Reached q) ps → After q ps [] (pass q skip ps)
+    pass-holds ps f = search-holds q ps (skip ps) (sound ps f)
 
     done-solved : (room : ℕ) (ps : List Point) → Prefix (Reached q) ps → length ps ≤ room → After q ps [] nothing → done ps ≡ solved q room
     unfolding solved
@@ -179,12 +179,12 @@ module _ (q : Problem) (skip : List Point → List ℕ → Held → Bool) where
 
     passes-solve : (n room : ℕ) (ps : List Point) → Prefix (Reached q) ps → n + length ps ≡ room → passes n q skip ps ≡ solved q room
     unfolding passes
-    passes-solve zero room ps f c = go (pass q skip ps) refl (held ps f)
+    passes-solve zero room ps f c = go (pass q skip ps) refl (pass-holds ps f)
       where
         go : (h : Held) → pass q skip ps ≡ h → After q ps [] h → passes zero q skip ps ≡ solved q room
         go nothing e k = rw (e, passes) (done-solved room ps f (omega arith) k)
         go (just x) e k = rw (e, passes) (full-solved room (ps ++ (x ∷ [])) (pass-some q ps x f k) (omega (arith, length-append ps (x ∷ []))))
-    passes-solve (suc n) room ps f c = go (pass q skip ps) refl (held ps f) (λ x k. passes-solve n room (ps ++ (x ∷ [])) (pass-some q ps x f k) (omega (arith, length-append ps (x ∷ []))))
+    passes-solve (suc n) room ps f c = go (pass q skip ps) refl (pass-holds ps f) (λ x k. passes-solve n room (ps ++ (x ∷ [])) (pass-some q ps x f k) (omega (arith, length-append ps (x ∷ []))))
       where
         go : (h : Held) → pass q skip ps ≡ h → After q ps [] h → ((x : Point) → After q ps [] (just x) → passes n q skip (ps ++ (x ∷ [])) ≡ solved q room) → passes (suc n) q skip ps ≡ solved q room
         go nothing e k r = rw (e, passes) (done-solved room ps f (omega arith) k)
