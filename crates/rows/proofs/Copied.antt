@@ -1,0 +1,48 @@
+-- The first n elements of a list, written over a buffer from a place on, one after another; and a list written behind another.
+use mathlib.Core.Path.{_≡_, ap₂, _∙_}
+use mathlib.Core.List.{List, _++_}
+use Prim.Native.Nat.{ℕ, _+_, _≤_, _<_}
+use native.Mathlib.Omega.{arith}
+use native.Mathlib.Nat.{add-assoc}
+use native.Mathlib.Numerals.{add-one}
+use lib.ListN.{length, take, drop, getD, set, length-append}
+use lib.Seq.{paste, paste-zero, paste-suc, length-paste, take-at, drop-append-add, drop-drop, length-take-le}
+
+-- i of them are written
+pub record Copied (old : List ℕ) (at : ℕ) (xs : List ℕ) (n : ℕ) (new : List ℕ) (i : ℕ) : Type 0 where
+  pub fewer : i ≤ n
+  pub room : at + n ≤ length old
+  pub long : n ≤ length xs
+  pub holds : new ≡ paste old at xs i
+
+pub copied-start : (old : List ℕ) (at : ℕ) (xs : List ℕ) (n : ℕ) → at + n ≤ length old → n ≤ length xs → Copied old at xs n old 0
+copied-start old at xs n r l = record { fewer = omega arith; room = r; long = l; holds = paste-zero old at xs }
+
+module _ {old : List ℕ} {at : ℕ} {xs : List ℕ} {n : ℕ} {new : List ℕ} {i : ℕ} (u : Copied old at xs n new i) where
+  pub copied-length : length new ≡ length old
+  copied-length = rw (u .holds) (length-paste old at xs i (omega arith) (omega arith))
+
+  pub copied-end : n ≤ i → new ≡ paste old at xs n
+  copied-end h =
+      let last : i ≡ n = omega arith in
+      rw last at (u .holds)
+
+  pub copied-next : i < n → (x : ℕ) → x ≡ getD xs i 0 → Copied old at xs n (set new (at + i) x) (i + 1)
+  copied-next h x e =
+      record {
+        fewer = omega arith;
+        room = u .room;
+        long = u .long;
+        holds = rw (e, u .holds, add-one) (paste-suc old at xs i 0 (omega arith) (omega arith));
+      }
+
+-- ys written behind xs, where xs ends at a
+pub written-behind : (xs ys old : List ℕ) (a b : ℕ) → length xs ≡ a → take a (xs ++ drop a old) ++ ys ++ drop (a + b) (xs ++ drop a old) ≡ xs ++ ys ++ drop (a + b) old
+written-behind xs ys old a b e =
+    ap₂ (λ (f r : List ℕ). f ++ ys ++ r) (take-at xs (drop a old) a e) ((rw e at (drop-append-add xs (drop a old) b)) ∙ drop-drop b a old)
+
+-- xs written at a place, and ys behind it
+pub written-twice : (old xs ys one two : List ℕ) (at a b : ℕ) → at + a ≤ length old → length xs ≡ a → one ≡ take at old ++ xs ++ drop (at + a) old → two ≡ take (at + a) one ++ ys ++ drop (at + a + b) one → two ≡ take at old ++ xs ++ ys ++ drop (at + (a + b)) old
+written-twice old xs ys one two at a b r l e f =
+    let front : length (take at old ++ xs) ≡ at + a = omega (arith, length-append (take at old) xs, length-take-le at old (omega arith)) in
+    f ∙ rw (e, ← add-assoc at a b) (written-behind (take at old ++ xs) ys old (at + a) b front)

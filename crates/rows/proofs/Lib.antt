@@ -1,0 +1,6 @@
+-- The laws that the functions' proofs share.
+pub mod Arrays
+pub mod Copied
+pub mod PaddedParts
+pub mod RowsOut
+pub mod RowParts

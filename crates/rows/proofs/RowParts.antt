@@ -1,0 +1,48 @@
+-- The costs and the values in a row: the lists of them that the buffers take, their lengths, and what each has of what all have.
+use mathlib.Core.Path.{_≡_, refl, ap}
+use mathlib.Core.List.{List, _++_}
+use Prim.Native.Nat.{ℕ, zero, suc, _+_, _≤_, _<_}
+use native.Mathlib.Omega.{arith}
+use native.Mathlib.Nat.{add-zero}
+use lib.ListN.{length, take, drop, length-drop}
+use lib.Seq.{length-take-le}
+use Rattle.model.specs.Basics.{All}
+use Rattle.model.specs.Limits.{maxObjectives, maxVariables, maxPoints}
+use Rattle.model.specs.Frontiers.{Point}
+use Rattle.model.specs.Calls.{flatCosts, flatChoices}
+use Rattle.groups.specs.Layout.{listEnd}
+use Rattle.rows.specs.Rows.{rowAt, pointIn, listIn}
+use Rattle.rows.proofs.RowsOut.{joined}
+
+abbrev pub costsIn : ℕ → List ℕ → ℕ → List ℕ
+costsIn p work row = take p (drop (rowAt row) work)
+
+abbrev pub valuesIn : ℕ → List ℕ → ℕ → List ℕ
+valuesIn n work row = take n (drop (rowAt row + 4) work)
+
+module _ (p n : ℕ) (work : List ℕ) where
+  pub flat-costs : (i k : ℕ) → flatCosts (listIn p n work i k) ≡ joined (costsIn p work) i k
+  unfolding flatCosts listIn joined
+  flat-costs i zero = refl
+  flat-costs i (suc k) = ap (_++_ (costsIn p work i)) (flat-costs (i + 1) k)
+
+  pub flat-choices : (i k : ℕ) → flatChoices (listIn p n work i k) ≡ joined (valuesIn n work) i k
+  unfolding flatChoices listIn joined
+  flat-choices i zero = refl
+  flat-choices i (suc k) = ap (_++_ (valuesIn n work i)) (flat-choices (i + 1) k)
+
+  -- what every listed point has, each row has
+  pub row-has : (P : Point → Type 0) (i k : ℕ) → All P (listIn p n work i k) → (row : ℕ) → row < k → P (pointIn p n work (i + row))
+  unfolding listIn
+  row-has P i zero h row l = absurd (omega arith)
+  row-has P i (suc k) h zero l = rw add-zero (h .0)
+  row-has P i (suc k) h (suc row) l =
+      let e : i + 1 + row ≡ i + suc row = omega arith in
+      rw e at (row-has P (i + 1) k (h .1) row (omega arith))
+
+module _ (work : List ℕ) (row : ℕ) (long : listEnd ≤ length work) (few : row < maxPoints) where
+  pub costs-long : (p : ℕ) → p ≤ maxObjectives → length (costsIn p work row) ≡ p
+  costs-long p h = length-take-le p (drop (rowAt row) work) (omega (arith, length-drop (rowAt row) work))
+
+  pub values-long : (n : ℕ) → n ≤ maxVariables → length (valuesIn n work row) ≡ n
+  values-long n h = length-take-le n (drop (rowAt row + 4) work) (omega (arith, length-drop (rowAt row + 4) work))

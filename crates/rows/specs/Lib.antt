@@ -1,0 +1,2 @@
+-- The listed points in work memory.
+pub mod Rows

@@ -1,0 +1,9 @@
+-- The laws that the functions' proofs share.
+pub mod Fours
+pub mod Matching
+pub mod Touched
+pub mod SumLimits
+pub mod PrefixSteps
+pub mod Partials
+pub mod Opening
+pub mod Steps

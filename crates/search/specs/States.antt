@@ -1,0 +1,69 @@
+-- What the search's functions rely on and ensure.
+use mathlib.Core.Path.{_≡_}
+use mathlib.Core.Bool.{Bool, true, _||_, not}
+use mathlib.Core.List.{List, [], _∷_, _++_}
+use Prim.Native.Nat.{ℕ, _-_, _≤_, _<_}
+use lib.ListN.{length, getD, take, drop}
+use Rattle.model.specs.Basics.{All, pick, when}
+use Rattle.model.specs.Limits.{maxObjectives, maxPoints}
+use Rattle.model.specs.Problems.{Table, Problem}
+use Rattle.model.specs.Reading.{tableObjective}
+use Rattle.model.specs.Vectors.{under}
+use Rattle.model.specs.Costs.{totalsFrom}
+use Rattle.model.specs.Frontiers.{Point, point}
+use Rattle.model.specs.Bounds.{prefixOk, leastOf, boundOf}
+use Rattle.model.specs.Search.{Held, nothing, just, matched, late, dead, tries, opens}
+use Rattle.groups.specs.Groups.{hasVariable, tablesOver, placesIn, Grouped}
+use Rattle.rows.specs.Rows.{listIn}
+use Rattle.search.specs.declared.Partial as DP
+use Rattle.search.specs.declared.Best as DB
+
+-- what a pass holds
+abbrev pub heldOf : ℕ → ℕ → DB.Best → Held
+heldOf p n h = pick (h .found) (just (point (take p (h .costs)) (take n (h .choice)))) nothing
+
+-- the tables in work memory, and the problem that they make with p objectives, ceilings and domain sizes
+abbrev pub tablesIn : ℕ → List ℕ → List ℕ → List ℕ → List Table
+tablesIn r ds s work = tablesOver ds s (placesIn work r)
+
+abbrev pub problemIn : ℕ → ℕ → List ℕ → List ℕ → List ℕ → List ℕ → Problem
+problemIn p r ceilings ds s work = record { objectives = p; ceilings = take p ceilings; domains = ds; tables = tablesIn r ds s work }
+
+-- the prefix of a partial choice
+abbrev pub prefixOf : DP.Partial → List ℕ
+prefixOf x = take (x .len) (x .values)
+
+-- what the test for a hopeless branch computes: the model's `dead`, of any problem with these ceilings
+abbrev pub deadIn : ℕ → ℕ → ℕ → List ℕ → List ℕ → DB.Best → List ℕ → Bool
+deadIn p n k ceilings work best b = not (under b (take p ceilings)) || (matched b (listIn p n work 0 k) || late (heldOf p n best) b)
+
+-- the rule of the search: the bound is dead
+abbrev pub ruleOf : Problem → List Point → List ℕ → Held → Bool
+ruleOf q ps pre h = dead q ps h (boundOf q pre)
+
+-- memory in which a pass may run: grouped records of p objectives, and k listed points
+pub record Setting (p r k : ℕ) (ds s work : List ℕ) : Type 0 where
+  pub grouped : Grouped ds s work r
+  pub objectives : p ≤ maxObjectives
+  pub owners : All (λ at. tableObjective (drop at s) < p) (placesIn work r)
+  pub count : k ≤ maxPoints
+
+-- a partial choice stands for its prefix, with the prefix's bound in all four objectives
+pub record Stands (r : ℕ) (ds s work : List ℕ) (x : DP.Partial) : Type 0 where
+  pub short : x .len ≤ length ds
+  pub good : prefixOk ds (prefixOf x) ≡ true
+  pub exact : x .bound ≡ totalsFrom maxObjectives 0 (leastOf ds (prefixOf x)) (tablesIn r ds s work)
+
+-- what the records that variable v does not touch add to the bound of a prefix
+abbrev pub untouched : ℕ → List ℕ → List ℕ → Table → ℕ
+untouched v ds pre t = when (not (hasVariable v (t .scope))) (leastOf ds pre t)
+
+abbrev pub Rest : ℕ → List ℕ → List ℕ → List ℕ → DP.Partial → List ℕ → Type 0
+Rest r ds s work x rest = rest ≡ totalsFrom maxObjectives 0 (untouched (x .len) ds (prefixOf x)) (tablesIn r ds s work)
+
+-- the search of all that goes on from a prefix, and of its values from v on
+abbrev pub opensFrom : Problem → List Point → List ℕ → Held → Held
+opensFrom q ps pre h = opens q ps (ruleOf q ps) (drop (length pre) (q .domains)) pre h
+
+abbrev pub triesFrom : Problem → List Point → List ℕ → ℕ → Held → Held
+triesFrom q ps pre v h = tries (getD (q .domains) (length pre) 0 - v) v (λ a g. opensFrom q ps (pre ++ (a ∷ [])) g) h

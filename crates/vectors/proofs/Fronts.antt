@@ -1,0 +1,30 @@
+-- The first p numbers of an array of four, one at a time.
+use mathlib.Core.Path.{_≡_, ap, _∙_}
+use mathlib.Core.List.{List, [], _∷_}
+use Prim.Native.Nat.{ℕ, _+_, _≤_, _<_}
+use native.Mathlib.Omega.{arith}
+use native.Mathlib.Numerals.{add-one}
+use lib.ListN.{length, getD, take, drop, drop-of-length-le}
+use lib.Seq.{drop-cons, getD-take, length-take-le}
+use mir.Syntax.{w64}
+use mir.Val.{Val}
+use denote.Plain.{UInt}
+use denote.Array.{Array}
+use denote.Laws.{Is}
+use Rattle.model.specs.Limits.{maxObjectives}
+
+-- an array that is a parameter by value has its length
+pub array-length : (a : List ℕ) (vs : List Val) → Is (Array (UInt w64) maxObjectives) a vs → length a ≡ maxObjectives
+array-length a vs h = h .1 .0 .1
+
+module _ (a : List ℕ) (vs : List Val) (good : Is (Array (UInt w64) maxObjectives) a vs) (p i : ℕ) (few : p ≤ maxObjectives) where
+  front-long : length (take p a) ≡ p
+  front-long = length-take-le p a (omega (arith, array-length a vs good))
+
+  -- what is left from i on begins with number i
+  pub front-cons : i < p → drop i (take p a) ≡ getD a i 0 ∷ drop (i + 1) (take p a)
+  front-cons h = rw add-one (drop-cons (take p a) i 0 (omega (arith, front-long)) ∙ ap (λ x. x ∷ drop (Prim.Native.Nat.suc i) (take p a)) (getD-take p a i 0 h))
+
+  -- nothing is left from p on
+  pub front-end : p ≤ i → drop i (take p a) ≡ []
+  front-end h = drop-of-length-le (take p a) {i = i} (omega (arith, front-long))

@@ -1,0 +1,15 @@
+-- A cost vector is four numbers, of which the first p count, whatever stands beyond them.
+use mathlib.Core.Bool.{Bool}
+use mathlib.Core.List.{List}
+use Prim.Native.Nat.{ℕ}
+use lib.ListN.{take}
+use Rattle.model.specs.Vectors.{under, atMost, earlier}
+
+abbrev pub frontUnder : ℕ → List ℕ → List ℕ → Bool
+frontUnder p a ceilings = under (take p a) (take p ceilings)
+
+abbrev pub frontAtMost : ℕ → List ℕ → List ℕ → Bool
+frontAtMost p a b = atMost (take p a) (take p b)
+
+abbrev pub frontEarlier : ℕ → List ℕ → List ℕ → Bool
+frontEarlier p a b = earlier (take p a) (take p b)

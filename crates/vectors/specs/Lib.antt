@@ -1,0 +1,2 @@
+-- Vectors as the code holds them.
+pub mod Fronts

@@ -1,0 +1,53 @@
+// Cost vectors: under the ceilings, at most, earlier. One function each for every number of objectives.
+ghost use mathlib.Core.Path.{_≡_};
+ghost use Prim.Native.Nat.{_≤_};
+ghost use Rattle.model.specs.Limits.{maxObjectives};
+ghost use Rattle.vectors.specs.Fronts.{frontUnder, frontAtMost, frontEarlier};
+
+// Whether each of the first `p` costs is strictly below its ceiling.
+pub fn is_under(a: [u64; 4], ceilings: [u64; 4], p: usize) -> bool
+    requires { ⌜ p ≤ maxObjectives ⌝ }
+    ensures { λ r. ⌜ r ≡ frontUnder p a ceilings ⌝ }
+{
+    let mut i: usize = 0;
+    while i < p {
+        if a[i] >= ceilings[i] {
+            return false;
+        }
+        i += 1;
+    }
+    true
+}
+
+// Whether `a` matches or beats `b`: each of the first `p` costs is at most the other's.
+pub fn is_at_most(a: [u64; 4], b: [u64; 4], p: usize) -> bool
+    requires { ⌜ p ≤ maxObjectives ⌝ }
+    ensures { λ r. ⌜ r ≡ frontAtMost p a b ⌝ }
+{
+    let mut i: usize = 0;
+    while i < p {
+        if a[i] > b[i] {
+            return false;
+        }
+        i += 1;
+    }
+    true
+}
+
+// Whether `a` comes before `b` in list order, by the first `p` costs.
+pub fn is_earlier(a: [u64; 4], b: [u64; 4], p: usize) -> bool
+    requires { ⌜ p ≤ maxObjectives ⌝ }
+    ensures { λ r. ⌜ r ≡ frontEarlier p a b ⌝ }
+{
+    let mut i: usize = 0;
+    while i < p {
+        if a[i] < b[i] {
+            return true;
+        }
+        if b[i] < a[i] {
+            return false;
+        }
+        i += 1;
+    }
+    false
+}
