@@ -7,11 +7,11 @@ use borrow.Author.Tests.{lt-ltb, le-ltb}
 use lib.ListN.{length, getD}
 use Rattle.model.specs.Bounds.{leastTo, leastFrom}
 
--- the least of f 0 to f i, from that of those before
-pub least-next : (i : ℕ) (f : ℕ → ℕ) → 1 ≤ i → leastTo (i + 1 - 1) f ≡ min (leastTo (i - 1) f) (f i)
+-- the least of f 0 to f i, from that of those before; for f 0 from itself
+pub least-next : (i : ℕ) (f : ℕ → ℕ) → leastTo (i + 1 - 1) f ≡ min (leastTo (i - 1) f) (f i)
 unfolding leastTo
-least-next zero f h = absurd (omega arith)
-least-next (suc i) f h =
+least-next zero f = omega arith
+least-next (suc i) f =
     let a : suc i + 1 - 1 ≡ suc i = omega arith in
     let b : suc i - 1 ≡ i = omega arith in
     rw (a, b)
@@ -20,11 +20,6 @@ least-next (suc i) f h =
 pub least-none : (ds pre : List ℕ) (entry : ℕ → ℕ) (i : ℕ) → leastFrom ds pre entry i [] ≡ entry i
 unfolding leastFrom
 least-none ds pre entry i = refl
-
--- the least over the values of the last variable is the least of a row of entries
-pub least-last : (n : ℕ) (ds pre : List ℕ) (entry : ℕ → ℕ) (i : ℕ) (vs : List ℕ) {r : ℕ} → vs ≡ [] → r ≡ leastTo n (λ a. entry (i + a)) → r ≡ leastTo n (λ a. leastFrom ds pre entry (i + a) vs)
-unfolding leastFrom
-least-last n ds pre entry i vs h e = rw h e
 
 -- else the prefix's value of the first variable, or the least over its domain
 module _ (ds pre : List ℕ) (entry : ℕ → ℕ) (i v : ℕ) (vs : List ℕ) where

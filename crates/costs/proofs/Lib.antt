@@ -4,5 +4,7 @@ pub mod TableEntries
 pub mod Rooms
 pub mod PrefixSteps
 pub mod LeastSteps
+pub mod LeastRuns
+pub mod RunSteps
 pub mod RecordSteps
 pub mod SumSteps

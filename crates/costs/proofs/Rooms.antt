@@ -1,23 +1,18 @@
 -- Room for an index: after the first k variables of a scope, index i has as many entries as the other variables have values, all in the table.
 use mathlib.Core.Path.{_≡_}
-use mathlib.Core.List.{List, [], _∷_}
+use mathlib.Core.List.{List}
 use Prim.Native.Nat.{ℕ, suc, _+_, _*_, _≤_, _<_}
 use native.Mathlib.Omega.{arith}
-use native.Mathlib.Nat.{le-trans, suc-mul, mul-assoc, mul-pos, mul-le-mul-right, le-mul-of-pos-right}
+use native.Mathlib.Nat.{le-trans, suc-mul, mul-assoc, mul-le-mul-right, le-mul-of-pos-right}
 use lib.ListN.{length, getD, drop}
 use Rattle.model.specs.Basics.{All}
-use Rattle.model.specs.Problems.{DomainSize, InRange, sizeOf}
+use Rattle.model.specs.Problems.{DomainSize, sizeOf}
 use Rattle.model.proofs.Elements.{all-drop}
 use Rattle.problem.specs.Records.{Whole}
-use Rattle.problem.proofs.Sizes.{domain-size}
+use Rattle.problem.proofs.Sizes.{size-positive}
 use Rattle.problem.proofs.WholeRecord.{whole-long}
 use Rattle.costs.specs.Entries.{scopeAt, entriesAt}
 use Rattle.costs.proofs.ScopeVariables.{scope-next}
-
-size-positive : (ds vs : List ℕ) → All DomainSize ds → InRange (length ds) vs → 1 ≤ sizeOf ds vs
-unfolding sizeOf
-size-positive ds [] sizes h = omega arith
-size-positive ds (v ∷ vs) sizes h = mul-pos (domain-size ds sizes v (h .0) .0) (size-positive ds vs sizes (h .1))
 
 -- the entries of one value x of d lie among those of all
 inner : (i d x z : ℕ) → x < d → (i * d + x + 1) * z ≤ (i + 1) * (d * z)
@@ -29,12 +24,13 @@ inner i d x z h =
 abbrev pub Room : List ℕ → List ℕ → ℕ → ℕ → ℕ → Type 0
 Room ds s at k i = (i + 1) * sizeOf ds (drop k (scopeAt s at)) ≤ entriesAt ds s at
 
+-- n indices with room for each are at most as many as there are entries
+pub rooms-fit : (ds s : List ℕ) (at : ℕ) → Whole ds s at → All DomainSize ds → (k n : ℕ) → n * sizeOf ds (drop k (scopeAt s at)) ≤ entriesAt ds s at → n ≤ entriesAt ds s at
+rooms-fit ds s at w sizes k n h = le-trans (le-mul-of-pos-right n (size-positive ds sizes (drop k (scopeAt s at)) (all-drop (λ v. v < length ds) k (scopeAt s at) (w .range)))) h
+
 module _ (ds s : List ℕ) (at : ℕ) (w : Whole ds s at) (sizes : All DomainSize ds) (k i : ℕ) (room : Room ds s at k i) where
   pub room-index : i < entriesAt ds s at
-  room-index =
-      let z = sizeOf ds (drop k (scopeAt s at)) in
-      let one : 1 ≤ z = size-positive ds (drop k (scopeAt s at)) sizes (all-drop (λ v. v < length ds) k (scopeAt s at) (w .range)) in
-      omega (arith, le-mul-of-pos-right (i + 1) one)
+  room-index = omega (arith, rooms-fit ds s at w sizes k (i + 1) room)
 
   pub room-fits : i < length s
   room-fits = omega (arith, room-index, whole-long ds s at w)

@@ -11,6 +11,7 @@ ghost use Rattle.model.specs.Costs.{isChoice, entryFrom, costOf, totalsFrom};
 ghost use Rattle.model.specs.Bounds.{prefixOk, leastTo, leastFrom, leastOf};
 ghost use Rattle.problem.specs.Records.{Whole, AllWhole};
 ghost use Rattle.costs.specs.Entries.{tableAt, entryAt, scopeAt, entriesAt};
+ghost use Rattle.costs.specs.Runs.{RunSays};
 
 // Entry `i` of the table of the record at `at`: the one place that knows where tables stand.
 pub fn table_entry(s: &[u8], at: usize, i: usize, sizes: &[u8]) -> u32
@@ -92,13 +93,13 @@ fn lesser(a: u32, b: u32) -> u32
     b
 }
 
-// The least of `count` entries in a row, from entry `first` on: the last scope variable runs fastest.
+// The least of `count` entries in a row, from entry `first` on. The loop meets the first again: `count` turns suit vectors.
 pub fn least_row(s: &[u8], at: usize, first: usize, count: usize, sizes: &[u8]) -> u32
     requires { ⌜ Whole (now sizes) (now s) at × (1 ≤ count) × (first + count ≤ entriesAt (now sizes) (now s) at) ⌝ }
     ensures { λ r. ⌜ r ≡ leastTo (count - 1) (λ a. entryAt (now (sizes .entry)) (now (s .entry)) at (first + a)) ⌝ }
 {
     let mut least = table_entry(s, at, first, sizes);
-    let mut i: usize = 1;
+    let mut i: usize = 0;
     while i < count {
         least = lesser(least, table_entry(s, at, first + i, sizes));
         i += 1;
@@ -127,9 +128,6 @@ pub fn least_from(s: &[u8], at: usize, k: usize, index: usize, sizes: &[u8], pre
             prefix,
         );
     }
-    if k + 1 == a {
-        return least_row(s, at, index * d, d, sizes);
-    }
     let mut least = least_from(s, at, k + 1, index * d, sizes, prefix);
     let mut x: usize = 1;
     while x < d {
@@ -142,12 +140,49 @@ pub fn least_from(s: &[u8], at: usize, k: usize, index: usize, sizes: &[u8], pre
     least
 }
 
+// A run of entries: `count` of them, from entry `first` on.
+pub struct Run {
+    pub first: usize,
+    pub count: usize,
+}
+
+// The entries of the record at `at` that agree with the prefix, where they stand in a row, else a run of 0.
+// They do where no free variable comes before a fixed one: the last scope variable runs fastest.
+pub fn run_at(s: &[u8], at: usize, sizes: &[u8], prefix: &[u8]) -> Run
+    requires { ⌜ Whole (now sizes) (now s) at × All DomainSize (now sizes) × (prefixOk (now sizes) (now prefix) ≡ true) ⌝ }
+    ensures { λ r. ⌜ RunSays (now (sizes .entry)) (now (prefix .entry)) (now (s .entry)) at r ⌝ }
+{
+    let a = s[at + 3] as usize;
+    let mut first: usize = 0;
+    let mut count: usize = 1;
+    let mut k: usize = 0;
+    while k < a {
+        let v = s[at + 4 + k] as usize;
+        let d = sizes[v] as usize;
+        k += 1;
+        first = first * d;
+        if prefix.len() <= v {
+            count = count * d;
+            continue;
+        }
+        if count != 1 {
+            return Run { first: 0, count: 0 };
+        }
+        first = first + (prefix[v] as usize);
+    }
+    Run { first, count }
+}
+
 // The least entry of the record at `at` that agrees with the prefix.
 pub fn least_at(s: &[u8], at: usize, sizes: &[u8], prefix: &[u8]) -> u32
     requires { ⌜ Whole (now sizes) (now s) at × All DomainSize (now sizes) × (prefixOk (now sizes) (now prefix) ≡ true) ⌝ }
     ensures { λ r. ⌜ r ≡ leastOf (now (sizes .entry)) (now (prefix .entry)) (tableAt (now (sizes .entry)) (now (s .entry)) at) ⌝ }
 {
-    least_from(s, at, 0, 0, sizes, prefix)
+    let t = run_at(s, at, sizes, prefix);
+    if t.count == 0 {
+        return least_from(s, at, 0, 0, sizes, prefix);
+    }
+    least_row(s, at, t.first, t.count, sizes)
 }
 
 // The bound of a prefix: the sums of least entries over the `r` records from `at` on.

@@ -7,6 +7,7 @@ pub mod Chains
 pub mod HeadFields
 pub mod Rising
 pub mod Sizes
+pub mod SizeSteps
 pub mod TableFields
 pub mod WholeRecord
 -- records in a row

@@ -1,8 +1,8 @@
--- The number of a table's entries: at most 512 where the scope has at most three variables that exist.
+-- The number of a table's entries: at least one where the scope's variables exist, at most 512 where they are at most three.
 use Prim.Native.Nat.{ℕ, _^_, _≤_, _<_}
 use mathlib.Core.List.{List, [], _∷_}
 use native.Mathlib.Omega.{arith}
-use native.Mathlib.Nat.{mul-le-mul, pow-succ', pow-le-pow-right, le-trans}
+use native.Mathlib.Nat.{mul-pos, mul-le-mul, pow-succ', pow-le-pow-right, le-trans}
 use lib.ListN.{length, getD}
 use Rattle.model.specs.Basics.{All}
 use Rattle.model.specs.Limits.{maxDomain, maxArity}
@@ -12,6 +12,11 @@ use Rattle.model.proofs.Elements.{all-below}
 module _ (ds : List ℕ) (sizes : All DomainSize ds) where
   pub domain-size : (v : ℕ) → v < length ds → DomainSize (getD ds v 0)
   domain-size v h = all-below DomainSize ds sizes v 0 h
+
+  pub size-positive : (vs : List ℕ) → InRange (length ds) vs → 1 ≤ sizeOf ds vs
+  unfolding sizeOf
+  size-positive [] h = omega arith
+  size-positive (v ∷ vs) h = mul-pos (domain-size v (h .0) .0) (size-positive vs (h .1))
 
   size-power : (vs : List ℕ) → InRange (length ds) vs → sizeOf ds vs ≤ maxDomain ^ length vs
   unfolding sizeOf

@@ -188,12 +188,16 @@ pub fn size_of(s: &[u8], at: usize, arity: usize, sizes: &[u8]) -> usize
     requires { ⌜ (at + arity ≤ length (now s)) × (arity ≤ maxArity) × InRange (length (now sizes)) (take arity (drop at (now s))) × All DomainSize (now sizes) ⌝ }
     ensures { λ r. ⌜ (r ≡ sizeOf (now (sizes .entry)) (take arity (drop at (now (s .entry))))) × (r ≤ 512) ⌝ }
 {
-    if arity == 0 {
-        return 1;
+    let mut size: usize = 1;
+    let mut here = at;
+    let mut left = arity;
+    while left > 0 {
+        let v = s[here] as usize;
+        size = size * (sizes[v] as usize);
+        here += 1;
+        left -= 1;
     }
-    let rest = size_of(s, at + 1, arity - 1, sizes);
-    let v = s[at] as usize;
-    (sizes[v] as usize) * rest
+    size
 }
 
 // What reading a cost record finds: its number of refusal, or 0 and how many bytes it has.

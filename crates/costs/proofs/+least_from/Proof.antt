@@ -2,7 +2,7 @@
 -- The invariant: the least so far is the least over the first x values. The measure is how many variables are left, of three at most.
 use mathlib.Core.Path.{_≡_}
 use mathlib.Core.Bool.{true}
-use mathlib.Core.List.{List, []}
+use mathlib.Core.List.{List}
 use Prim.Native.Nat.{ℕ, _+_, _-_, _*_, _≤_, _<_}
 use native.Mathlib.Omega.{arith}
 use native.Mathlib.Nat.{add-zero}
@@ -19,14 +19,13 @@ use Rattle.model.specs.Bounds.{prefixOk, leastTo, leastFrom}
 use Rattle.problem.specs.Records.{Whole}
 use Rattle.model.proofs.Prefixes.{prefix-below}
 use Rattle.problem.proofs.WholeRecord.{whole-few, whole-long}
-use Rattle.costs.specs.Entries.{entryAt, scopeAt, entriesAt}
+use Rattle.costs.specs.Entries.{entryAt, scopeAt}
 use Rattle.costs.proofs.ScopeVariables.{scope-end, scope-next, variable-exists, variable-size}
 use Rattle.costs.proofs.Rooms.{Room, room-index, room-fits, room-next}
-use Rattle.costs.proofs.LeastSteps.{least-next, least-none, least-last, least-fixed, least-free}
+use Rattle.costs.proofs.LeastSteps.{least-next, least-none, least-fixed, least-free}
 use Rattle.costs.proofs.least_from.Reads as least-from
 use Rattle.costs.proofs.least_from.Kinds as kinds
 use Rattle.costs.proofs.+least_from.Lts-least_from as lts
-use Rattle.costs.proofs.least_row.Reads as least-row-reads
 use Rattle.costs.proofs.lesser.Reads as lesser-reads
 use Rattle.costs.proofs.table_entry.Reads as table-entry-reads
 use Rattle.costs.proofs.+least_from.{statement}
@@ -42,7 +41,7 @@ abbrev asked-below : ℕ → In 3 kinds.ps
 asked-below t = and 3 kinds.ps (falls 3 kinds.ps _<_ μ-least-from t) least-from.Pre
 
 abbrev calls : ℕ → lts.Claims
-calls t = (table-entry-reads.Asked, table-entry-reads.Learnt, asked-below t, least-from.Post, least-row-reads.Asked, least-row-reads.Learnt, lesser-reads.Asked, lesser-reads.Learnt)
+calls t = (table-entry-reads.Asked, table-entry-reads.Learnt, asked-below t, least-from.Post, lesser-reads.Asked, lesser-reads.Learnt)
 
 -- the least over the variables after number k, where it takes the value y of a domain of d
 abbrev after : List ℕ → ℕ → ℕ → ℕ → List ℕ → List ℕ → ℕ → ℕ → ℕ
@@ -108,13 +107,6 @@ module _ (t : ℕ) where
       let a = start c .args in
       let q = start c .pre .1 in
       room-fits (now (a .sizes)) (now (a .s)) (a .at) (q .0) (q .1) (a .k + 1) _ (room c x l)
-
-  row : (c : Variable) → let a = start c .args in a .index * domain c + domain c ≤ entriesAt (now (a .sizes)) (now (a .s)) (a .at)
-  row c =
-      let a = start c .args in
-      let q = start c .pre .1 in
-      let l : domain c - 1 < domain c = omega (arith, size c) in
-      omega (arith, size c, room-index (now (a .sizes)) (now (a .s)) (a .at) (q .0) (q .1) (a .k + 1) _ (room c (domain c - 1) l))
 
   -- what a call for the next variable asks
   again : (c : Variable) (i : ℕ) → let a = start c .args in Room (now (a .sizes)) (now (a .s)) (a .at) (a .k + 1) i → (maxArity - (a .k + 1) < t) × (Whole (now (a .sizes)) (now (a .s)) (a .at) × All DomainSize (now (a .sizes)) × (prefixOk (now (a .sizes)) (now (a .prefix)) ≡ true) × (a .k + 1 ≤ tableArity (drop (a .at) (now (a .s)))) × Room (now (a .sizes)) (now (a .s)) (a .at) (a .k + 1) i)
@@ -219,53 +211,36 @@ module _ (t : ℕ) where
       let q = c .before .before .before .before .before .before .before .before .before .before .pre .1 in
       rw (scope-next (now (a .sizes)) (now (a .s)) (a .at) (q .0) (a .k) (inside (c .before .before .before .before .before)), least-fixed (now (a .sizes)) (now (a .prefix)) (entryAt (now (a .sizes)) (now (a .s)) (a .at)) (a .index) _ (drop (a .k + 1) (scopeAt (now (a .s)) (a .at))) (c .before .before .if2 .taken)) (c .least-from .ensures)
 
-  add-if3 : lts.Need-add-if3 (calls t) (asked t) least-from.Post Inv-loop μ-loop
-  add-if3 c = omega (arith, short (c .before .before .before))
-
-  mul-least-row : lts.Need-mul-least-row (calls t) (asked t) least-from.Post Inv-loop μ-loop
-  mul-least-row c = omega (arith, fits (c .before .before .before .before) 0 (size (c .before .before .before .before) .0))
-
-  least-row-requires : lts.Need-least-row-requires (calls t) (asked t) least-from.Post Inv-loop μ-loop
-  least-row-requires c κs = (c .before .before .before .before .before .before .before .before .before .pre .1 .0, size (c .before .before .before .before) .0, row (c .before .before .before .before))
-
-  returns-3 : lts.Need-returns-3 (calls t) (asked t) least-from.Post Inv-loop μ-loop
-  returns-3 c =
-      let a = c .before .before .before .before .before .before .before .before .before .before .args in
-      let q = c .before .before .before .before .before .before .before .before .before .before .pre .1 in
-      let last : a .k + 1 ≡ getD (now (a .s)) (a .at + 3) 0 = c .before .if3 .taken in
-      let none : drop (a .k + 1) (scopeAt (now (a .s)) (a .at)) ≡ [] = rw last (scope-end (now (a .sizes)) (now (a .s)) (a .at) (q .0)) in
-      free (c .before .before) _ (least-last (domain (c .before .before .before .before .before) - 1) (now (a .sizes)) (now (a .prefix)) (entryAt (now (a .sizes)) (now (a .s)) (a .at)) (a .index * domain (c .before .before .before .before .before)) (drop (a .k + 1) (scopeAt (now (a .s)) (a .at))) none (c .least-row .ensures))
-
   add-least-from-3 : lts.Need-add-least-from-3 (calls t) (asked t) least-from.Post Inv-loop μ-loop
-  add-least-from-3 c = omega (arith, short (c .before .before .before .before))
+  add-least-from-3 c = omega (arith, short (c .before .before .before))
 
   mul-least-from-2 : lts.Need-mul-least-from-2 (calls t) (asked t) least-from.Post Inv-loop μ-loop
-  mul-least-from-2 c = omega (arith, fits (c .before .before .before .before) 0 (size (c .before .before .before .before) .0))
+  mul-least-from-2 c = omega (arith, fits (c .before .before .before) 0 (size (c .before .before .before) .0))
 
   least-from-requires-2 : lts.Need-least-from-requires-2 (calls t) (asked t) least-from.Post Inv-loop μ-loop
-  least-from-requires-2 c κs = again (c .before .before .before .before) _ (first (c .before .before .before .before))
+  least-from-requires-2 c κs = again (c .before .before .before) _ (first (c .before .before .before))
 
   loop-holds : lts.Need-loop-holds (calls t) (asked t) least-from.Post Inv-loop μ-loop
   unfolding leastTo
-  loop-holds c = (omega arith, size (c .before .before .before .before .before) .0, rw add-zero (c .least-from2 .ensures))
+  loop-holds c = (omega arith, size (c .before .before .before .before) .0, rw add-zero (c .least-from2 .ensures))
 
   add-least-from-4 : lts.Need-add-least-from-4 (calls t) (asked t) least-from.Post Inv-loop μ-loop
-  add-least-from-4 c = omega (arith, short (c .before .before .before .before .before .before .before))
+  add-least-from-4 c = omega (arith, short (c .before .before .before .before .before .before))
 
   mul-least-from-3 : lts.Need-mul-least-from-3 (calls t) (asked t) least-from.Post Inv-loop μ-loop
-  mul-least-from-3 c = omega (arith, fits (c .before .before .before .before .before .before .before) 0 (size (c .before .before .before .before .before .before .before) .0))
+  mul-least-from-3 c = omega (arith, fits (c .before .before .before .before .before .before) 0 (size (c .before .before .before .before .before .before) .0))
 
   add-least-from-5 : lts.Need-add-least-from-5 (calls t) (asked t) least-from.Post Inv-loop μ-loop
-  add-least-from-5 c = omega (arith, fits (c .before .before .before .before .before .before .before) (c .before .loop .x) (c .loop-test .taken))
+  add-least-from-5 c = omega (arith, fits (c .before .before .before .before .before .before) (c .before .loop .x) (c .loop-test .taken))
 
   least-from-requires-3 : lts.Need-least-from-requires-3 (calls t) (asked t) least-from.Post Inv-loop μ-loop
-  least-from-requires-3 c κs = again (c .before .before .before .before .before .before .before) _ (room (c .before .before .before .before .before .before .before) (c .before .loop .x) (c .loop-test .taken))
+  least-from-requires-3 c κs = again (c .before .before .before .before .before .before) _ (room (c .before .before .before .before .before .before) (c .before .loop .x) (c .loop-test .taken))
 
   lesser-requires : lts.Need-lesser-requires (calls t) (asked t) least-from.Post Inv-loop μ-loop
   lesser-requires c κs = tt
 
   add-x : lts.Need-add-x (calls t) (asked t) least-from.Post Inv-loop μ-loop
-  add-x c = omega (arith, size (c .before .before .before .before .before .before .before .before .before))
+  add-x c = omega (arith, size (c .before .before .before .before .before .before .before .before))
 
   loop-less : lts.Need-loop-less (calls t) (asked t) least-from.Post Inv-loop μ-loop
   loop-less c = omega arith
@@ -273,13 +248,13 @@ module _ (t : ℕ) where
   loop-again : lts.Need-loop-again (calls t) (asked t) least-from.Post Inv-loop μ-loop
   loop-again c =
       let w = c .before .before .before .loop in
-      (omega arith, omega arith, rw (least-next (w .x) (rest (c .before .before .before .before .before .before .before .before .before)) (w .inv .0), c .lesser .ensures, w .inv .2, c .before .least-from3 .ensures))
+      (omega arith, omega arith, rw (least-next (w .x) (rest (c .before .before .before .before .before .before .before .before)), c .lesser .ensures, w .inv .2, c .before .least-from3 .ensures))
 
-  returns-4 : lts.Need-returns-4 (calls t) (asked t) least-from.Post Inv-loop μ-loop
-  returns-4 c =
+  returns-3 : lts.Need-returns-3 (calls t) (asked t) least-from.Post Inv-loop μ-loop
+  returns-3 c =
       let w = c .before .loop in
-      let end : w .x ≡ domain (c .before .before .before .before .before .before .before) = omega arith in
-      free (c .before .before .before .before) _ (rw end at (w .inv .2))
+      let end : w .x ≡ domain (c .before .before .before .before .before .before) = omega arith in
+      free (c .before .before .before) _ (rw end at (w .inv .2))
 
 pub +least-from-spec : {M : Type 1} → statement M
 +least-from-spec =
@@ -309,10 +284,6 @@ pub +least-from-spec : {M : Type 1} → statement M
     (add-least-from-2 t)
     (least-from-requires t)
     (returns-2 t)
-    (add-if3 t)
-    (mul-least-row t)
-    (least-row-requires t)
-    (returns-3 t)
     (add-least-from-3 t)
     (mul-least-from-2 t)
     (least-from-requires-2 t)
@@ -325,4 +296,4 @@ pub +least-from-spec : {M : Type 1} → statement M
     (add-x t)
     (loop-less t)
     (loop-again t)
-    (returns-4 t)
+    (returns-3 t)

@@ -1,4 +1,4 @@
--- `costs::least_row` meets its contract. The invariant: the least so far is the least of the first i entries.
+-- `costs::least_row` meets its contract. The invariant: the least so far is the least of the first i entries, and the first's for none.
 use mathlib.Core.Path.{_≡_}
 use Prim.Native.Nat.{_+_, _-_, _≤_}
 use native.Mathlib.Omega.{arith}
@@ -12,7 +12,7 @@ use Rattle.costs.proofs.least_row.Statement.{statement}
 use Rattle.costs.proofs.least_row.Tie as tie
 
 abbrev Inv-loop : tie.InvT-loop
-Inv-loop s at first count sizes least₀ i₀ least i = (1 ≤ i) × (i ≤ count) × (least ≡ leastTo (i - 1) (λ a. entryAt sizes s at (first + a)))
+Inv-loop s at first count sizes least₀ i₀ least i = (i ≤ count) × (least ≡ leastTo (i - 1) (λ a. entryAt sizes s at (first + a)))
 
 abbrev μ-loop : tie.MeasureT-loop
 μ-loop s at first count sizes least₀ i₀ least i = count - i
@@ -24,7 +24,7 @@ table-entry-requires c κs =
 
 loop-holds : tie.Need-loop-holds Inv-loop μ-loop
 unfolding leastTo
-loop-holds c = (omega arith, omega (arith, c .before .before .before .pre .1), rw (c .table-entry .ensures, add-zero))
+loop-holds c = (omega arith, rw (c .table-entry .ensures, add-zero))
 
 add-table-entry : tie.Need-add-table-entry Inv-loop μ-loop
 add-table-entry c =
@@ -50,14 +50,14 @@ loop-again : tie.Need-loop-again Inv-loop μ-loop
 loop-again c =
     let a = c .before .before .before .before .before .before .before .args in
     let w = c .before .before .before .loop in
-    (omega arith, omega arith, rw (least-next (w .i) (λ j. entryAt (now (a .sizes)) (now (a .s)) (a .at) (a .first + j)) (w .inv .0), c .lesser .ensures, w .inv .2, c .before .table-entry2 .ensures))
+    (omega arith, rw (least-next (w .i) (λ j. entryAt (now (a .sizes)) (now (a .s)) (a .at) (a .first + j)), c .lesser .ensures, w .inv .1, c .before .table-entry2 .ensures))
 
 returns : tie.Need-returns Inv-loop μ-loop
 returns c =
     let a = c .before .before .before .before .before .args in
     let w = c .before .loop in
     let k : w .i ≡ a .count = omega arith in
-    rw k at (w .inv .2)
+    rw k at (w .inv .1)
 
 pub least-row-spec : {M : Type 1} → statement M
 least-row-spec =
