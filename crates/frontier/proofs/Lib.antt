@@ -1,1 +1,4 @@
 pub mod BoundAnswers
+pub mod SolveAnswers
+pub mod SolveSteps
+pub mod SolveEnds

@@ -1,8 +1,8 @@
--- A property of every element: at one place, from another property, of two lists in a row, of what is left behind a place.
+-- A property of every element: at one place, from another property, of two lists in a row, of a front and of what is left behind it.
 use mathlib.Core.List.{List, [], _∷_, _++_}
 use Prim.Native.Nat.{ℕ, zero, suc, _<_}
 use native.Mathlib.Omega.{arith}
-use lib.ListN.{length, getD, drop}
+use lib.ListN.{length, getD, take, drop}
 use Rattle.model.specs.Basics.{All}
 
 module _ {A : Type 0} (P : A → Type 0) where
@@ -29,3 +29,8 @@ module _ {A : Type 0} (P : A → Type 0) where
   all-drop zero xs h = h
   all-drop (suc n) [] h = h
   all-drop (suc n) (x ∷ xs) h = all-drop n xs (h .1)
+
+  pub all-take : (n : ℕ) (xs : List A) → All P xs → All P (take n xs)
+  all-take zero xs h = tt
+  all-take (suc n) [] h = tt
+  all-take (suc n) (x ∷ xs) h = (h .0, all-take n xs (h .1))

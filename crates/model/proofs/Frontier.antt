@@ -96,7 +96,7 @@ module _ (q : Problem) where
   listed-under p m = let h = frontier-best .listed .sound p m in subst (λ (c : List ℕ). under c (q .ceilings) ≡ true) (sym (h .exact)) (h .allowed)
 
 -- what is below numbers of four bytes has four bytes
-under-words : (xs cs : List ℕ) → length xs ≡ length cs → under xs cs ≡ true → All Word cs → All Word xs
+pub under-words : (xs cs : List ℕ) → length xs ≡ length cs → under xs cs ≡ true → All Word cs → All Word xs
 unfolding under
 under-words [] cs e u w = tt
 under-words (x ∷ xs) [] e u w = absurd (omega arith)
