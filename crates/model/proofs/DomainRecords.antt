@@ -1,10 +1,10 @@
 -- The domain records, in both directions: from sizes to bytes and back.
 use mathlib.Core.Path.{_≡_, refl, ap, sym, _∙_}
 use mathlib.Core.List.{List, [], _∷_, _++_}
-use Prim.Native.Nat.{ℕ, zero, suc, _+_, _*_}
+use Prim.Native.Nat.{ℕ, zero, suc, _+_, _*_, _≤_}
 use native.Mathlib.Omega.{arith}
 use native.Mathlib.Nat.{add-zero}
-use lib.ListN.{length, drop}
+use lib.ListN.{length, drop, length-drop}
 use lib.Seq.{drop-drop, drop-cons}
 use Rattle.model.specs.Basics.{All}
 use Rattle.model.specs.Limits.{maxDomain}
@@ -66,6 +66,14 @@ domains-written (suc n) s at h =
     let start : Marked letterD letterO 1 l = domain-good l (both .0) .start in
     let place : at + 3 * suc n ≡ at + 3 + 3 * n = omega arith in
     rw (place, domains-written n s (at + 3) (both .1), ← drop-drop 3 at s, ← drop-cons l 2 0 (start .long)) (sym (marked-list letterD letterO 1 l start))
+
+-- records that are not refused lie in the bytes
+pub domains-end : (n : ℕ) (s : List ℕ) (at : ℕ) → at ≤ length s → domainsVerdict n s at .number ≡ 0 → at + 3 * n ≤ length s
+unfolding domainsVerdict
+domains-end zero s at h e = omega arith
+domains-end (suc n) s at h e =
+    let both = record-accepts at (domainNumber (drop at s)) (domainsVerdict n s (at + 3)) e in
+    omega (arith, domains-end n s (at + 3) (omega (arith, domain-good (drop at s) (both .0) .start .long, length-drop at s)) (both .1))
 
 pub domain-sizes : (n : ℕ) (s : List ℕ) (at : ℕ) → domainsVerdict n s at .number ≡ 0 → All DomainSize (domainsAt n s at)
 unfolding domainsVerdict domainsAt

@@ -1,20 +1,19 @@
 -- Every verdict has a number up to 11 and a place in the input or at its end.
-use mathlib.Core.Path.{_≡_, refl, ap, sym, _∙_}
+use mathlib.Core.Path.{_≡_, refl, sym, _∙_}
 use mathlib.Core.Bool.{Bool, true, false}
 use mathlib.Core.List.{List}
-use Prim.Native.Nat.{ℕ, zero, suc, _+_, _*_, _≤_}
+use Prim.Native.Nat.{ℕ, zero, suc, _+_, _≤_}
 use native.Mathlib.Omega.{arith}
 use lib.Dec.{eqb, ltb, leb}
-use lib.ListN.{length, drop, length-append, length-drop}
+use lib.ListN.{length, drop, length-drop}
 use borrow.Author.Tests.{eqb-true, leb-true, ltb-false}
 use Rattle.model.specs.Basics.{pick, when, firstOf}
 use Rattle.model.specs.Limits.{maxBytes}
 use Rattle.model.specs.Refusals.{oversize, leftover, Verdict, verdict, accepted, refusedAt, first}
-use Rattle.model.specs.Encoding.{domainBytes}
-use Rattle.model.specs.Reading.{startNumber, headVariables, headObjectives, headTables, headLength, headNumber, domainNumber, tableNumber, tableLength, domainsVerdict, domainsAt, tablesVerdict, domainsOf, tablesStart, bodyVerdict, verdictOf}
+use Rattle.model.specs.Reading.{startNumber, headVariables, headObjectives, headTables, headLength, headNumber, domainNumber, tableNumber, tableLength, domainsVerdict, tablesVerdict, domainsOf, tablesStart, bodyVerdict, verdictOf}
 use Rattle.model.proofs.Verdicts.{number-of-refused}
 use Rattle.model.proofs.HeadRecord.{head-good}
-use Rattle.model.proofs.DomainRecords.{domain-good, domains-written, length-domainBytes, length-domainsAt}
+use Rattle.model.proofs.DomainRecords.{domain-good, domains-end}
 use Rattle.model.proofs.TableRecord.{table-good}
 
 -- ## numbers
@@ -87,19 +86,13 @@ module _ (s : List ℕ) where
       record-told at (tableNumber p ds (drop at s)) (tablesVerdict r p ds s next) h (table-below p ds (drop at s))
       (λ e. tables-told r p ds next (omega (arith, table-good p ds (drop at s) e .long, length-drop at s)))
 
-  domains-end : (n at : ℕ) → at ≤ length s → domainsVerdict n s at .number ≡ 0 → at + 3 * n ≤ length s
-  domains-end n at h e =
-      let ds = domainsAt n s at in
-      let l = ap length (domains-written n s at e) in
-      omega (arith, l, length-append (domainBytes ds) (drop (at + 3 * n) s), length-domainBytes ds, length-domainsAt n s at, length-drop at s, length-drop (at + 3 * n) s)
-
   body-told : headLength s ≤ length s → Told (bodyVerdict s)
   unfolding bodyVerdict
   body-told h =
       let n = headVariables s in
       let start = headLength s in
       first-told (domainsVerdict n s start) (tablesVerdict (headTables s) (headObjectives s) (domainsOf s) s (tablesStart s)) (domains-told n start h)
-      (λ e. tables-told (headTables s) (headObjectives s) (domainsOf s) (tablesStart s) (domains-end n start h e))
+      (λ e. tables-told (headTables s) (headObjectives s) (domainsOf s) (tablesStart s) (domains-end n s start h e))
 
   all-told : Told (verdictOf s)
   unfolding verdictOf

@@ -8,12 +8,12 @@ use Rattle.model.specs.Limits.{maxBytes, maxVariables, maxObjectives, maxTables
 use Rattle.model.specs.Problems.{DomainSize}
 use Rattle.model.specs.Reading.{headVariables, headObjectives, headTables, headLength, domainsOf, tablesStart, verdictOf, problemOf}
 use Rattle.model.specs.Calls.{padded}
-use Rattle.model.proofs.DomainRecords.{domain-sizes}
+use Rattle.model.proofs.DomainRecords.{domain-sizes, domains-end}
 use Rattle.model.proofs.Reading.{accepted-parts, accepted-place}
 use Rattle.problem.specs.declared.Reading as DG
 use Rattle.problem.specs.Records.{AllWhole}
 use Rattle.problem.specs.Says.{ReadSays}
-use Rattle.problem.proofs.DomainSteps.{domains-taken, domains-room, domains-end}
+use Rattle.problem.proofs.DomainSteps.{domains-taken, domains-room}
 use Rattle.problem.proofs.TableSteps.{all-whole}
 
 module _ (s : List ℕ) (e : verdictOf s .number ≡ 0) where

@@ -12,7 +12,7 @@ use Rattle.model.specs.Refusals.{badDomain, verdict, accepted}
 use Rattle.model.specs.Encoding.{letterD, letterO}
 use Rattle.model.specs.Reading.{startNumber, outside, domainSize, domainNumber, domainsVerdict, domainsAt}
 use Rattle.model.specs.Calls.{padded}
-use Rattle.model.proofs.Verdicts.{none-when, record-accepts}
+use Rattle.model.proofs.Verdicts.{none-when}
 use Rattle.model.proofs.DomainRecords.{domain-good, length-domainsAt}
 use Rattle.problem.specs.declared.Domains as DD
 use Rattle.problem.specs.Says.{DomainsSays}
@@ -61,13 +61,6 @@ pub domain-next : (s : List ℕ) (at : ℕ) → domainNumber (drop at s) ≡ 0 �
 domain-next s at e = omega (arith, domain-good (drop at s) e .start .long, length-drop at s)
 
 -- the same after all of them
-pub domains-end : (n : ℕ) (s : List ℕ) (at : ℕ) → at ≤ length s → domainsVerdict n s at .number ≡ 0 → at + 3 * n ≤ length s
-unfolding domainsVerdict
-domains-end zero s at h e = omega arith
-domains-end (suc n) s at h e =
-    let both = record-accepts at (domainNumber (drop at s)) (domainsVerdict n s (at + 3)) e in
-    omega (arith, domains-end n s (at + 3) (domain-next s at (both .0)) (both .1))
-
 -- ## what `read_domains` answers
 
 pub domains-refused : (s : List ℕ) (at n : ℕ) (r : DD.Domains) → (r .number ≡ 0 → ⊥) → domainsVerdict n s at ≡ verdict (r .number) (r .place) → r .sizes ≡ padded maxVariables [] → DomainsSays s at n r

@@ -14,13 +14,13 @@ use Rattle.model.specs.Reading.{headVariables, headObjectives, headTables, head
 use Rattle.model.specs.Calls.{padded}
 use Rattle.model.specs.declared.Header as DH
 use Rattle.model.proofs.HeadRecord.{head-good}
-use Rattle.model.proofs.DomainRecords.{domain-sizes}
+use Rattle.model.proofs.DomainRecords.{domain-sizes, domains-end}
 use Rattle.model.proofs.Reading.{accepted-place}
 use Rattle.problem.specs.declared.Domains as DD
 use Rattle.problem.specs.declared.Refusal as DR
 use Rattle.problem.specs.Says.{HeadSays, DomainsSays, RefusalSays, refusal, ReadSays}
 use Rattle.problem.proofs.Chains.{pass-verdict, stop-verdict, pass-record, stop-record}
-use Rattle.problem.proofs.DomainSteps.{domains-taken, domains-room, domains-end}
+use Rattle.problem.proofs.DomainSteps.{domains-taken, domains-room}
 
 abbrev pub domainsPart : List ℕ → Verdict
 domainsPart s = domainsVerdict (headVariables s) s (headLength s)
