@@ -1,5 +1,5 @@
 /* The variant chooser's limits, numbers of refusal and calls, for C and C++. Link libfrontier.a; it needs nothing but
- * the C library. The bound call is here; the calls that list the frontier come later.
+ * the C library. frontier_solve lists the frontier of a problem; frontier_bound bounds what a partial choice leads to.
  *
  * A problem is a string of bytes. Numbers in it are unsigned and little-endian, at any address, with nothing between
  * them. It is made of records, each of which starts with a mark of two letters:
@@ -17,7 +17,9 @@
  *
  * The cost of a choice (a value for each variable) in an objective is the sum of the entries that its values select in
  * that objective's records. A choice is allowed if every cost is strictly below its objective's ceiling. An entry of
- * 4294967295 is below no ceiling, so it forbids its combination.
+ * 4294967295 is below no ceiling, so it forbids its combination. One choice beats another if it costs at most as much
+ * in every objective and less in some. The frontier is the set of cost vectors of the allowed choices that no allowed
+ * choice beats.
  *
  * A refusal gives a number and a place: the first byte of the record concerned (2 to 10, and 14 for the first
  * linked record), the first leftover byte (11), else 0. Number 0 says that nothing is refused. Of several faults one is
@@ -66,6 +68,38 @@
 #ifdef __cplusplus
 extern "C" {
 #endif
+
+/* Lists the frontier of a problem into the buffers that it is lent.
+ *
+ * A listed point is a cost vector and a choice that has it. The points stand in rising order of their vectors,
+ * objective 0 compared first, then 1, and so on. Each vector stands once, however many allowed choices have it, with
+ * the earliest of them: the one with the smallest value of variable 0, among those the smallest of variable 1, and so
+ * on.
+ *
+ * costs is for the vectors: cost k of point i becomes costs[i * p + k]. choices is for the choices: the value of
+ * variable v in point i becomes choices[i * n + v]. Lengths are in elements. Room, the number of points that fit, is
+ * the least of costs_len / p, choices_len / n (both rounded down) and FRONTIER_MAX_POINTS, so 64 * 4 costs and 64 * 24
+ * choices do for every problem. Room 0 is allowed. It suffices where no choice is allowed: such a problem is accepted,
+ * with 0 points.
+ *
+ * work is memory for the search: at least FRONTIER_LEAST_WORK numbers, whatever the problem. More is of no use, but
+ * all of it is cleared. Nothing in the answer depends on what the three buffers held before.
+ *
+ * The number of refusal is the result: 0 for none, 1 to 11 for the problem, then FRONTIER_WORK if work is too short,
+ * then FRONTIER_FULL if the frontier has more points than room. *place becomes the place of the refusal, and 0 without
+ * one; *count becomes the number of points listed, and 0 after a refusal. Both are always written, whatever they held.
+ * What the buffers hold afterwards:
+ *
+ *   result          costs and choices                                                           work
+ *   0               the first *count * p costs and *count * n choices are the points,           all 0
+ *                   the rest is unchanged
+ *   FRONTIER_FULL   unchanged                                                                   all 0
+ *   another number  unchanged                                                                   unchanged
+ *
+ * The time it takes can grow with the number of choices, which is the product of the domain sizes, and the call cannot
+ * be interrupted. A program with a time limit runs it in a process of its own. */
+uint8_t frontier_solve(const uint8_t *problem, size_t problem_len, uint32_t *costs, size_t costs_len, uint8_t *choices,
+                       size_t choices_len, uint32_t *work, size_t work_len, uint32_t *place, uint32_t *count);
 
 /* Bounds from below what any completion of a partial choice costs.
  *

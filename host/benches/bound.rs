@@ -76,7 +76,7 @@ fn assert_sides_agree(all: &[Work]) {
             assert_eq!(compare_bound(&work.bytes, &work.prefix, side), Ok(()));
         }
         for seed in 0..2_000 {
-            assert_eq!(Mixed::new(seed).compare(side), Ok(()));
+            assert_eq!(Mixed::new(seed).compare_bounds(side), Ok(()));
         }
     }
 }

@@ -2,11 +2,25 @@
 //! call a safe wrapper that answers as the brute force does.
 
 use crate::bound::Least;
+use crate::brute::Answer;
 use crate::limits::MAX_OBJECTIVES;
 
 // The exported calls. Nothing checks these lines against the library, so they stand together and
 // in the header's order, to be compared by eye.
 extern "C" {
+    fn frontier_solve(
+        problem: *const u8,
+        problem_len: usize,
+        costs: *mut u32,
+        costs_len: usize,
+        choices: *mut u8,
+        choices_len: usize,
+        work: *mut u32,
+        work_len: usize,
+        place: *mut u32,
+        count: *mut u32,
+    ) -> u8;
+
     fn frontier_bound(
         problem: *const u8,
         problem_len: usize,
@@ -15,6 +29,52 @@ extern "C" {
         least: *mut [u64; MAX_OBJECTIVES],
         place: *mut u32,
     ) -> u8;
+}
+
+/// The plain call as C has it: the number of refusal is the result, and `place` and `count` are
+/// written whatever they held. Callers that only want the answer use `solve_problem`.
+pub fn write_solve(
+    problem: &[u8],
+    costs: &mut [u32],
+    choices: &mut [u8],
+    work: &mut [u32],
+    place: &mut u32,
+    count: &mut u32,
+) -> u8 {
+    // SAFETY: each pointer comes from a reference, so it is aligned, never null (not even for an
+    // empty slice) and valid for the length beside it; the five that are written are exclusive,
+    // so they overlap neither each other nor the problem. The call keeps no pointer after it
+    // returns.
+    unsafe {
+        frontier_solve(
+            problem.as_ptr(),
+            problem.len(),
+            costs.as_mut_ptr(),
+            costs.len(),
+            choices.as_mut_ptr(),
+            choices.len(),
+            work.as_mut_ptr(),
+            work.len(),
+            place,
+            count,
+        )
+    }
+}
+
+/// Lists the frontier into the flat buffers.
+pub fn solve_problem(
+    problem: &[u8],
+    costs: &mut [u32],
+    choices: &mut [u8],
+    work: &mut [u32],
+) -> Answer {
+    let (mut place, mut count) = (0, 0);
+    let number = write_solve(problem, costs, choices, work, &mut place, &mut count);
+    Answer {
+        number,
+        place,
+        count,
+    }
 }
 
 /// The bound call as C has it: the number of refusal is the result, and `least` and `place` are

@@ -200,3 +200,19 @@ pub fn brimful() -> Problem {
         tables,
     }
 }
+
+/// Ten valid problems with all arities and numbers of objectives among them, each with few choices.
+pub fn ten_problems() -> [Problem; 10] {
+    [
+        colours([100, 100]),
+        lone(8, 1),
+        three([3, 3]),
+        pair([9, 9]),
+        bent([9, 9]),
+        objects([13, 100, 100]),
+        xor(),
+        all_clauses(5),
+        staircase([64, 200]),
+        every_arity(),
+    ]
+}

@@ -11,6 +11,7 @@ pub mod cut;
 pub mod examples;
 pub mod limits;
 pub mod mixed;
+pub mod night;
 pub mod owned;
 pub mod problem;
 pub mod random;

@@ -1,17 +1,22 @@
-//! Mixed cases of the bound call (valid, damaged and boundary problems, with good and bad prefixes
-//! of every length), and the comparison of a bound call with the brute force.
+//! Mixed cases of the calls (valid, damaged and boundary problems, with good and bad prefixes of
+//! every length and with buffers long enough or not), and the comparison with the brute force.
 
 use crate::bound::{bound_prefix, Least};
+use crate::brute::{solve_problem, Answer};
 use crate::examples::brimful;
-use crate::limits::{MAX_ARITY, MAX_DOMAIN, MAX_OBJECTIVES, MAX_TABLES, MAX_VARIABLES};
+use crate::limits::{LEAST_WORK, MAX_ARITY, MAX_DOMAIN, MAX_OBJECTIVES, MAX_TABLES, MAX_VARIABLES};
+use crate::owned::Buffers;
 use crate::problem::{Problem, Table};
-use crate::random::{damage, random_choice, random_problem, Rng, Shape};
+use crate::random::{damage, junk, random_choice, random_problem, Rng, Shape};
+use crate::reading::read_problem;
 
-/// A problem's bytes, damaged or not, and the prefixes that are asked about with them.
+/// A problem's bytes, damaged or not, the prefixes that are asked about with them, and the buffers
+/// that are lent.
 pub struct Mixed {
     pub seed: u64,
     pub bytes: Vec<u8>,
     pub prefixes: Vec<Vec<u8>>,
+    pub lent: Buffers,
 }
 
 impl Mixed {
@@ -26,21 +31,65 @@ impl Mixed {
             }
         }
         let prefixes = mixed_prefixes(&mut rng, &problem);
+        let lent = mixed_buffers(&mut rng, &bytes);
         Mixed {
             seed,
             bytes,
             prefixes,
+            lent,
         }
+    }
+
+    /// Compares a flat call with the brute force: the answer and all that is left in the buffers.
+    /// A difference is told with the seed and the bytes.
+    pub fn compare_solve(
+        &self,
+        call: impl Fn(&[u8], &mut [u32], &mut [u8], &mut [u32]) -> Answer,
+    ) -> Result<(), String> {
+        let compared = compare_solve(&self.bytes, &self.lent, call);
+        compared.map_err(|difference| format!("seed {}: {difference}", self.seed))
     }
 
     /// Compares a bound call with the brute force, prefix by prefix. The first difference is told
     /// with the seed and the bytes.
-    pub fn compare(&self, call: impl Fn(&[u8], &[u8]) -> Least) -> Result<(), String> {
+    pub fn compare_bounds(&self, call: impl Fn(&[u8], &[u8]) -> Least) -> Result<(), String> {
         self.prefixes.iter().try_for_each(|prefix| {
             let compared = compare_bound(&self.bytes, prefix, &call);
             compared.map_err(|difference| format!("seed {}: {difference}", self.seed))
         })
     }
+}
+
+/// Bytes in hex, so that a difference can be repeated.
+fn hex(bytes: &[u8]) -> String {
+    bytes.iter().map(|byte| format!("{byte:02x}")).collect()
+}
+
+/// Compares a flat call with the brute force on one problem, each lent a copy of the buffers. A
+/// difference is told with the bytes in hex.
+pub fn compare_solve(
+    problem: &[u8],
+    lent: &Buffers,
+    call: impl Fn(&[u8], &mut [u32], &mut [u8], &mut [u32]) -> Answer,
+) -> Result<(), String> {
+    let (mut left, mut right) = (lent.clone(), lent.clone());
+    let (answer, expected) = (left.lend(call, problem), right.lend(solve_problem, problem));
+    let difference = if answer != expected {
+        format!("the call answers {answer:?}, the brute force {expected:?}")
+    } else if left.costs != right.costs {
+        let (left, right) = (left.costs, right.costs);
+        format!("the call leaves the costs {left:?}, the brute force {right:?}")
+    } else if left.choices != right.choices {
+        let (left, right) = (left.choices, right.choices);
+        format!("the call leaves the choices {left:?}, the brute force {right:?}")
+    } else if left.work != right.work {
+        format!("after {answer:?} the call leaves other work memory than the brute force")
+    } else {
+        return Ok(());
+    };
+    let lengths = [lent.costs.len(), lent.choices.len(), lent.work.len()];
+    let bytes = hex(problem);
+    Err(format!("{difference}, lengths {lengths:?}, bytes {bytes}"))
 }
 
 /// Compares a bound call with the brute force on one problem and prefix. A difference is told with
@@ -54,9 +103,9 @@ pub fn compare_bound(
     if answer == expected {
         return Ok(());
     }
-    let hex: String = problem.iter().map(|byte| format!("{byte:02x}")).collect();
+    let bytes = hex(problem);
     Err(format!(
-        "the call answers {answer:?}, the brute force {expected:?}, prefix {prefix:?}, bytes {hex}"
+        "the call answers {answer:?}, the brute force {expected:?}, prefix {prefix:?}, bytes {bytes}"
     ))
 }
 
@@ -147,4 +196,27 @@ fn prefix_of_length(rng: &mut Rng, problem: &Problem, length: usize) -> Vec<u8> 
     let mut prefix = random_choice(rng, problem);
     prefix.resize(length, 0);
     prefix
+}
+
+/// A problem with more complete choices than this is not searched.
+const SEARCHED_CHOICES: u64 = 1_000;
+
+/// Buffers with junk for a problem's bytes, with room for no point, for some, or for more than are
+/// ever listed. Where there are too many choices to go through, the work buffer is too short, so
+/// that the call refuses before it searches.
+fn mixed_buffers(rng: &mut Rng, bytes: &[u8]) -> Buffers {
+    let read = read_problem(bytes).map(|reading| reading.problem);
+    let (p, n, choices) = match read {
+        Ok(problem) => (problem.objectives(), problem.variables(), problem.choices()),
+        Err(_) => (MAX_OBJECTIVES, MAX_VARIABLES, 0),
+    };
+    let work = if choices > SEARCHED_CHOICES || rng.once_in(8) {
+        rng.pick(&[0, 1, LEAST_WORK - 1])
+    } else {
+        rng.pick(&[LEAST_WORK, LEAST_WORK, LEAST_WORK + 1, LEAST_WORK + 500])
+    };
+    let room = rng.pick(&[0, 1, 2, 3, 4, 8, 20, 70]);
+    let costs = room * p + rng.below(2 * p);
+    let choices = room * n + rng.below(2 * n);
+    junk(rng, costs, choices, work)
 }

@@ -1,9 +1,13 @@
-//! The calls with buffers of their own, and the text of the list program.
+//! The calls with buffers of their own, flat calls as values, and the text of the list program.
 
 use crate::brute::{solve_cut, solve_problem, Answer};
 use crate::limits::{LEAST_WORK, MAX_OBJECTIVES, MAX_POINTS, MAX_VARIABLES};
+use crate::problem::Problem;
 use crate::reading::read_problem;
 use crate::refusal::Refusal;
+
+/// A flat call, as `solve_problem` is: problem, costs, choices, work.
+pub type SolveCall = fn(&[u8], &mut [u32], &mut [u8], &mut [u32]) -> Answer;
 
 /// A listed point: its p costs and its n values.
 #[derive(Clone, Debug, PartialEq, Eq)]
@@ -40,13 +44,22 @@ impl Buffers {
         }
     }
 
+    /// Lends the buffers to a flat call.
+    pub fn lend(
+        &mut self,
+        call: impl Fn(&[u8], &mut [u32], &mut [u8], &mut [u32]) -> Answer,
+        bytes: &[u8],
+    ) -> Answer {
+        call(bytes, &mut self.costs, &mut self.choices, &mut self.work)
+    }
+
     /// The points an answer has left in the buffers. The bytes are read again for n and p.
     pub fn listed(&self, bytes: &[u8], answer: Answer) -> Result<Vec<Listed>, Refusal> {
         if answer.number != 0 {
             let (number, place) = (answer.number, answer.place);
             return Err(Refusal { number, place });
         }
-        let problem = read_problem(bytes)?.problem;
+        let problem = accepted_problem(bytes);
         let costs = self.costs.chunks(problem.objectives());
         let choices = self.choices.chunks(problem.variables());
         let points = costs.zip(choices).take(answer.count as usize);
@@ -54,11 +67,25 @@ impl Buffers {
     }
 }
 
-/// The frontier list of a problem, with room for 64 points.
-pub fn frontier_of(bytes: &[u8]) -> Result<Vec<Listed>, Refusal> {
+/// The problem in bytes that a call has accepted. Where the reader refuses them the call is wrong,
+/// and to go on would hide it.
+fn accepted_problem(bytes: &[u8]) -> Problem {
+    match read_problem(bytes) {
+        Ok(reading) => reading.problem,
+        Err(refusal) => panic!("a call has accepted bytes that are refused: {refusal:?}"),
+    }
+}
+
+/// The frontier list of a problem by a flat call, with room for 64 points.
+pub fn frontier_by(call: SolveCall, bytes: &[u8]) -> Result<Vec<Listed>, Refusal> {
     let mut lent = Buffers::full();
-    let answer = solve_problem(bytes, &mut lent.costs, &mut lent.choices, &mut lent.work);
+    let answer = lent.lend(call, bytes);
     lent.listed(bytes, answer)
+}
+
+/// The frontier list of a problem by the brute force, with room for 64 points.
+pub fn frontier_of(bytes: &[u8]) -> Result<Vec<Listed>, Refusal> {
+    frontier_by(solve_problem, bytes)
 }
 
 /// The list of the cut call and the two halves' frontier sizes, with room for 64 points.
@@ -80,19 +107,26 @@ fn spaced<T: ToString>(numbers: &[T]) -> String {
     numbers.iter().map(|x| x.to_string() + " ").collect()
 }
 
-/// What the list program of document 01 prints for a problem.
-pub fn list_text(bytes: &[u8]) -> String {
-    let read = read_problem(bytes).and_then(|reading| Ok((reading, frontier_of(bytes)?)));
-    let (reading, list) = match read {
-        Ok(pair) => pair,
+/// What the list program of document 01 prints for a problem that a flat call answers, lent these
+/// buffers; they must have room for 64 points.
+pub fn list_text_by(call: SolveCall, lent: &mut Buffers, bytes: &[u8]) -> String {
+    let answer = lent.lend(call, bytes);
+    let list = match lent.listed(bytes, answer) {
+        Ok(list) => list,
         Err(refusal) => return format!("refused {} at {}\n", refusal.number, refusal.place),
     };
-    let (p, n) = (reading.problem.objectives(), reading.problem.variables());
-    let mut text = format!("points {} objectives {p} variables {n}\n", list.len());
+    let problem = accepted_problem(bytes);
+    let (p, n) = (problem.objectives(), problem.variables());
+    let mut text = format!("points {} objectives {p} variables {n}\n", answer.count);
     for point in &list {
         let line = spaced(&point.costs) + ": " + &spaced(&point.choice);
         text.push_str(line.trim_end());
         text.push('\n');
     }
     text
+}
+
+/// What the list program of document 01 prints for a problem, by the brute force.
+pub fn list_text(bytes: &[u8]) -> String {
+    list_text_by(solve_problem, &mut Buffers::full(), bytes)
 }

@@ -41,6 +41,12 @@ impl Problem {
         self.ceilings.len()
     }
 
+    /// How many complete choices there are, or the greatest number of 64 bits if they are more.
+    pub fn choices(&self) -> u64 {
+        let times = |product: u64, &size: &u8| product.saturating_mul(size.into());
+        self.domains.iter().fold(1, times)
+    }
+
     /// The record bytes. Nothing is checked, so that tests can build invalid problems too; a
     /// length that does not fit its field is cut to the field's low bits.
     pub fn encode(&self) -> Vec<u8> {

@@ -1,6 +1,7 @@
-//! A seeded generator of small random problems, side lists, and damage to bytes.
+//! A seeded generator of small random problems, side lists, junk in buffers, and damage to bytes.
 
 use crate::brute::cost_vector;
+use crate::owned::Buffers;
 use crate::problem::{Problem, Table, FORBIDDEN};
 
 /// SplitMix64: a small generator whose whole state is its seed, so a seed reproduces a case.
@@ -255,6 +256,17 @@ pub fn bad_sides(rng: &mut Rng, problem: &Problem) -> Vec<u8> {
         }
     }
     sides
+}
+
+/// Buffers of these lengths with random contents.
+pub fn junk(rng: &mut Rng, costs: usize, choices: usize, work: usize) -> Buffers {
+    // One number for the whole work buffer: it is long, and any contents must do.
+    let fill = rng.bits() as u32 | 1;
+    Buffers {
+        costs: (0..costs).map(|_| rng.bits() as u32).collect(),
+        choices: (0..choices).map(|_| rng.bits() as u8).collect(),
+        work: vec![fill; work],
+    }
 }
 
 /// Damages bytes once: truncates, flips, appends, removes, or puts a field at or beside a limit.

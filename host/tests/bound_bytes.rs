@@ -2,12 +2,9 @@
 //! byte, and problems around 60,000 bytes.
 
 use frontier_host::chooser;
-use frontier_host::examples::{
-    all_clauses, bent, brimful, colours, every_arity, lone, objects, pair, staircase, three, xor,
-};
+use frontier_host::examples::{brimful, colours, ten_problems};
 use frontier_host::limits::MAX_BYTES;
 use frontier_host::mixed::compare_bound;
-use frontier_host::problem::Problem;
 use frontier_host::refusal::{CUT_SHORT, LEFTOVER, OVERSIZE, STRAY_MARK};
 
 /// Asserts that the call answers as the brute force does, with a short prefix of each kind.
@@ -22,22 +19,6 @@ fn assert_agrees(bytes: &[u8]) {
 fn assert_number(bytes: &[u8], number: u8) {
     assert_agrees(bytes);
     assert_eq!(chooser::bound_prefix(bytes, &[]).number, number);
-}
-
-/// Ten valid problems with all arities and numbers of objectives among them.
-fn ten_problems() -> [Problem; 10] {
-    [
-        colours([100, 100]),
-        lone(8, 1),
-        three([3, 3]),
-        pair([9, 9]),
-        bent([9, 9]),
-        objects([13, 100, 100]),
-        xor(),
-        all_clauses(5),
-        staircase([64, 200]),
-        every_arity(),
-    ]
 }
 
 #[test]

@@ -14,7 +14,7 @@ use frontier_host::refusal::{Refusal, CUT_SHORT, PREFIX};
 /// Compares the mixed cases with these seeds; a difference ends the test.
 fn compare_seeds(seeds: Range<u64>) {
     for seed in seeds {
-        if let Err(difference) = Mixed::new(seed).compare(chooser::bound_prefix) {
+        if let Err(difference) = Mixed::new(seed).compare_bounds(chooser::bound_prefix) {
             panic!("{difference}");
         }
     }

@@ -6,7 +6,9 @@ use frontier_host::brute::{
 use frontier_host::chooser;
 use frontier_host::examples::{bent, brimful, colours, lone, pair, staircase, three};
 use frontier_host::limits::{LEAST_WORK, MAX_BYTES};
-use frontier_host::owned::{cut_of, frontier_of, list_text, Listed};
+use frontier_host::owned::{
+    cut_of, frontier_by, frontier_of, list_text_by, Buffers, Listed, SolveCall,
+};
 use frontier_host::problem::{Problem, Table};
 use frontier_host::refusal::Refusal;
 
@@ -14,6 +16,9 @@ type BoundCall = fn(&[u8], &[u8]) -> Least;
 
 /// The bound calls of the brute force and of the static library; each case is asked of both.
 const BOUND_CALLS: [BoundCall; 2] = [bound_prefix, chooser::bound_prefix];
+
+/// The flat calls of both; each case is asked of both.
+const SOLVE_CALLS: [SolveCall; 2] = [solve_problem, chooser::solve_problem];
 
 /// A refusal with this number and place.
 fn refusal(number: u8, place: u32) -> Refusal {
@@ -23,7 +28,9 @@ fn refusal(number: u8, place: u32) -> Refusal {
 /// Asserts that the problem has exactly these points, so that every call accepts it.
 fn assert_points(problem: &Problem, expected: &[(&[u32], &[u8])]) {
     let bytes = problem.encode();
-    assert_eq!(frontier_of(&bytes), Ok(listed(expected)));
+    for call in SOLVE_CALLS {
+        assert_eq!(frontier_by(call, &bytes), Ok(listed(expected)));
+    }
     assert_eq!(chooser::bound_prefix(&bytes, &[]).number, 0);
 }
 
@@ -36,8 +43,10 @@ fn assert_refused(bytes: &[u8], number: u8, place: u32) {
     let expected = refusal(number, place);
     let (mut costs, mut choices, mut work) = ([7; 4], [7; 24], [7; LEAST_WORK]);
     let mut points = [junk_point(); 2];
-    let flat = solve_problem(bytes, &mut costs, &mut choices, &mut work);
-    assert_eq!(flat, expected.into());
+    for solve in SOLVE_CALLS {
+        let flat = solve(bytes, &mut costs, &mut choices, &mut work);
+        assert_eq!(flat, expected.into());
+    }
     let cut = solve_cut(bytes, &[], &mut costs, &mut choices, &mut work);
     assert_eq!(cut, expected.into());
     assert_eq!(list_points(bytes, &mut points, &mut work), expected.into());
@@ -55,11 +64,15 @@ fn junk_point() -> Point {
     }
 }
 
-/// Solves with buffers of these lengths and a good work buffer.
+/// Solves with buffers of these lengths and a good work buffer; both calls must answer alike.
 fn solve_within(problem: &Problem, costs: usize, choices: usize) -> Answer {
-    let (mut costs, mut choices) = (vec![0; costs], vec![0; choices]);
-    let mut work = vec![0; LEAST_WORK];
-    solve_problem(&problem.encode(), &mut costs, &mut choices, &mut work)
+    let answers = SOLVE_CALLS.map(|solve| {
+        let (mut costs, mut choices) = (vec![0; costs], vec![0; choices]);
+        let mut work = vec![0; LEAST_WORK];
+        solve(&problem.encode(), &mut costs, &mut choices, &mut work)
+    });
+    assert_eq!(answers[0], answers[1]);
+    answers[0]
 }
 
 /// A problem of two objectives with this table behind an arity-0 one.
@@ -81,8 +94,11 @@ fn colours_prints_as_document_01_says() {
     let bytes = colours([100, 100]).encode();
     assert_eq!(bytes.len(), 155);
     let text = "points 2 objectives 2 variables 3\n1 4 : 0 0 1\n10 0 : 0 0 0\n";
-    assert_eq!(list_text(&bytes), text);
-    assert_eq!(list_text(&[]), "refused 2 at 0\n");
+    for call in SOLVE_CALLS {
+        let list_text = |bytes: &[u8]| list_text_by(call, &mut Buffers::full(), bytes);
+        assert_eq!(list_text(&bytes), text);
+        assert_eq!(list_text(&[]), "refused 2 at 0\n");
+    }
 }
 
 #[test]
@@ -251,16 +267,18 @@ fn work_buffers_around_8192() {
     for length in [0, 1, LEAST_WORK - 1, LEAST_WORK, LEAST_WORK + 500] {
         let (mut costs, mut choices, mut work) = ([6; 6], [6; 3], vec![6; length]);
         let mut points = [junk_point(); 3];
-        let answer = solve_problem(&bytes, &mut costs, &mut choices, &mut work);
         let enough = length >= LEAST_WORK;
         let expected = if enough {
             Answer::accepted(3)
         } else {
             refusal(12, 0).into()
         };
-        assert_eq!(answer, expected);
-        assert!(work.iter().all(|&x| x == if enough { 0 } else { 6 }));
-        work.fill(6);
+        for solve in SOLVE_CALLS {
+            let answer = solve(&bytes, &mut costs, &mut choices, &mut work);
+            assert_eq!(answer, expected);
+            assert!(work.iter().all(|&x| x == if enough { 0 } else { 6 }));
+            work.fill(6);
+        }
         assert_eq!(list_points(&bytes, &mut points, &mut work), expected);
         assert!(work.iter().all(|&x| x == if enough { 0 } else { 6 }));
         assert_eq!(points[0] == junk_point(), !enough);
@@ -417,8 +435,7 @@ fn stray_marks() {
 fn sixty_thousand_bytes() {
     let mut bytes = brimful().encode();
     assert_eq!(bytes.len(), MAX_BYTES);
-    let expected = Listed::new(&[8, 7], &[7, 7, 7]);
-    assert_eq!(frontier_of(&bytes), Ok(vec![expected]));
+    assert_points(&brimful(), &[(&[8, 7], &[7, 7, 7])]);
     bytes.push(0);
     assert_refused(&bytes, 1, 0);
     assert_refused(&vec![0; MAX_BYTES], 3, 0);

@@ -82,15 +82,26 @@ fn calls(text: &str) -> BTreeSet<&str> {
 #[test]
 fn rust_has_the_calls_of_the_header() {
     let expected = calls(HEADER);
-    assert!(expected.contains("frontier_bound"));
+    assert!(expected.contains("frontier_solve") && expected.contains("frontier_bound"));
     assert_eq!(calls(include_str!("../src/chooser.rs")), expected);
 }
 
 /// The folder of the package; the header and the archive stand beside it.
 const HOST: &str = env!("CARGO_MANIFEST_DIR");
 
-/// What `tests/c/bound.c` prints: number, place and the four numbers of each call.
-const C_ANSWERS: &str = "0 0 4 0 0 0\n0 0 4 0 0 0\n0 0 259 0 0 0\n16 0 0 0 0 0\n2 16 0 0 0 0\n";
+/// What `tests/c/calls.c` prints: of each plain call number, place, count, how much of the work
+/// memory is not zero, and the points; of each bound call number, place and the four numbers.
+const C_ANSWERS: &str = "\
+0 0 3 0 0 2:00 1 1:01 2 0:11
+15 0 0 0
+12 0 0 8192
+2 59 0 8192
+0 0 4 0 0 0
+0 0 4 0 0 0
+0 0 259 0 0 0
+16 0 0 0 0 0
+2 16 0 0 0 0
+";
 
 /// Whether a compiler is installed. If not, it says so where the test harness hides nothing.
 fn is_installed(compiler: &str) -> bool {
@@ -107,12 +118,12 @@ fn assert_compiled_program_answers(compiler: &str, language: &str, standard: &st
     if !is_installed(compiler) {
         return;
     }
-    let program = Path::new(env!("CARGO_TARGET_TMPDIR")).join(format!("bound_{language}"));
+    let program = Path::new(env!("CARGO_TARGET_TMPDIR")).join(format!("calls_{language}"));
     let compiled = Command::new(compiler)
         .arg(format!("-std={standard}"))
         .args(["-Wall", "-Wextra", "-Wpedantic", "-Werror"])
         .arg(format!("-I{HOST}/../include"))
-        .args(["-x", language, &format!("{HOST}/tests/c/bound.c")])
+        .args(["-x", language, &format!("{HOST}/tests/c/calls.c")])
         .args(["-x", "none"])
         .arg(format!("{HOST}/../target/staticlib/libfrontier.a"))
         .arg("-o")

@@ -7,8 +7,8 @@ use std::collections::BTreeMap;
 
 use checker::case::{ask, Case};
 use checker::law::{
-    bound_law, bytes_law, cut_law, exchange_law, flat_law, points_law, sides_refusal, Bounder,
-    Cutter,
+    agreement_law, bound_law, bytes_law, cut_law, exchange_law, flat_law, points_law,
+    sides_refusal, Bounder, Cutter, Solver,
 };
 use checker::mutants::{
     each_faulty_bounder, each_faulty_lister, each_misread_bounder, each_missided_cutter,
@@ -32,6 +32,11 @@ const FEW: u64 = 500;
 #[test]
 fn the_flat_call_lists_the_frontier() {
     ask(CASES, |case| flat_law(case, &solve_problem));
+}
+
+#[test]
+fn the_flat_call_of_the_static_library_lists_the_frontier() {
+    ask(CASES, |case| flat_law(case, &chooser::solve_problem));
 }
 
 #[test]
@@ -90,7 +95,8 @@ fn damaged_bytes_are_refused_or_read() {
         for _ in 0..=case.rng.below(3) {
             damage(&mut case.rng, &mut case.bytes);
         }
-        bytes_law(case, &solve_problem)
+        bytes_law(case, &solve_problem)?;
+        bytes_law(case, &chooser::solve_problem)
     });
 }
 
@@ -101,7 +107,8 @@ fn random_bytes_are_refused_or_read() {
         let alphabet = b"HDOCF\x00\x01\x02\x03\x04\x08\x18\xff";
         case.bytes = (0..length).map(|_| case.rng.pick(alphabet)).collect();
         case.bytes.splice(..0, b"HD\x01\x01".iter().copied());
-        bytes_law(case, &solve_problem)
+        bytes_law(case, &solve_problem)?;
+        bytes_law(case, &chooser::solve_problem)
     });
 }
 
@@ -231,6 +238,22 @@ fn faulty_flat_calls_are_caught() {
 }
 
 #[test]
+fn faulty_flat_calls_are_caught_by_the_brute_force() {
+    each_wrong_solver(|name, call| assert_caught(name, |case| agreement_law(case, call)));
+    each_untidy_solver(|name, call| assert_caught(name, |case| agreement_law(case, call)));
+}
+
+#[test]
+fn faulty_flat_calls_are_caught_by_mixed_cases() {
+    let assert_differs = |name: &str, call: Solver| {
+        let differs = (0..FEW).any(|seed| Mixed::new(seed).compare_solve(call).is_err());
+        assert!(differs, "{name} is not caught");
+    };
+    each_wrong_solver(assert_differs);
+    each_untidy_solver(assert_differs);
+}
+
+#[test]
 fn faulty_point_and_bound_calls_are_caught() {
     each_faulty_lister(|name, call| assert_caught(name, |case| points_law(case, call)));
     each_faulty_bounder(|name, call| assert_caught(name, |case| bound_law(case, call)));
@@ -239,7 +262,7 @@ fn faulty_point_and_bound_calls_are_caught() {
 #[test]
 fn faulty_bound_calls_are_caught_by_mixed_cases() {
     let assert_differs = |name: &str, call: Bounder| {
-        let differs = (0..FEW).any(|seed| Mixed::new(seed).compare(call).is_err());
+        let differs = (0..FEW).any(|seed| Mixed::new(seed).compare_bounds(call).is_err());
         assert!(differs, "{name} is not caught");
     };
     each_faulty_bounder(assert_differs);

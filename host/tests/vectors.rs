@@ -7,13 +7,21 @@ use frontier_host::examples::{
     unary, xor,
 };
 use frontier_host::limits::LEAST_WORK;
-use frontier_host::owned::{cut_of, frontier_of, Listed};
+use frontier_host::owned::{cut_of, frontier_by, Listed, SolveCall};
 use frontier_host::problem::{Problem, Table};
 
-/// Asserts that the problem has exactly these points.
+/// The flat calls of the brute force and of the static library; each vector is asked of both.
+const SOLVE_CALLS: [SolveCall; 2] = [solve_problem, chooser::solve_problem];
+
+/// Asserts that both calls list exactly these points.
 fn assert_points(problem: &Problem, expected: &[(&[u32], &[u8])]) {
-    let expected = expected.iter().map(|(c, x)| Listed::new(c, x)).collect();
-    assert_eq!(frontier_of(&problem.encode()), Ok(expected));
+    let listed = |points: &[(&[u32], &[u8])]| -> Vec<Listed> {
+        points.iter().map(|(c, x)| Listed::new(c, x)).collect()
+    };
+    for call in SOLVE_CALLS {
+        let list = frontier_by(call, &problem.encode());
+        assert_eq!(list, Ok(listed(expected)));
+    }
 }
 
 /// The three points of Objects, in rising order.
@@ -37,12 +45,14 @@ fn objects_under_four_ceilings() {
 fn objects_needs_room_3_and_no_more() {
     let bytes = objects([13, 100, 100]).encode();
     let mut work = vec![9; LEAST_WORK];
-    let answer = solve_problem(&bytes, &mut [0; 9], &mut [0; 12], &mut work);
-    assert_eq!(answer, Answer::accepted(3));
-    for (costs, choices) in [(8, 12), (9, 11)] {
-        let (mut costs, mut choices) = (vec![9; costs], vec![9; choices]);
-        let answer = solve_problem(&bytes, &mut costs, &mut choices, &mut work);
-        assert_eq!((answer.number, answer.place, answer.count), (15, 0, 0));
+    for solve in SOLVE_CALLS {
+        let answer = solve(&bytes, &mut [0; 9], &mut [0; 12], &mut work);
+        assert_eq!(answer, Answer::accepted(3));
+        for (costs, choices) in [(8, 12), (9, 11)] {
+            let (mut costs, mut choices) = (vec![9; costs], vec![9; choices]);
+            let answer = solve(&bytes, &mut costs, &mut choices, &mut work);
+            assert_eq!((answer.number, answer.place, answer.count), (15, 0, 0));
+        }
     }
 }
 
@@ -79,8 +89,10 @@ fn doll(problem: &Problem, from: u8) -> Problem {
 #[test]
 fn a_doll_of_objects_is_longer_than_its_frontier() {
     let problem = objects([13, 100, 100]);
-    let size = |from| frontier_of(&doll(&problem, from).encode()).unwrap().len();
-    assert_eq!([3, 2, 1, 0].map(size), [2, 3, 4, 3]);
+    for call in SOLVE_CALLS {
+        let size = |from| frontier_by(call, &doll(&problem, from).encode()).map(|list| list.len());
+        assert_eq!([3, 2, 1, 0].map(size), [2, 3, 4, 3].map(Ok));
+    }
 }
 
 #[test]

@@ -1,11 +1,12 @@
-//! Runs mixed cases of the bound call over the C interface and compares each with the brute force.
-//! It is a program of its own so that memcheck can watch it; see `.ci/memcheck`.
+//! Runs mixed cases of the calls over the C interface and compares each with the brute force. It is
+//! a program of its own so that memcheck can watch it; see `.ci/memcheck`.
 
 use std::env;
 use std::process::ExitCode;
 
 use frontier_host::bound::Least;
-use frontier_host::chooser::write_bound;
+use frontier_host::brute::Answer;
+use frontier_host::chooser::{write_bound, write_solve};
 use frontier_host::limits::MAX_OBJECTIVES;
 use frontier_host::mixed::Mixed;
 
@@ -17,8 +18,27 @@ const DEFAULT_CASES: u64 = 1000;
 /// A line of progress comes once in this many cases.
 const PROGRESS: u64 = 200;
 
-/// The call on copies that have exactly their lengths on the heap, and with junk where it writes,
-/// so that memcheck sees every access beside them.
+/// The plain call on a copy of the problem that has exactly its length on the heap, and with junk
+/// where it writes its place and count, so that memcheck sees every access beside them. The buffers
+/// are such copies already.
+fn solve_on_heap(
+    problem: &[u8],
+    costs: &mut [u32],
+    choices: &mut [u8],
+    work: &mut [u32],
+) -> Answer {
+    let problem: Box<[u8]> = problem.into();
+    let (mut place, mut count) = (Box::new(0xa5a5_a5a5), Box::new(0xa5a5_a5a5));
+    let number = write_solve(&problem, costs, choices, work, &mut place, &mut count);
+    Answer {
+        number,
+        place: *place,
+        count: *count,
+    }
+}
+
+/// The bound call on copies that have exactly their lengths on the heap, and with junk where it
+/// writes, for the same reason.
 fn bound_on_heap(problem: &[u8], prefix: &[u8]) -> Least {
     let (problem, prefix): (Box<[u8]>, Box<[u8]>) = (problem.into(), prefix.into());
     let mut least = Box::new([0xa5a5_a5a5_a5a5_a5a5; MAX_OBJECTIVES]);
@@ -46,7 +66,9 @@ fn asked_cases(arguments: &[String]) -> Result<u64, String> {
 /// Runs the cases from seed 0 on; the first difference ends the run.
 fn run_cases(cases: u64) -> Result<(), String> {
     for seed in 0..cases {
-        Mixed::new(seed).compare(bound_on_heap)?;
+        let case = Mixed::new(seed);
+        case.compare_bounds(bound_on_heap)?;
+        case.compare_solve(solve_on_heap)?;
         let done = seed + 1;
         if done % PROGRESS == 0 && done < cases {
             println!("{done} of {cases} cases done");

@@ -1,5 +1,7 @@
 //! The random cases that laws are asked of, and the report of a case that fails.
 
+use std::ops::Range;
+
 use frontier_host::problem::Problem;
 use frontier_host::random::{random_problem, Rng, Shape};
 
@@ -39,7 +41,12 @@ impl Drop for Case {
 
 /// Asks a law of the cases with seeds 0 and on; a complaint ends the test.
 pub fn ask(cases: u64, law: impl Fn(&mut Case) -> Verdict) {
-    for seed in 0..cases {
+    ask_seeds(0..cases, law);
+}
+
+/// Asks a law of the cases with these seeds; a complaint ends the test.
+pub fn ask_seeds(seeds: Range<u64>, law: impl Fn(&mut Case) -> Verdict) {
+    for seed in seeds {
         let mut case = Case::new(seed);
         if let Err(complaint) = law(&mut case) {
             panic!("{complaint}");

@@ -1,4 +1,4 @@
-//! The lent buffers: junk before a call, and what every element must be after it.
+//! What every element of the lent buffers must be after a call, and junk point records before it.
 
 use frontier_host::brute::{Answer, Point};
 use frontier_host::limits::{LEAST_WORK, MAX_POINTS};
@@ -8,17 +8,6 @@ use frontier_host::random::Rng;
 use frontier_host::refusal::Refusal;
 
 use super::{ensure, Verdict};
-
-/// Buffers of these lengths with random contents.
-pub fn junk(rng: &mut Rng, costs: usize, choices: usize, work: usize) -> Buffers {
-    // One number for the whole work buffer: it is long, and any contents must do.
-    let fill = rng.bits() as u32 | 1;
-    Buffers {
-        costs: (0..costs).map(|_| rng.bits() as u32).collect(),
-        choices: (0..choices).map(|_| rng.bits() as u8).collect(),
-        work: vec![fill; work],
-    }
-}
 
 /// A point record with random contents.
 pub fn junk_point(rng: &mut Rng) -> Point {

@@ -5,12 +5,12 @@ use frontier_host::brute::{bound_prefix, list_points, solve_cut, Answer, Halves,
 use frontier_host::limits::{LEAST_WORK, MAX_POINTS};
 use frontier_host::owned::{cut_of, frontier_of, Buffers, Listed};
 use frontier_host::problem::{Problem, Table};
-use frontier_host::random::random_choice;
+use frontier_host::random::{junk, random_choice};
 use frontier_host::reading::read_problem;
 use frontier_host::refusal::Refusal;
 
 use super::case::Case;
-use super::flat::{junk, junk_point, Known};
+use super::flat::{junk_point, Known};
 use super::{all_choices, check_bounds, check_frontier, consistent_choices, ensure};
 use super::{frontier_size, is_valid, record_starts, Verdict};
 
@@ -50,44 +50,60 @@ pub fn flat_law(case: &mut Case, solver: Solver) -> Verdict {
     let consistent = consistent_choices(&case.problem);
     let size = frontier_size(&consistent);
     let mut lent = exact_buffers(case, size);
-    let answer = solver(
-        &case.bytes,
-        &mut lent.costs,
-        &mut lent.choices,
-        &mut lent.work,
-    );
+    let answer = lent.lend(solver, &case.bytes);
     let list = lent.listed(&case.bytes, answer).unwrap_or_default();
     if size <= MAX_POINTS {
         check_frontier(&consistent, &list)?;
     }
-    for exact in [true, false, false] {
-        let before = match exact {
-            true => exact_buffers(case, size),
-            false => random_buffers(case, size),
-        };
-        let mut lent = before.clone();
-        let answer = solver(
-            &case.bytes,
-            &mut lent.costs,
-            &mut lent.choices,
-            &mut lent.work,
-        );
-        let known = Known {
-            problem: &case.problem,
-            list: &list,
-            size,
-        };
-        known.check_flat(&before, &lent, answer)?;
-    }
-    Ok(())
+    determined_law(case, solver, &list, size)?;
+    check_lent(case, solver, &list, size, Fit::Near)
+}
+
+/// The flat call answers as the brute force does, and so leaves every element of its buffers.
+pub fn agreement_law(case: &mut Case, solver: Solver) -> Verdict {
+    let (list, size) = listed_by_brute(case);
+    determined_law(case, solver, &list, size)
+}
+
+/// What the brute force lists, and its length; 65 stands for every frontier above 64 points.
+fn listed_by_brute(case: &Case) -> (Vec<Listed>, usize) {
+    let listed = frontier_of(&case.bytes);
+    let size = listed.as_ref().map_or(MAX_POINTS + 1, Vec::len);
+    (listed.unwrap_or_default(), size)
+}
+
+/// How long the lent buffers are: as long as the points need, or a little below or above.
+#[derive(Clone, Copy)]
+enum Fit {
+    Exact,
+    Near,
+}
+
+/// The answer and every element of the buffers are determined by the list and its size.
+fn determined_law(case: &mut Case, solver: Solver, list: &[Listed], size: usize) -> Verdict {
+    check_lent(case, solver, list, size, Fit::Exact)?;
+    check_lent(case, solver, list, size, Fit::Near)
+}
+
+/// Lends buffers with junk to a flat call, and checks its answer and what it leaves.
+fn check_lent(case: &mut Case, solver: Solver, list: &[Listed], size: usize, fit: Fit) -> Verdict {
+    let before = match fit {
+        Fit::Exact => exact_buffers(case, size),
+        Fit::Near => random_buffers(case, size),
+    };
+    let mut lent = before.clone();
+    let answer = lent.lend(solver, &case.bytes);
+    let known = Known {
+        problem: &case.problem,
+        list,
+        size,
+    };
+    known.check_flat(&before, &lent, answer)
 }
 
 /// The point records agree with the flat form.
 pub fn points_law(case: &mut Case, lister: Lister) -> Verdict {
-    let (list, size) = match frontier_of(&case.bytes) {
-        Ok(list) => (list.clone(), list.len()),
-        Err(_) => (Vec::new(), MAX_POINTS + 1),
-    };
+    let (list, size) = listed_by_brute(case);
     let length = case.rng.below(size + 3);
     for length in [length, size, MAX_POINTS + 9] {
         let before: Vec<Point> = (0..length).map(|_| junk_point(&mut case.rng)).collect();

@@ -5,6 +5,7 @@ use frontier_host::brute::{
 };
 use frontier_host::limits::{MAX_POINTS, MAX_VARIABLES};
 use frontier_host::owned::{Buffers, Listed};
+use frontier_host::reading::read_problem;
 use frontier_host::refusal::Refusal;
 
 use super::law::{Bounder, Cutter, Lister, Solver};
@@ -74,15 +75,17 @@ pub fn wrong_lists(consistent: &[Costed], list: &[Listed]) -> Vec<(&'static str,
     wrong
 }
 
-/// The bytes with each ceiling one higher: a cost equal to its ceiling is then allowed.
+/// The bytes with each ceiling one higher: a cost equal to its ceiling is then allowed. Bytes that
+/// are no problem stay as they are.
 fn with_higher_ceilings(problem: &[u8]) -> Vec<u8> {
-    let mut bytes = problem.to_vec();
-    let objectives = usize::from(bytes[3]);
-    for ceiling in bytes[6..6 + 4 * objectives].chunks_exact_mut(4) {
-        let value = u32::from_le_bytes([ceiling[0], ceiling[1], ceiling[2], ceiling[3]]);
-        ceiling.copy_from_slice(&value.saturating_add(1).to_le_bytes());
+    let Ok(reading) = read_problem(problem) else {
+        return problem.to_vec();
+    };
+    let mut higher = reading.problem;
+    for ceiling in &mut higher.ceilings {
+        *ceiling = ceiling.saturating_add(1);
     }
-    bytes
+    higher.encode()
 }
 
 /// Solves, and then does something wrong with the buffers or the answer.

@@ -1,0 +1,62 @@
+/* Calls the static library as a C or C++ program would; header.rs compiles it and reads what it prints. */
+#include "frontier.h"
+#include "frontier.h" /* a second time, which must do no harm */
+
+#include <inttypes.h>
+#include <stdio.h>
+
+/* Two variables of two values, one objective with ceiling 9, one table over both variables. */
+static const uint8_t problem[] = {
+    'H', 'D', 2, 1, 1, 0, 9, 0, 0, 0,
+    'D', 'O', 2, 'D', 'O', 2,
+    'C', 'F', 0, 2, 0, 1, 7, 0, 0, 0, 5, 0, 0, 0, 3, 1, 0, 0, 4, 0, 0, 0,
+};
+
+/* Two variables of two values, two objectives with ceilings 9; each variable has tables 0,1 and 1,0. */
+static const uint8_t pair[] = {
+    'H', 'D', 2, 2, 4, 0, 9, 0, 0, 0, 9, 0, 0, 0,
+    'D', 'O', 2, 'D', 'O', 2,
+    'C', 'F', 0, 1, 0, 0, 0, 0, 0, 1, 0, 0, 0,
+    'C', 'F', 1, 1, 0, 1, 0, 0, 0, 0, 0, 0, 0,
+    'C', 'F', 0, 1, 1, 0, 0, 0, 0, 1, 0, 0, 0,
+    'C', 'F', 1, 1, 1, 1, 0, 0, 0, 0, 0, 0, 0,
+};
+
+/* Prints number, place and count, how many work numbers are not zero, and of each point costs and choices. */
+static void print_list(size_t problem_len, size_t room, size_t work_len) {
+    static uint32_t costs[FRONTIER_MAX_POINTS * 2], work[FRONTIER_LEAST_WORK];
+    static uint8_t choices[FRONTIER_MAX_POINTS * 2];
+    uint32_t place = 9, count = 9, kept = 0;
+    for (size_t i = 0; i < FRONTIER_LEAST_WORK; i++)
+        work[i] = 9;
+    uint8_t number = frontier_solve(pair, problem_len, costs, 2 * room, choices, 2 * room, work, work_len,
+                                    &place, &count);
+    for (size_t i = 0; i < FRONTIER_LEAST_WORK; i++)
+        kept += work[i] != 0;
+    printf("%u %" PRIu32 " %" PRIu32 " %" PRIu32, (unsigned)number, place, count, kept);
+    for (uint32_t i = 0; i < count; i++)
+        printf(" %" PRIu32 " %" PRIu32 ":%u%u", costs[2 * i], costs[2 * i + 1], choices[2 * i], choices[2 * i + 1]);
+    printf("\n");
+}
+
+static void print_bound(size_t problem_len, const uint8_t *prefix, size_t prefix_len) {
+    uint64_t least[FRONTIER_MAX_OBJECTIVES] = {9, 9, 9, 9};
+    uint32_t place = 9;
+    uint8_t number = frontier_bound(problem, problem_len, prefix, prefix_len, least, &place);
+    printf("%u %" PRIu32, (unsigned)number, place);
+    for (int k = 0; k < FRONTIER_MAX_OBJECTIVES; k++)
+        printf(" %" PRIu64, least[k]);
+    printf("\n");
+}
+
+int main(void) {
+    print_list(sizeof pair, FRONTIER_MAX_POINTS, FRONTIER_LEAST_WORK);
+    print_list(sizeof pair, 2, FRONTIER_LEAST_WORK);
+    print_list(sizeof pair, 3, FRONTIER_LEAST_WORK - 1);
+    print_list(sizeof pair - 1, 3, FRONTIER_LEAST_WORK);
+    static const uint8_t prefix[] = {1, 0, 0};
+    for (size_t length = 0; length <= sizeof prefix; length++)
+        print_bound(sizeof problem, prefix, length);
+    print_bound(sizeof problem - 1, prefix, 0);
+    return 0;
+}
