@@ -1,6 +1,8 @@
 //! Mixed cases of the calls (valid, damaged and boundary problems, with good and bad prefixes of
 //! every length and with buffers long enough or not), and the comparison with the brute force.
 
+use std::ops::Range;
+
 use crate::bound::{bound_prefix, Least};
 use crate::brute::{solve_problem, Answer};
 use crate::examples::brimful;
@@ -57,6 +59,15 @@ impl Mixed {
             let compared = compare_bound(&self.bytes, prefix, &call);
             compared.map_err(|difference| format!("seed {}: {difference}", self.seed))
         })
+    }
+}
+
+/// Compares the cases with these seeds, for tests: the first difference ends the test.
+pub fn compare_seeds(seeds: Range<u64>, compare: impl Fn(&Mixed) -> Result<(), String>) {
+    for seed in seeds {
+        if let Err(difference) = compare(&Mixed::new(seed)) {
+            panic!("{difference}");
+        }
     }
 }
 

@@ -8,38 +8,34 @@ use std::thread;
 use frontier_host::brute::{bound_prefix, Least};
 use frontier_host::chooser::{self, write_bound};
 use frontier_host::examples::{brimful, colours, objects, three};
-use frontier_host::mixed::{compare_bound, Mixed};
+use frontier_host::mixed::{compare_bound, compare_seeds, Mixed};
 use frontier_host::refusal::{Refusal, CUT_SHORT, PREFIX};
 
 /// Compares the mixed cases with these seeds; a difference ends the test.
-fn compare_seeds(seeds: Range<u64>) {
-    for seed in seeds {
-        if let Err(difference) = Mixed::new(seed).compare_bounds(chooser::bound_prefix) {
-            panic!("{difference}");
-        }
-    }
+fn compare_mixed(seeds: Range<u64>) {
+    compare_seeds(seeds, |case| case.compare_bounds(chooser::bound_prefix));
 }
 
 // 200,000 cases, in parts that run side by side.
 
 #[test]
 fn mixed_cases_0_to_50_000() {
-    compare_seeds(0..50_000);
+    compare_mixed(0..50_000);
 }
 
 #[test]
 fn mixed_cases_50_000_to_100_000() {
-    compare_seeds(50_000..100_000);
+    compare_mixed(50_000..100_000);
 }
 
 #[test]
 fn mixed_cases_100_000_to_150_000() {
-    compare_seeds(100_000..150_000);
+    compare_mixed(100_000..150_000);
 }
 
 #[test]
 fn mixed_cases_150_000_to_200_000() {
-    compare_seeds(150_000..200_000);
+    compare_mixed(150_000..200_000);
 }
 
 /// So that the comparison is not of dull cases only.
@@ -134,7 +130,7 @@ fn any_address_will_do() {
 
 #[test]
 fn calls_side_by_side_do_not_disturb_each_other() {
-    let run = |first: u64| move || compare_seeds(first..first + 1_000);
+    let run = |first: u64| move || compare_mixed(first..first + 1_000);
     let threads = [0, 300, 600, 900].map(|first| thread::spawn(run(first)));
     for side in threads {
         side.join().expect("a difference is told above");

@@ -14,7 +14,7 @@ use frontier_host::brute::{solve_problem, Answer};
 use frontier_host::chooser::{self, write_solve};
 use frontier_host::examples::{brimful, colours, objects, staircase, three};
 use frontier_host::limits::{LEAST_WORK, MAX_BYTES};
-use frontier_host::mixed::{compare_solve, Mixed};
+use frontier_host::mixed::{compare_seeds, compare_solve, Mixed};
 use frontier_host::owned::Buffers;
 use frontier_host::random::{junk, Rng};
 use frontier_host::refusal::{Refusal, CUT_SHORT, FULL, WORK};
@@ -48,22 +48,18 @@ fn small_problems_150_000_to_200_000() {
 }
 
 /// Compares the mixed cases with these seeds; a difference ends the test.
-fn compare_seeds(seeds: Range<u64>) {
-    for seed in seeds {
-        if let Err(difference) = Mixed::new(seed).compare_solve(chooser::solve_problem) {
-            panic!("{difference}");
-        }
-    }
+fn compare_mixed(seeds: Range<u64>) {
+    compare_seeds(seeds, |case| case.compare_solve(chooser::solve_problem));
 }
 
 #[test]
 fn mixed_cases_0_to_20_000() {
-    compare_seeds(0..20_000);
+    compare_mixed(0..20_000);
 }
 
 #[test]
 fn mixed_cases_20_000_to_40_000() {
-    compare_seeds(20_000..40_000);
+    compare_mixed(20_000..40_000);
 }
 
 /// So that the comparison is not of dull cases only.
@@ -223,7 +219,7 @@ fn any_address_will_do() {
 
 #[test]
 fn calls_side_by_side_do_not_disturb_each_other() {
-    let run = |first: u64| move || compare_seeds(first..first + 1_000);
+    let run = |first: u64| move || compare_mixed(first..first + 1_000);
     let threads = [0, 300, 600, 900].map(|first| thread::spawn(run(first)));
     for side in threads {
         side.join().expect("a difference is told above");

@@ -20,7 +20,6 @@ use Rattle.model.specs.Calls.{padded, divided, roomOf}
 use Rattle.model.proofs.Bits.{and-left, and-right}
 use Rattle.model.proofs.Elements.{all-append, all-drop}
 use Rattle.model.proofs.Words.{length-wordsIn, words-below}
-use Rattle.model.proofs.Reading.{accepted-owners}
 use Rattle.model.proofs.Frontier.{frontier-best}
 use Rattle.problem.specs.declared.Reading as DG
 use Rattle.problem.proofs.Accepted.{AcceptedReading}
@@ -86,7 +85,6 @@ module _ (s : List ℕ) (r : DG.Reading) (a : AcceptedReading s r) where
   asked bytes room w small enough =
       record {
         whole = a .whole;
-        owners = rw (tables-are, a .objectives) (accepted-owners s (a .none));
         small = a .small;
         variables = omega (arith, sized, a .few-variables);
         objectives = a .few-objectives .1;

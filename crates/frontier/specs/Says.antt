@@ -2,7 +2,7 @@
 use mathlib.Core.Path.{_≡_}
 use mathlib.Core.List.{List}
 use Prim.Native.Nat.{ℕ}
-use Rattle.model.specs.Calls.{SolveOutcome, solveOutcome, boundOutcome}
+use Rattle.model.specs.Calls.{SolveOutcome, boundOutcome}
 use Rattle.frontier.specs.declared.Answer as DA
 use Rattle.frontier.specs.declared.Least as DL
 

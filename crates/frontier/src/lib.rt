@@ -6,6 +6,9 @@ ghost use lib.ListN.{length};
 ghost use Rattle.model.specs.Calls.{solveOutcome};
 ghost use Rattle.frontier.specs.Says.{refusal, SolveSays, SolveExports, BoundSays, BoundExports};
 
+// The least length of a work buffer.
+pub const LEAST_WORK: usize = 8192;
+
 // What a call that lists the frontier answers: a refusal's number and place, or 0 and 0 and the count of points.
 pub struct Answer {
     pub number: u8,
@@ -43,7 +46,7 @@ pub fn solve_problem(
     if g.number != 0 {
         return refused(g.number, g.place as u32);
     }
-    if work.len() < 8192 {
+    if work.len() < LEAST_WORK {
         return refused(12, 0);
     }
     let head = g.head;

@@ -53,7 +53,7 @@ module _ (p r : ℕ) (ceilings ds s was : List ℕ) where
     ps = listIn p (length ds) work 0 k
 
     pub passing-setting : k ≤ maxPoints → Setting p r k ds s work
-    passing-setting h = record { grouped = u .grouped; objectives = setting .objectives; owners = rw (u .places) (setting .owners); count = h }
+    passing-setting h = record { grouped = u .grouped; objectives = setting .objectives; count = h }
 
     pub passing-stands : (x : DP.Partial) → Stands r ds s was x → Stands r ds s work x
     passing-stands x st = record { short = st .short; good = st .good; exact = rw (u .places) (st .exact) }

@@ -1,14 +1,14 @@
--- The places of accepted records, written over work memory: the records are whole, their tables and owners are those read.
+-- The places of accepted records, written over work memory: the records are whole, their tables are those read.
 use mathlib.Core.Path.{_≡_, refl, ap, _∙_, subst}
 use mathlib.Core.List.{List, [], _∷_, _++_, append-assoc}
-use Prim.Native.Nat.{ℕ, zero, suc, _+_, _<_}
+use Prim.Native.Nat.{ℕ, zero, suc, _+_}
 use native.Mathlib.Omega.{arith}
 use lib.ListN.{length, take, drop}
 use lib.Seq.{length-take-le, take-at, drop-at}
 use Rattle.model.specs.Basics.{All}
 use Rattle.model.specs.Limits.{maxObjectives}
-use Rattle.model.specs.Problems.{Table, Problem}
-use Rattle.model.specs.Reading.{tableObjective, tableLength, tableOf, tablesAt, placesAt}
+use Rattle.model.specs.Problems.{Problem}
+use Rattle.model.specs.Reading.{tableLength, tableOf, tablesAt, placesAt}
 use Rattle.model.specs.Costs.{totalsFrom}
 use Rattle.model.specs.Bounds.{prefixOk, leastOf}
 use Rattle.model.specs.Calls.{over}
@@ -35,11 +35,6 @@ module _ (ds s : List ℕ) where
   unfolding placesAt tablesAt tablesOver
   places-tables zero at = refl
   places-tables (suc r) at = ap (_∷_ (tableOf ds (drop at s))) (places-tables r (at + tableLength ds (drop at s)))
-
-  pub places-owners : (p r at : ℕ) → All (λ (t : Table). t .objective < p) (tablesAt r ds s at) → All (λ at. tableObjective (drop at s) < p) (placesAt r ds s at)
-  unfolding placesAt tablesAt tableOf
-  places-owners p zero at h = tt
-  places-owners p (suc r) at h = (h .0, places-owners p r (at + tableLength ds (drop at s)) (h .1))
 
 -- `kept` is written over the records' part of work memory
 module _ (p r at room : ℕ) (ceilings ds s work : List ℕ) (a : Accepted p r at room ceilings ds s work) (kept part rest : List ℕ) (says : kept ≡ over (placesAt r ds s at) part) where
@@ -70,7 +65,7 @@ module _ (p r at room : ℕ) (ceilings ds s work : List ℕ) (a : Accepted p r a
   tables = ap (tablesOver ds s) places ∙ places-tables ds s r at
 
   pub grouped-setting : Setting p r 0 ds s after
-  grouped-setting = record { grouped = grouped; objectives = a .objectives; owners = rw places (places-owners ds s p r at (a .owners)); count = omega arith }
+  grouped-setting = record { grouped = grouped; objectives = a .objectives; count = omega arith }
 
   -- the empty choice
   pub grouped-root : (x : DP.Partial) → x .len ≡ 0 → x .bound ≡ totalsFrom maxObjectives 0 (leastOf ds []) (tablesAt r ds s at) → Stands r ds s after x

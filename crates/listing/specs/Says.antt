@@ -2,7 +2,7 @@
 use mathlib.Core.Path.{_≡_}
 use mathlib.Core.Bool.{false, not}
 use mathlib.Core.List.{List}
-use Prim.Native.Nat.{ℕ, _≤_, _<_}
+use Prim.Native.Nat.{ℕ, _≤_}
 use lib.Dec.{ltb}
 use lib.ListN.{length, take}
 use Rattle.model.specs.Basics.{All, when}
@@ -21,7 +21,6 @@ problemAt p ceilings ds s at r = record { objectives = p; ceilings = take p ceil
 -- what is asked for: accepted records, and work memory
 pub record Accepted (p r at room : ℕ) (ceilings ds s work : List ℕ) : Type 0 where
   pub whole : AllWhole r ds s at
-  pub owners : All (λ t. t .objective < p) (tablesAt r ds s at)
   pub small : All DomainSize ds
   pub variables : length ds ≤ maxVariables
   pub objectives : p ≤ maxObjectives

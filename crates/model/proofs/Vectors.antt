@@ -2,7 +2,7 @@
 -- Each test has a type beside it (AtMost, Earlier); the laws are proved of the types.
 use mathlib.Core.Path.{_≡_, refl, ap, sym, subst}
 use mathlib.Core.Logic.{_⊎_, inl, inr, ⊎-elim}
-use mathlib.Core.Bool.{true, false, _&&_, _||_, not, false≢true}
+use mathlib.Core.Bool.{true, false, _&&_, not, false≢true}
 use mathlib.Core.List.{List, [], _∷_}
 use Prim.Native.Nat.{ℕ, _+_, _≤_, _<_}
 use native.Mathlib.Omega.{arith}
@@ -71,9 +71,6 @@ earlier-test (x ∷ xs) (y ∷ ys) (inr p) = or-right (ltb x y) (and-both (eq-eq
 
 pub beats-true : (xs ys : List ℕ) → beats xs ys ≡ true → AtMost xs ys × (xs ≡ ys → ⊥)
 beats-true xs ys h = (at-most-true xs ys (and-left (atMost xs ys) (not (same xs ys)) h), λ e. true-false (same-eq e) (not-true (same xs ys) (and-right (atMost xs ys) (not (same xs ys)) h)))
-
-pub beats-test : (xs ys : List ℕ) → AtMost xs ys → (xs ≡ ys → ⊥) → beats xs ys ≡ true
-beats-test xs ys h n = and-both (at-most-test xs ys h) (ap not (not-true-false (same xs ys) (λ s. n (same-true xs ys s))))
 
 pub beats-false : (xs ys : List ℕ) → beats xs ys ≡ false → AtMost xs ys → xs ≡ ys
 beats-false xs ys f h = ⊎-elim (λ s. same-true xs ys s) (λ s. absurd (true-false (and-both (at-most-test xs ys h) (ap not s)) f)) (test (same xs ys))
@@ -169,13 +166,6 @@ not-later-antisym xs ys (inl p) k = p
 not-later-antisym xs ys (inr p) (inl q) = sym q
 not-later-antisym xs ys (inr p) (inr q) = absurd (earlier-irrefl xs (earlier-trans xs ys xs p q))
 
-pub not-later-true : (xs ys : List ℕ) → (same xs ys || earlier xs ys) ≡ true → NotLater xs ys
-not-later-true xs ys h = ⊎-elim (λ s. inl (same-true xs ys s)) (λ s. inr (earlier-true xs ys s)) (or-cases (same xs ys) (earlier xs ys) h)
-
-pub not-later-test : (xs ys : List ℕ) → NotLater xs ys → (same xs ys || earlier xs ys) ≡ true
-not-later-test xs ys (inl p) = or-left (earlier xs ys) (same-eq p)
-not-later-test xs ys (inr p) = or-right (same xs ys) (earlier-test xs ys p)
-
 pub not-earlier : (xs ys : List ℕ) → length xs ≡ length ys → earlier xs ys ≡ false → NotLater ys xs
 not-earlier xs ys e h = go (ordered xs ys e)
   where
@@ -190,13 +180,3 @@ later-false xs ys h = not-true-false (earlier ys xs) (λ t. go h (earlier-true y
     go : NotLater xs ys → Earlier ys xs → ⊥
     go (inl e) k = earlier-irrefl xs (subst (λ (v : List ℕ). Earlier v xs) (sym e) k)
     go (inr l) k = earlier-irrefl xs (earlier-trans xs ys xs l k)
-
--- beats, in tests
-pub beats-irrefl : (xs : List ℕ) → beats xs xs ≡ false
-beats-irrefl xs = not-true-false (beats xs xs) (λ t. beats-true xs xs t .1 refl)
-
-pub beats-trans : (xs ys zs : List ℕ) → length xs ≡ length ys → beats xs ys ≡ true → beats ys zs ≡ true → beats xs zs ≡ true
-beats-trans xs ys zs e h k =
-    let a = beats-true xs ys h in
-    let b = beats-true ys zs k in
-    beats-test xs zs (at-most-trans xs ys zs e (a .0) (b .0)) (λ d. a .1 (at-most-antisym xs ys e (a .0) (subst (AtMost ys) (sym d) (b .0))))

@@ -117,7 +117,7 @@ pub fn room_of(costs: usize, choices: usize, p: usize, n: usize) -> usize
     requires { ⌜ (1 ≤ p) × (1 ≤ n) ⌝ }
     ensures { λ r. ⌜ r ≡ Prim.Native.Nat.min (divided costs p) (Prim.Native.Nat.min (divided choices n) maxPoints) ⌝ }
 {
-    lesser(costs / p, lesser(choices / n, 64))
+    lesser(costs / p, lesser(choices / n, model::Point::MAX_COUNT))
 }
 
 fn lesser(a: usize, b: usize) -> usize

@@ -2,12 +2,11 @@
 use mathlib.Core.Path.{_≡_}
 use mathlib.Core.Bool.{Bool, true, _||_, not}
 use mathlib.Core.List.{List, [], _∷_, _++_}
-use Prim.Native.Nat.{ℕ, _-_, _≤_, _<_}
+use Prim.Native.Nat.{ℕ, _-_, _≤_}
 use lib.ListN.{length, getD, take, drop}
-use Rattle.model.specs.Basics.{All, pick, when}
+use Rattle.model.specs.Basics.{pick, when}
 use Rattle.model.specs.Limits.{maxObjectives, maxPoints}
 use Rattle.model.specs.Problems.{Table, Problem}
-use Rattle.model.specs.Reading.{tableObjective}
 use Rattle.model.specs.Vectors.{under}
 use Rattle.model.specs.Costs.{totalsFrom}
 use Rattle.model.specs.Frontiers.{Point, point}
@@ -45,7 +44,6 @@ ruleOf q ps pre h = dead q ps h (boundOf q pre)
 pub record Setting (p r k : ℕ) (ds s work : List ℕ) : Type 0 where
   pub grouped : Grouped ds s work r
   pub objectives : p ≤ maxObjectives
-  pub owners : All (λ at. tableObjective (drop at s) < p) (placesIn work r)
   pub count : k ≤ maxPoints
 
 -- a partial choice stands for its prefix, with the prefix's bound in all four objectives

@@ -1,4 +1,4 @@
-// The search: passes in list order, each a branch and bound over the tree of partial choices.
+// One pass in list order: a branch and bound over the tree of partial choices finds the next point.
 ghost use mathlib.Core.Path.{_≡_};
 ghost use mathlib.Core.List.{_++_, _∷_, []};
 ghost use Prim.Native.Nat.{_+_, _<_, _≤_};
@@ -9,10 +9,6 @@ ghost use Rattle.groups.specs.Layout.{listEnd};
 ghost use Rattle.groups.specs.Groups.{Grouped};
 ghost use Rattle.rows.specs.Rows.{listIn};
 ghost use Rattle.search.specs.States.{heldOf, problemIn, prefixOf, deadIn, ruleOf, Setting, Stands, Rest, opensFrom, triesFrom};
-
-pub const LIST_AT: usize = 1049;
-
-pub const ROW_WIDTH: usize = 28;
 
 // A partial choice: values of the first `len` variables, and the bound of that prefix.
 pub struct Partial {
@@ -48,7 +44,7 @@ fn is_matched(c: [u64; 4], n: usize, work: &[u32], k: usize, p: usize) -> bool
 {
     let mut i: usize = 0;
     while i < k {
-        if vectors::is_at_most(costs_at(work, LIST_AT + ROW_WIDTH * i), c, p) {
+        if vectors::is_at_most(costs_at(work, rows::LIST_AT + rows::ROW_WIDTH * i), c, p) {
             return true;
         }
         i += 1;
