@@ -9,11 +9,12 @@ use lib.Dec.{eqb}
 use lib.ListN.{length, drop}
 use borrow.Author.Tests.{eqb-true, ne-eqb}
 use borrow.Author.Count.{below-more}
-use Rattle.model.specs.Basics.{All, keepIf, when}
+use Rattle.model.specs.Basics.{All, when}
 use Rattle.model.specs.Limits.{maxArity}
 use Rattle.model.specs.Reading.{tableScope}
 use Rattle.problem.specs.Records.{Whole}
 use Rattle.groups.specs.Groups.{hasVariable, groupOf}
+use Rattle.groups.proofs.Keeping.{keep-length}
 use Rattle.groups.proofs.ScopeSteps.{scope-few}
 
 unfoldable pub lengthTo : List ℕ → List ℕ → ℕ → ℕ
@@ -60,10 +61,6 @@ count-more (suc v) w ws = go (eqb w v) refl (count-more v w ws)
 count-few : (v : ℕ) (ws : List ℕ) → countTo v ws ≤ length ws
 count-few v [] = omega (arith, count-none v)
 count-few v (w ∷ ws) = omega (arith, count-more v w ws, count-few v ws)
-
-keep-length : (t : Bool) (x : ℕ) (xs : List ℕ) → length (keepIf t x xs) ≡ when t 1 + length xs
-keep-length true x xs = omega arith
-keep-length false x xs = omega arith
 
 -- a record stands in as many groups as its scope has variables below v
 length-record : (s : List ℕ) (at : ℕ) (places : List ℕ) (v : ℕ) → lengthTo s (at ∷ places) v ≡ countTo v (tableScope (drop at s)) + lengthTo s places v

@@ -10,7 +10,7 @@ use Rattle.groups.specs.Layout.{groupsAt, recordsAt}
 use Rattle.groups.specs.Groups.{groupOf, placesIn, Placed, Grouped}
 use Rattle.groups.proofs.GroupLengths.{lengthTo, length-next, length-later, length-few}
 use Rattle.groups.proofs.Overwritten.{over, over-length, over-behind, over-before, over-part, over-here}
-use Rattle.groups.proofs.Adding.{places-length}
+use Rattle.groups.proofs.PlacedRecords.{places-length}
 
 -- where the group of v starts
 abbrev startOf : List ℕ → List ℕ → ℕ → ℕ

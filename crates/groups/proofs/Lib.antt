@@ -1,8 +1,9 @@
 -- The laws that the functions' proofs share.
 pub mod ScopeSteps
-pub mod GroupSteps
-pub mod GroupSums
+pub mod SumsOver
 pub mod Overwritten
+pub mod Keeping
 pub mod Adding
+pub mod PlacedRecords
 pub mod GroupLengths
 pub mod Grouping

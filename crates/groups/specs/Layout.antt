@@ -5,16 +5,27 @@ use Prim.Native.Nat.{ℕ}
 abbrev pub groupsAt : ℕ
 groupsAt = 25
 
--- where each record starts: 256 numbers
+-- where each record that is searched starts: 256 numbers
 abbrev pub recordsAt : ℕ
 recordsAt = 793
 
--- the listed points, 28 numbers each (four costs, 24 values): 65 of them
+-- what the variables from each one on add to a bound, in four objectives: 25 rows of four numbers
+abbrev pub gainsAt : ℕ
+gainsAt = 1049
+
+-- where each record of the problem starts, from which those that are searched are taken: 256 numbers
+abbrev pub sourceAt : ℕ
+sourceAt = 1149
+
+-- points, 28 numbers each (four costs, 24 values): 65 of the list that is made, and behind it 65 of each half's
 abbrev pub listAt : ℕ
-listAt = 1049
+listAt = 1405
 
 abbrev pub rowWidth : ℕ
 rowWidth = 28
 
 abbrev pub listEnd : ℕ
-listEnd = 2869
+listEnd = 3225
+
+abbrev pub rowsEnd : ℕ
+rowsEnd = 6865

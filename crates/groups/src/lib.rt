@@ -1,19 +1,27 @@
 // Records grouped by variable in work memory, so that a value looks only at the records that its variable touches.
 ghost use mathlib.Core.Path.{_≡_};
+ghost use mathlib.Core.Logic.{_⊎_};
 ghost use mathlib.Core.Bool.{true};
 ghost use mathlib.Core.List.{_++_};
-ghost use Prim.Native.Nat.{ℕ, _+_, _-_, _*_, _<_, _≤_};
-ghost use lib.ListN.{length, getD, take, drop};
-ghost use Rattle.model.specs.Limits.{maxObjectives};
+ghost use Prim.Native.Nat.{_+_, _-_, _<_, _≤_};
+ghost use lib.ListN.{length, take, drop};
+ghost use Rattle.model.specs.Basics.{All};
+ghost use Rattle.model.specs.Limits.{maxTables, maxObjectives};
+ghost use Rattle.model.specs.Problems.{DomainSize};
 ghost use Rattle.model.specs.Reading.{tableArity, tableScope};
 ghost use Rattle.model.specs.Costs.{totalsFrom};
 ghost use Rattle.model.specs.Bounds.{prefixOk, leastOf};
+ghost use Rattle.problem.specs.Records.{Whole};
 ghost use Rattle.groups.specs.Layout.{groupsAt, recordsAt};
 ghost use Rattle.groups.specs.Groups.{hasVariable, groupOf, tablesOver, placesIn, Placed, Grouped};
 
 pub const GROUPS_AT: usize = 25;
 
 pub const RECORDS_AT: usize = 793;
+
+pub const GAINS_AT: usize = 1049;
+
+pub const SOURCE_AT: usize = 1149;
 
 // Whether the scope of the record at `at` has the variable `v`.
 pub fn has_variable(s: &[u8], at: usize, v: usize) -> bool
@@ -65,6 +73,29 @@ pub fn group_records(s: &[u8], sizes: &[u8], r: usize, work: &mut [u32])
     work[n] = end as u32;
 }
 
+// The sums of least entries that agree with the prefix, over the records whose places stand in work memory at `from` .. `to`.
+pub fn bounds_over(
+    s: &[u8],
+    sizes: &[u8],
+    from: usize,
+    to: usize,
+    prefix: &[u8],
+    work: &[u32],
+) -> [u64; 4]
+    requires { ⌜ All DomainSize (now sizes) × (from ≤ to) × (to ≤ length (now work)) × (to - from ≤ maxTables) × All (Whole (now sizes) (now s)) (take (to - from) (drop from (now work))) × (prefixOk (now sizes) (now prefix) ≡ true) ⌝ }
+    ensures { λ t. ⌜ t ≡ totalsFrom maxObjectives 0 (leastOf (now (sizes .entry)) (now (prefix .entry))) (tablesOver (now (sizes .entry)) (now (s .entry)) (take (to - from) (drop from (now (work .entry))))) ⌝ }
+{
+    let mut sums = [0u64; 4];
+    let mut i = from;
+    while i < to {
+        let at = work[i] as usize;
+        let o = s[at + 2] as usize;
+        sums[o] = sums[o] + (costs::least_at(s, at, sizes, prefix) as u64);
+        i += 1;
+    }
+    sums
+}
+
 // The sums of least entries that agree with the prefix, over the group of variable `v`.
 pub fn group_bounds(
     s: &[u8],
@@ -77,14 +108,19 @@ pub fn group_bounds(
     requires { ⌜ Grouped (now sizes) (now s) (now work) r × (v < length (now sizes)) × (prefixOk (now sizes) (now prefix) ≡ true) ⌝ }
     ensures { λ t. ⌜ t ≡ totalsFrom maxObjectives 0 (leastOf (now (sizes .entry)) (now (prefix .entry))) (tablesOver (now (sizes .entry)) (now (s .entry)) (groupOf (now (s .entry)) v (placesIn (now (work .entry)) r))) ⌝ }
 {
-    let mut sums = [0u64; 4];
-    let mut i = work[v] as usize;
-    let end = work[v + 1] as usize;
-    while i < end {
-        let at = work[i] as usize;
-        let o = s[at + 2] as usize;
-        sums[o] = sums[o] + (costs::least_at(s, at, sizes, prefix) as u64);
+    let from = work[v] as usize;
+    let to = work[v + 1] as usize;
+    bounds_over(s, sizes, from, to, prefix, work)
+}
+
+// Copies `count` numbers of work memory from `from` on to the place `to`. The two parts do not overlap.
+pub fn copy_numbers(from: usize, to: usize, count: usize, work: &mut [u32])
+    requires { ⌜ (from + count ≤ length (now work)) × (to + count ≤ length (now work)) × ((from + count ≤ to) ⊎ (to + count ≤ from)) ⌝ }
+    ensures { λ _. ⌜ now (work .exit) ≡ take to (now (work .entry)) ++ take count (drop from (now (work .entry))) ++ drop (to + count) (now (work .entry)) ⌝ }
+{
+    let mut i: usize = 0;
+    while i < count {
+        work[to + i] = work[from + i];
         i += 1;
     }
-    sums
 }

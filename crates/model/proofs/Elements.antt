@@ -1,5 +1,6 @@
--- A property of every element: at one place, from another property, of two lists in a row, of a front and of what is left behind it.
-use mathlib.Core.List.{List, [], _∷_, _++_}
+-- A property of every element: at one place, from each that stands in the list, from another property, of two lists in a row, of a front and of what is left behind it.
+use mathlib.Core.Path.{refl}
+use mathlib.Core.List.{List, [], _∷_, _++_, List·Memᴰ as In, List·Memᴰ·head as here, List·Memᴰ·tail as there}
 use Prim.Native.Nat.{ℕ, zero, suc, _<_}
 use native.Mathlib.Omega.{arith}
 use lib.ListN.{length, getD, take, drop}
@@ -16,6 +17,10 @@ module _ {A : Type 0} (P : A → Type 0) where
   all-at [] h i d o = o
   all-at (x ∷ xs) h zero d o = h .0
   all-at (x ∷ xs) h (suc i) d o = all-at xs (h .1) i d o
+
+  pub all-in : (xs : List A) → ((x : A) → In x xs → P x) → All P xs
+  all-in [] h = tt
+  all-in (x ∷ xs) h = (h x (here refl), all-in xs (λ y m. h y (there m)))
 
   pub all-map : (Q : A → Type 0) → ((x : A) → P x → Q x) → (xs : List A) → All P xs → All Q xs
   all-map Q f [] h = tt

@@ -16,7 +16,7 @@ use Rattle.model.proofs.Bits.{true-false, and-left, and-right, and-both
 use Rattle.model.proofs.Sides.{side-cases, sides-tail, side-place}
 
 -- a scope that lies on side k
-abbrev OnSide : ℕ → List ℕ → List ℕ → Type 0
+abbrev pub OnSide : ℕ → List ℕ → List ℕ → Type 0
 OnSide k ss vs = (v : ℕ) → In v vs → getD ss v 0 ≡ k
 
 -- a variable out of the list counts as side 0
@@ -31,11 +31,11 @@ has-side k ss [] v m e = absurd (in-none m)
 has-side k ss (w ∷ vs) v m e = ⊎-elim (λ (d : v ≡ w). or-left (hasSide k ss vs) (eq-eqb (getD ss w 0) k (rw d at e))) (λ n. or-right (eqb (getD ss w 0) k) (has-side k ss vs v n e)) (in-cases m)
 
 -- a scope that does not cross lies in one half
-data InOne (ss vs : List ℕ) : Type 0 where
+pub data InOne (ss vs : List ℕ) : Type 0 where
   in-zero : inHalf 0 ss vs ≡ true → inHalf 1 ss vs ≡ false → OnSide 0 ss vs → InOne ss vs
   in-one : inHalf 0 ss vs ≡ false → inHalf 1 ss vs ≡ true → OnSide 1 ss vs → InOne ss vs
 
-one-half : (ss : List ℕ) → allSides ss ≡ true → (vs : List ℕ) → (hasSide 0 ss vs && hasSide 1 ss vs) ≡ false → InOne ss vs
+pub one-half : (ss : List ℕ) → allSides ss ≡ true → (vs : List ℕ) → (hasSide 0 ss vs && hasSide 1 ss vs) ≡ false → InOne ss vs
 unfolding inHalf
 one-half ss a [] h = in-zero refl refl (λ v m. absurd (in-none m))
 one-half ss a (v ∷ vs) h =
@@ -67,7 +67,7 @@ module _ (ss : List ℕ) (all : allSides ss ≡ true) (ds zs : List ℕ) (long :
       rw (side-place k ss ds long v (o v (here refl)), side-place k ss zs wide v (o v (here refl)))
       (entry-half k vs (λ w m. o w (there m)) (i * getD (onSide k ss ds) n 0 + getD (onSide k ss zs) n 0))
 
-  table-half : (k : ℕ) (t : Table) → OnSide k ss (t .scope) → costOf ds zs t ≡ costOf (onSide k ss ds) (onSide k ss zs) (halfTable k ss t)
+  pub table-half : (k : ℕ) (t : Table) → OnSide k ss (t .scope) → costOf ds zs t ≡ costOf (onSide k ss ds) (onSide k ss zs) (halfTable k ss t)
   unfolding costOf
   table-half k t o = ap (λ (i : ℕ). getD (t .costs) i 0) (entry-half k (t .scope) o 0)
 

@@ -14,7 +14,7 @@ use Rattle.model.specs.Problems.{Table, scopeOk}
 use Rattle.model.specs.Costs.{isChoice, entryFrom, costOf}
 use Rattle.model.specs.Bounds.{prefixOk, agrees, leastTo, leastFrom, leastOf}
 use Rattle.model.proofs.Bits.{test, pick-both}
-use Rattle.model.proofs.Elements.{all-below}
+use Rattle.model.proofs.Elements.{all-below, all-map}
 use Rattle.model.proofs.Scopes.{Apart, Distinct, scope-distinct}
 use Rattle.model.proofs.Choices.{choice-length}
 use Rattle.model.proofs.Prefixes.{choice-prefix, prefix-below, agrees-length, agrees-at, set-choice, set-agrees, some-completion}
@@ -93,11 +93,16 @@ least-whole ds x t c = from-whole ds (λ i. getD (t .costs) i 0) x c 0 (t .scope
 pub least-below : (ds pre : List ℕ) (t : Table) (x : List ℕ) → isChoice ds x ≡ true → agrees pre x ≡ true → leastOf ds pre t ≤ costOf ds x t
 least-below ds pre t x c ag = rw (← least-whole ds x t c) (least-grows ds pre x t (choice-prefix ds x c) ag)
 
--- a variable that a scope does not have does not matter to its entry
-entry-apart : (ds x : List ℕ) (v a i : ℕ) (vs : List ℕ) → Apart v vs → entryFrom i ds vs (set x v a) ≡ entryFrom i ds vs x
+-- only the sizes and values of a scope's variables matter to its entry
+pub entry-same : (ds es x y : List ℕ) (i : ℕ) (vs : List ℕ) → All (λ v. (getD ds v 0 ≡ getD es v 0) × (getD x v 0 ≡ getD y v 0)) vs → entryFrom i ds vs x ≡ entryFrom i es vs y
 unfolding entryFrom
-entry-apart ds x v a i [] h = refl
-entry-apart ds x v a i (w ∷ vs) h = rw (getD-set-other x v w a 0 (h .0)) (entry-apart ds x v a _ vs (h .1))
+entry-same ds es x y i [] h = refl
+entry-same ds es x y i (v ∷ vs) h = rw (h .0 .0, h .0 .1) (entry-same ds es x y (i * getD es v 0 + getD y v 0) vs (h .1))
+
+entry-apart : (ds x : List ℕ) (v a i : ℕ) (vs : List ℕ) → Apart v vs → entryFrom i ds vs (set x v a) ≡ entryFrom i ds vs x
+entry-apart ds x v a i vs h =
+    entry-same ds ds (set x v a) x i vs
+    (all-map (λ w. w ≡ v → ⊥) (λ w. (getD ds w 0 ≡ getD ds w 0) × (getD (set x v a) w 0 ≡ getD x w 0)) (λ w n. (refl, getD-set-other x v w a 0 n)) vs h)
 
 -- a free variable v takes the value a of its least in a choice that reaches the least of the variables after it: they are apart from v
 module _ (ds pre : List ℕ) (entry : ℕ → ℕ) (low : All (λ d. 1 ≤ d) ds) (ok : prefixOk ds pre ≡ true) where

@@ -26,8 +26,10 @@ pub mod Choices
 pub mod Frontier
 -- demand 3: the cut
 pub mod Sides
+pub mod Spread
 pub mod Halves
 pub mod Cut
+pub mod Views
 pub mod Exchange
 -- the bound
 pub mod Prefixes
@@ -40,6 +42,13 @@ pub mod Tree
 pub mod Held
 pub mod Search
 pub mod Prune
+-- the sharper bound by suffixes
+pub mod Kept
+pub mod Narrowed
+pub mod Suffixes
+pub mod SuffixProblems
+-- the merge of two halves' lists
+pub mod Merging
 -- the calls and the demands
 pub mod Calls
 pub mod Demands

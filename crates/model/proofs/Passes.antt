@@ -10,7 +10,7 @@ use Rattle.model.specs.Vectors.{atMost, same}
 use Rattle.model.specs.Frontiers.{Point, frontier, Reached}
 use Rattle.model.specs.Search.{matched}
 use Rattle.model.proofs.Bits.{test, true-false, or-cases, or-left, or-right}
-use Rattle.model.proofs.Vectors.{AtMost, Earlier, NotLater, same-true, same-eq, earlier-irrefl, earlier-trans, at-most-true, at-most-test, at-most-trans, at-most-refl, at-most-earlier}
+use Rattle.model.proofs.Vectors.{AtMost, Earlier, NotLater, same-true, same-eq, earlier-irrefl, earlier-trans, not-later-trans, at-most-true, at-most-test, at-most-trans, at-most-refl, at-most-earlier}
 use Rattle.model.proofs.Points.{Rising}
 use Rattle.model.proofs.Best.{Pool, Listed, Best, Matched, listed-count}
 use Rattle.model.proofs.Frontier.{reached-width, frontier-best, best-frontier}
@@ -21,6 +21,12 @@ NotAfter x r = Earlier (x .costs) (r .costs) ⊎ ((x .costs ≡ r .costs) × Not
 
 pub not-after-refl : (x : Point) → NotAfter x x
 not-after-refl x = inr (refl, inl refl)
+
+pub not-after-trans : (x w r : Point) → NotAfter x w → NotAfter w r → NotAfter x r
+not-after-trans x w r (inl h) (inl k) = inl (earlier-trans (x .costs) (w .costs) (r .costs) h k)
+not-after-trans x w r (inl h) (inr k) = inl (subst (Earlier (x .costs)) (k .0) h)
+not-after-trans x w r (inr h) (inl k) = inl (subst (λ (c : List ℕ). Earlier c (r .costs)) (sym (h .0)) k)
+not-after-trans x w r (inr h) (inr k) = inr (h .0 ∙ k .0, not-later-trans (x .choice) (w .choice) (r .choice) (h .1) (k .1))
 
 not-after-costs : (x r : Point) → NotAfter x r → Earlier (r .costs) (x .costs) → ⊥
 not-after-costs x r (inl h) k = earlier-irrefl (x .costs) (earlier-trans (x .costs) (r .costs) (x .costs) h k)

@@ -24,7 +24,7 @@ use Rattle.model.proofs.Bounded.{bound-length, bound-at-most}
 
 -- a vector for each prefix that no choice that goes on from there undercuts
 pub record Lower (q : Problem) (low : List ℕ → List ℕ) : Type 0 where
-  pub width : (pre : List ℕ) → length (low pre) ≡ q .objectives
+  pub width : (pre y : List ℕ) → From (q .domains) pre y → length (low pre) ≡ q .objectives
   pub below : (pre y : List ℕ) → From (q .domains) pre y → AtMost (low pre) (costsOf q y)
 
 at-most-not-later : (b c : List ℕ) → length b ≡ length c → AtMost b c → NotLater b c
@@ -71,12 +71,12 @@ held-earlier q ps pre h k y c x e = go (subst (Before q ps pre) e k)
 -- such vectors make a sound rule
 pub lower-sound : (q : Problem) (low : List ℕ → List ℕ) → Lower q low → Sound q (λ ps pre h. dead q ps h (low pre))
 lower-sound q low l ps f pre h d k r s =
-    dead-beyond q ps f (low pre) (l .width pre) r (s .0) (subst (AtMost (low pre)) (sym (s .0 .0 .exact)) (l .below pre (r .choice) (s .1)))
+    dead-beyond q ps f (low pre) (l .width pre (r .choice) (s .1)) r (s .0) (subst (AtMost (low pre)) (sym (s .0 .0 .exact)) (l .below pre (r .choice) (s .1)))
     h d (held-earlier q ps pre h k (r .choice) (s .1 .1))
 
 -- the bound of document 01 is such a vector
 pub bound-lower : (q : Problem) → Lower q (boundOf q)
-bound-lower q = record { width = bound-length q; below = λ pre y t. bound-at-most q pre y (t .0) (completes-agrees pre y (t .1)) }
+bound-lower q = record { width = λ pre y t. bound-length q pre; below = λ pre y t. bound-at-most q pre y (t .0) (completes-agrees pre y (t .1)) }
 
 -- branch and bound gives the frontier, or finds it longer than the room
 pub bounded-search-right : (q : Problem) (room : ℕ) → passes room q (λ ps pre h. dead q ps h (boundOf q pre)) [] ≡ solved q room

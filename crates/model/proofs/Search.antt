@@ -14,11 +14,11 @@ use Rattle.model.specs.Costs.{isChoice, costsOf}
 use Rattle.model.specs.Frontiers.{consistent, Point, point, frontier, Reached}
 use Rattle.model.specs.Search.{Held, nothing, just, matched, isLeft, better, met, tries, opens, pass, done, full, passes, solved}
 use Rattle.model.proofs.Bits.{true-false, and-left, and-right, and-both}
-use Rattle.model.proofs.Vectors.{Earlier, earlier-true, earlier-trans, not-earlier}
+use Rattle.model.proofs.Vectors.{Earlier, earlier-true, not-earlier}
 use Rattle.model.proofs.Points.{point-eq}
 use Rattle.model.proofs.Frontier.{costs-width, reached-width, reached-choice}
 use Rattle.model.proofs.Best.{Matched}
-use Rattle.model.proofs.Passes.{NotAfter, Unmatched, matched-in, unmatched-false, Prefix, prefix-none, next-point, none-left, found-count}
+use Rattle.model.proofs.Passes.{NotAfter, not-after-trans, Unmatched, matched-in, unmatched-false, Prefix, prefix-none, next-point, none-left, found-count}
 use Rattle.model.proofs.Tree.{Passed, From, Through, completes-refl, opened, tried, closed, leaf, start}
 use Rattle.model.proofs.Held.{Beyond, Seen, Holds, holds-same, holds-skip, holds-take}
 
@@ -93,11 +93,6 @@ module _ (q : Problem) (ps : List Point) where
     kept : (w : Point) → earlier (costsOf q x) (w .costs) ≡ false → Left w → Earlier (w .choice) x → NotAfter w (at x)
     kept w e u l = ⊎-elim (λ k. inr (k, inr l)) (λ k. inl k) (not-earlier (costsOf q x) (w .costs) (costs-width q x ∙ sym (reached-width q w (u .0))) e)
 
-    -- x is earlier than the one held
-    ahead : (w r : Point) → Earlier (costsOf q x) (w .costs) → NotAfter w r → NotAfter (at x) r
-    ahead w r h (inl k) = inl (earlier-trans (costsOf q x) (w .costs) (r .costs) h k)
-    ahead w r h (inr k) = inl (subst (Earlier (costsOf q x)) (k .0) h)
-
     take-holds : Left (at x) → ((r : Point) → Seen Left (Passed (q .domains) x) r → NotAfter (at x) r) → After x (just (at x))
     take-holds u b = holds-take Left (Passed (q .domains) x) (From (q .domains) x) (at x) (u, (c, completes-refl x)) only b
 
@@ -107,7 +102,7 @@ module _ (q : Problem) (ps : List Point) where
     better-holds (just w) u k = go (earlier (costsOf q x) (w .costs)) refl
       where
         go : (b : Bool) → earlier (costsOf q x) (w .costs) ≡ b → After x (pick b (just (at x)) (just w))
-        go true e = take-holds u (λ r s. ahead w r (earlier-true (costsOf q x) (w .costs) e) (k .least r s))
+        go true e = take-holds u (λ r s. not-after-trans (at x) w r (inl (earlier-true (costsOf q x) (w .costs) e)) (k .least r s))
         go false e = skip-holds x (just w) (λ r s. subst (NotAfter w) (only r s) (kept w e (k .inside .0) (k .inside .1 .1))) k
 
     met-holds : (h : Held) → Before x h → After x (met q ps x h)

@@ -80,7 +80,7 @@ heads-from x y xs ys (inl e) = inr (cc, inl (cc))
 heads-from x y xs ys (inr (inl h)) = inl h
 heads-from x y xs ys (inr (inr h)) = inr (h .0, inr (h .1))
 
-heads-to : (x y : ℕ) (xs ys : List ℕ) → (x < y) ⊎ ((x ≡ y) × NotLater xs ys) → NotLater (x ∷ xs) (y ∷ ys)
+pub heads-to : (x y : ℕ) (xs ys : List ℕ) → (x < y) ⊎ ((x ≡ y) × NotLater xs ys) → NotLater (x ∷ xs) (y ∷ ys)
 heads-to x y xs ys (inl h) = inr (inl h)
 heads-to x y xs ys (inr (e, inl h)) = inl (cc)
 heads-to x y xs ys (inr (e, inr h)) = inr (inr (e, h))

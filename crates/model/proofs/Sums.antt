@@ -1,15 +1,17 @@
--- Sums of vectors: their order, and their ceilings.
+-- Sums of vectors: their order, and their ceilings; vectors with one number that counts.
 use mathlib.Core.Path.{_≡_, refl, ap}
-use mathlib.Core.Bool.{true}
-use mathlib.Core.List.{List, [], _∷_}
-use Prim.Native.Nat.{ℕ, zero, suc, _+_}
+use mathlib.Core.Logic.{inl, inr}
+use mathlib.Core.Bool.{true, and-true}
+use mathlib.Core.List.{List, [], _∷_, _++_}
+use Prim.Native.Nat.{ℕ, zero, suc, _+_, _<_}
 use native.Mathlib.Omega.{arith}
 use lib.Dec.{ltb}
-use lib.ListN.{length}
+use lib.ListN.{length, getD, replicate, length-replicate}
+use lib.Seq.{getD-at}
 use borrow.Author.Tests.{ltb-true, lt-ltb}
 use Rattle.model.specs.Vectors.{under, added}
 use Rattle.model.proofs.Bits.{and-left, and-right, and-both}
-use Rattle.model.proofs.Vectors.{AtMost}
+use Rattle.model.proofs.Vectors.{AtMost, Earlier}
 
 pub added-length : (xs bs : List ℕ) → length xs ≡ length bs → length (added xs bs) ≡ length xs
 unfolding added
@@ -66,3 +68,18 @@ under-mono (a ∷ xs) [] cs e h u = absurd (omega arith)
 under-mono (a ∷ xs) (b ∷ bs) [] e h u = refl
 under-mono (a ∷ xs) (b ∷ bs) (c ∷ cs) e h u =
     and-both (lt-ltb a c (omega (arith, ltb-true b c (and-left (ltb b c) (under bs cs) u)))) (under-mono xs bs cs (omega arith) (h .1) (and-right (ltb b c) (under bs cs) u))
+
+-- vectors that are 0 but for their last number compare by it
+pub last-at : (o a : ℕ) → getD (replicate o 0 ++ (a ∷ [])) o 0 ≡ a
+last-at o a = getD-at (replicate o 0) a [] 0 o (length-replicate o 0)
+
+pub under-last : (o a c : ℕ) → under (replicate o 0 ++ (a ∷ [])) (replicate o 1 ++ (c ∷ [])) ≡ ltb a c
+unfolding under
+under-last zero a c = and-true (ltb a c)
+under-last (suc o) a c = under-last o a c
+
+pub earlier-last : (o a b : ℕ) → Earlier (replicate o 0 ++ (a ∷ [])) (replicate o 0 ++ (b ∷ [])) → a < b
+earlier-last zero a b (inl l) = l
+earlier-last zero a b (inr l) = absurd (l .1)
+earlier-last (suc o) a b (inl l) = absurd (omega arith)
+earlier-last (suc o) a b (inr l) = earlier-last o a b (l .1)

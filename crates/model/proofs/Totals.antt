@@ -7,7 +7,7 @@ use native.Mathlib.Omega.{arith}
 use native.Mathlib.Nat.{suc-mul, sub-zero, suc-sub-suc}
 use lib.Dec.{eqb}
 use lib.ListN.{length, replicate}
-use borrow.Author.Tests.{ne-eqb}
+use borrow.Author.Tests.{eqb-true, ne-eqb}
 use Rattle.model.specs.Basics.{when, All}
 use Rattle.model.specs.Problems.{Table, Problem}
 use Rattle.model.specs.Costs.{total, totalsFrom, totals}
@@ -19,10 +19,29 @@ when-grows : (b : Bool) {m n : ℕ} → m ≤ n → when b m ≤ when b n
 when-grows true h = h
 when-grows false h = omega arith
 
-total-grows : (o : ℕ) (f g : Table → ℕ) → ((t : Table) → f t ≤ g t) → (ts : List Table) → total o f ts ≤ total o g ts
+pub total-grows : (o : ℕ) (f g : Table → ℕ) → ((t : Table) → f t ≤ g t) → (ts : List Table) → total o f ts ≤ total o g ts
 unfolding total
 total-grows o f g h [] = omega arith
 total-grows o f g h (t ∷ ts) = omega (arith, when-grows (eqb (t .objective) o) (h t), total-grows o f g h ts)
+
+-- only an objective's own records matter to its sum
+pub total-same : (o : ℕ) (f g : Table → ℕ) → ((t : Table) → t .objective ≡ o → f t ≡ g t) → (ts : List Table) → total o f ts ≡ total o g ts
+unfolding total
+total-same o f g h [] = refl
+total-same o f g h (t ∷ ts) = ap₂ _+_ (go (eqb (t .objective) o) refl) (total-same o f g h ts)
+  where
+    go : (b : Bool) → eqb (t .objective) o ≡ b → when b (f t) ≡ when b (g t)
+    go true e = h t (eqb-true (t .objective) o e)
+    go false e = refl
+
+when-plus : (b : Bool) (m n : ℕ) → when b (m + n) ≡ when b m + when b n
+when-plus true m n = refl
+when-plus false m n = refl
+
+pub total-plus : (o : ℕ) (f g : Table → ℕ) (ts : List Table) → total o (λ t. f t + g t) ts ≡ total o f ts + total o g ts
+unfolding total
+total-plus o f g [] = refl
+total-plus o f g (t ∷ ts) = omega (arith, when-plus (eqb (t .objective) o) (f t) (g t), total-plus o f g ts)
 
 totals-from-grow : (p o : ℕ) (f g : Table → ℕ) → ((t : Table) → f t ≤ g t) → (ts : List Table) → AtMost (totalsFrom p o f ts) (totalsFrom p o g ts)
 unfolding totalsFrom
@@ -50,16 +69,25 @@ total-limit o w f (t ∷ ts) h =
     let one : when (eqb (t .objective) o) (f t) < w = pick-both (λ n. n < w) (eqb (t .objective) o) (h .0) (omega (arith, h .0)) in
     omega (arith, suc-mul (length ts) w, total-limit o w f ts (h .1))
 
--- the objectives past the last one that records have are 0
-total-none : (o : ℕ) (f : Table → ℕ) (ts : List Table) → All (λ t. t .objective < o) ts → total o f ts ≡ 0
+-- an objective that no record has sums to 0, as do all past the last one that records have
+total-none : (o : ℕ) (f : Table → ℕ) (ts : List Table) → All (λ t. t .objective ≡ o → ⊥) ts → total o f ts ≡ 0
 unfolding total
 total-none o f [] h = refl
-total-none o f (t ∷ ts) h = rw (ne-eqb (t .objective) o (λ e. omega (arith, h .0)), total-none o f ts (h .1)) refl
+total-none o f (t ∷ ts) h = rw (ne-eqb (t .objective) o (h .0), total-none o f ts (h .1)) refl
 
 totals-none : (n o : ℕ) (f : Table → ℕ) (ts : List Table) → All (λ t. t .objective < o) ts → totalsFrom n o f ts ≡ replicate n 0
 unfolding totalsFrom
 totals-none zero o f ts h = refl
-totals-none (suc n) o f ts h = ap₂ _∷_ (total-none o f ts h) (totals-none n (suc o) f ts (all-map (λ t. t .objective < o) (λ t. t .objective < suc o) (λ t l. omega arith) ts h))
+totals-none (suc n) o f ts h =
+    ap₂ _∷_ (total-none o f ts (all-map (λ t. t .objective < o) (λ t. t .objective ≡ o → ⊥) (λ t l e. omega arith) ts h))
+    (totals-none n (suc o) f ts (all-map (λ t. t .objective < o) (λ t. t .objective < suc o) (λ t l. omega arith) ts h))
+
+-- records of one objective alone: those before it sum to 0
+pub totals-last : (m i o : ℕ) (f : Table → ℕ) (ts : List Table) → m + i ≡ o → All (λ t. t .objective ≡ o) ts → totalsFrom (suc m) i f ts ≡ replicate m 0 ++ (total o f ts ∷ [])
+unfolding totalsFrom
+totals-last zero i o f ts e h = let same : i ≡ o = omega arith in rw same refl
+totals-last (suc m) i o f ts e h =
+    ap₂ _∷_ (total-none i f ts (all-map (λ t. t .objective ≡ o) (λ t. t .objective ≡ i → ⊥) (λ t l r. omega arith) ts h)) (totals-last m (suc i) o f ts (omega arith) h)
 
 pub totals-padded : (p n o : ℕ) (f : Table → ℕ) (ts : List Table) → p ≤ n → All (λ t. t .objective < o + p) ts → totalsFrom n o f ts ≡ totalsFrom p o f ts ++ replicate (n - p) 0
 unfolding totalsFrom

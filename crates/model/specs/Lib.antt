@@ -11,5 +11,8 @@ pub mod Frontiers
 pub mod Bounds
 pub mod Cuts
 pub mod Search
+pub mod Views
+pub mod Merging
+pub mod Suffixes
 pub mod Calls
 pub mod Demands

@@ -7,10 +7,10 @@ use native.Mathlib.Nat.{add-zero}
 use lib.ListN.{length, take, drop, length-drop}
 use lib.Seq.{length-take-le}
 use Rattle.model.specs.Basics.{All}
-use Rattle.model.specs.Limits.{maxObjectives, maxVariables, maxPoints}
+use Rattle.model.specs.Limits.{maxObjectives, maxVariables}
 use Rattle.model.specs.Frontiers.{Point}
 use Rattle.model.specs.Calls.{flatCosts, flatChoices}
-use Rattle.groups.specs.Layout.{listEnd}
+use Rattle.groups.specs.Layout.{rowWidth}
 use Rattle.rows.specs.Rows.{rowAt, pointIn, listIn}
 use Rattle.rows.proofs.RowsOut.{joined}
 
@@ -40,7 +40,8 @@ module _ (p n : ℕ) (work : List ℕ) where
       let e : i + 1 + row ≡ i + suc row = omega arith in
       rw e at (row-has P (i + 1) k (h .1) row (omega arith))
 
-module _ (work : List ℕ) (row : ℕ) (long : listEnd ≤ length work) (few : row < maxPoints) where
+-- a row inside memory has all its costs and values
+module _ (work : List ℕ) (row : ℕ) (inside : rowAt row + rowWidth ≤ length work) where
   pub costs-long : (p : ℕ) → p ≤ maxObjectives → length (costsIn p work row) ≡ p
   costs-long p h = length-take-le p (drop (rowAt row) work) (omega (arith, length-drop (rowAt row) work))
 

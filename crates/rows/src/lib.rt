@@ -11,7 +11,7 @@ ghost use Rattle.model.specs.Calls.{over, padded, divided, flatCosts, flatChoic
 ghost use Rattle.groups.specs.Layout.{listAt, listEnd};
 ghost use Rattle.rows.specs.Rows.{rowAt, listIn};
 
-pub const LIST_AT: usize = 1049;
+pub const LIST_AT: usize = 1405;
 
 pub const ROW_WIDTH: usize = 28;
 

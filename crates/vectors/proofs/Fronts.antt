@@ -1,4 +1,4 @@
--- The first p numbers of an array of four, one at a time.
+-- The first p numbers of a list, one at a time.
 use mathlib.Core.Path.{_≡_, ap, _∙_}
 use mathlib.Core.List.{List, [], _∷_}
 use Prim.Native.Nat.{ℕ, _+_, _≤_, _<_}
@@ -6,20 +6,21 @@ use native.Mathlib.Omega.{arith}
 use native.Mathlib.Numerals.{add-one}
 use lib.ListN.{length, getD, take, drop, drop-of-length-le}
 use lib.Seq.{drop-cons, getD-take, length-take-le}
-use mir.Syntax.{w64}
+use mir.Syntax.{Width}
 use mir.Val.{Val}
 use denote.Plain.{UInt}
 use denote.Array.{Array}
 use denote.Laws.{Is}
-use Rattle.model.specs.Limits.{maxObjectives}
 
 -- an array that is a parameter by value has its length
-pub array-length : (a : List ℕ) (vs : List Val) → Is (Array (UInt w64) maxObjectives) a vs → length a ≡ maxObjectives
-array-length a vs h = h .1 .0 .1
+pub array-front : (w : Width) (n : ℕ) (a : List ℕ) (vs : List Val) → Is (Array (UInt w) n) a vs → (p : ℕ) → p ≤ n → p ≤ length a
+array-front w n a vs good p few =
+    let all : length a ≡ n = good .1 .0 .1 in
+    omega arith
 
-module _ (a : List ℕ) (vs : List Val) (good : Is (Array (UInt w64) maxObjectives) a vs) (p i : ℕ) (few : p ≤ maxObjectives) where
+module _ (p : ℕ) (a : List ℕ) (long : p ≤ length a) (i : ℕ) where
   front-long : length (take p a) ≡ p
-  front-long = length-take-le p a (omega (arith, array-length a vs good))
+  front-long = length-take-le p a long
 
   -- what is left from i on begins with number i
   pub front-cons : i < p → drop i (take p a) ≡ getD a i 0 ∷ drop (i + 1) (take p a)

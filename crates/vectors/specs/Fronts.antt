@@ -1,7 +1,7 @@
 -- A cost vector is four numbers, of which the first p count, whatever stands beyond them.
 use mathlib.Core.Bool.{Bool}
 use mathlib.Core.List.{List}
-use Prim.Native.Nat.{ℕ}
+use Prim.Native.Nat.{ℕ, _<_}
 use lib.ListN.{take}
 use Rattle.model.specs.Vectors.{under, atMost, earlier}
 
@@ -13,3 +13,7 @@ frontAtMost p a b = atMost (take p a) (take p b)
 
 abbrev pub frontEarlier : ℕ → List ℕ → List ℕ → Bool
 frontEarlier p a b = earlier (take p a) (take p b)
+
+-- numbers of which two cannot wrap when they are added: below 2^63
+abbrev pub Half : ℕ → Type 0
+Half x = x < 9223372036854775808

@@ -1,8 +1,10 @@
-// Cost vectors: under the ceilings, at most, earlier. One function each for every number of objectives.
+// Cost vectors: under the ceilings, at most, earlier, sum. One function each for every number of objectives.
 ghost use mathlib.Core.Path.{_≡_};
 ghost use Prim.Native.Nat.{_≤_};
+ghost use Rattle.model.specs.Basics.{All};
 ghost use Rattle.model.specs.Limits.{maxObjectives};
-ghost use Rattle.vectors.specs.Fronts.{frontUnder, frontAtMost, frontEarlier};
+ghost use Rattle.model.specs.Vectors.{added};
+ghost use Rattle.vectors.specs.Fronts.{frontUnder, frontAtMost, frontEarlier, Half};
 
 // Whether each of the first `p` costs is strictly below its ceiling.
 pub fn is_under(a: [u64; 4], ceilings: [u64; 4], p: usize) -> bool
@@ -50,4 +52,12 @@ pub fn is_earlier(a: [u64; 4], b: [u64; 4], p: usize) -> bool
         i += 1;
     }
     false
+}
+
+// The sum of two vectors in all four objectives; numbers of half the range cannot wrap.
+pub fn sum(a: [u64; 4], b: [u64; 4]) -> [u64; 4]
+    requires { ⌜ All Half a × All Half b ⌝ }
+    ensures { λ r. ⌜ r ≡ added a b ⌝ }
+{
+    [a[0] + b[0], a[1] + b[1], a[2] + b[2], a[3] + b[3]]
 }

@@ -5,9 +5,13 @@ use Prim.Native.Nat.{_+_, _-_, _≤_, _<_}
 use native.Mathlib.Omega.{arith}
 use lib.ListN.{length}
 use denote.Ref.{now}
+use Rattle.problem.specs.Records.{Whole}
 use Rattle.groups.specs.Layout.{recordsAt}
+use Rattle.groups.specs.Groups.{groupOf}
 use Rattle.groups.proofs.ScopeSteps.{whole-inside}
-use Rattle.groups.proofs.Adding.{Adding, adding-start, adding-length, adding-long, adding-end, adding-whole, adding-skip, adding-below, adding-next}
+use Rattle.groups.proofs.Keeping.{touches, group-keeps}
+use Rattle.groups.proofs.Adding.{Adding, adding-start, adding-length, adding-end, adding-has, adding-skip, adding-below, adding-next}
+use Rattle.groups.proofs.PlacedRecords.{group-apart}
 use Rattle.groups.proofs.add_group.Statement.{statement}
 use Rattle.groups.proofs.add_group.Tie as tie
 use Rattle.groups.proofs.add_group.Reads as reads
@@ -15,7 +19,7 @@ use Rattle.groups.proofs.add_group.Lts as lts
 use Rattle.groups.proofs.has_variable.Reads as has-variable-reads
 
 abbrev Inv-loop : tie.InvT-loop
-Inv-loop s sizes r v from work₀ end₀ i₀ work end i = Adding s work₀ r v from work end i
+Inv-loop s sizes r v from work₀ end₀ i₀ work end i = Adding (touches s v) (groupOf s v) work₀ r recordsAt from work end i
 
 abbrev μ-loop : tie.MeasureT-loop
 μ-loop s sizes r v from work₀ end₀ i₀ work end i = r - i
@@ -23,7 +27,8 @@ abbrev μ-loop : tie.MeasureT-loop
 loop-holds : tie.Need-loop-holds Inv-loop μ-loop
 loop-holds c =
     let a = c .before .before .before .args in
-    adding-start (now (a .s)) (now (a .work)) (a .r) (a .v) (a .from)
+    let q = c .before .before .before .pre in
+    adding-start (group-keeps (now (a .s)) (a .v)) (group-apart (now (a .sizes)) (now (a .s)) (now (a .work)) (a .r) (q .0) (a .v) (a .from) (q .2))
 
 add-at : tie.Need-add-at Inv-loop μ-loop
 add-at c = omega (arith, c .before .before .before .before .before .pre .0 .few)
@@ -33,10 +38,8 @@ mul-at c = omega (arith, c .before .before .before .before .before .pre .0 .few)
 
 slice-read-at : tie.Need-slice-read-at Inv-loop μ-loop
 slice-read-at c =
-    let a = c .before .before .before .before .before .before .args in
-    let q = c .before .before .before .before .before .before .pre in
-    let w = c .before .before .loop in
-    omega (arith, q .0 .few, adding-long (now (a .sizes)) (now (a .s)) (now (a .work)) (a .r) (a .v) (a .from) (q .0) (q .2) (w .work) (w .end) (w .i) (w .inv))
+    let u = c .before .before .loop .inv in
+    omega (arith, u .parts .inside, adding-length u)
 
 cast-has-variable : tie.Need-cast-has-variable Inv-loop μ-loop
 cast-has-variable c = omega (arith, c .slice-known2 .given (recordsAt + c .before .before .loop .i))
@@ -45,17 +48,15 @@ has-variable-requires : tie.Need-has-variable-requires Inv-loop μ-loop
 has-variable-requires c κs =
     let a = c .before .before .before .before .before .before .args in
     let q = c .before .before .before .before .before .before .pre in
-    let w = c .before .before .loop in
-    whole-inside (now (a .sizes)) (now (a .s)) _ (adding-whole (now (a .sizes)) (now (a .s)) (now (a .work)) (a .r) (a .v) (a .from) (q .0) (q .2) (w .work) (w .end) (w .i) (w .inv) (omega arith))
+    whole-inside (now (a .sizes)) (now (a .s)) _ (adding-has (c .before .before .loop .inv) (omega arith) (Whole (now (a .sizes)) (now (a .s))) (q .0 .whole))
 
 -- a place that is kept has room
 room : (c : lts.Then1 (has-variable-reads.Asked, has-variable-reads.Learnt) reads.Pre reads.Post Inv-loop μ-loop) → let w = c .before .before .before .before .loop in (w .end < recordsAt) × (recordsAt ≤ length (w .work))
 room c =
-    let a = c .before .before .before .before .before .before .before .before .args in
     let q = c .before .before .before .before .before .before .before .before .pre in
-    let w = c .before .before .before .before .loop in
+    let u = c .before .before .before .before .loop .inv in
     let has = sym (c .before .has-variable .ensures) ∙ c .if1 .taken in
-    (adding-below (now (a .sizes)) (now (a .s)) (now (a .work)) (a .r) (a .v) (a .from) (q .0) (q .2) (w .work) (w .end) (w .i) (w .inv) (omega arith) has, omega (arith, adding-long (now (a .sizes)) (now (a .s)) (now (a .work)) (a .r) (a .v) (a .from) (q .0) (q .2) (w .work) (w .end) (w .i) (w .inv)))
+    (omega (arith, adding-below u (omega arith) has, q .2), omega (arith, u .parts .inside, adding-length u))
 
 mul-work : tie.Need-mul-work Inv-loop μ-loop
 mul-work c = omega (arith, room c)
@@ -74,28 +75,18 @@ loop-less c = omega arith
 
 loop-again : tie.Need-loop-again Inv-loop μ-loop
 loop-again c =
-    let a = c .before .before .before .before .before .before .before .before .args in
-    let q = c .before .before .before .before .before .before .before .before .pre in
-    let w = c .before .before .before .before .loop in
+    let u = c .before .before .before .before .loop .inv in
     let says = sym (c .before .has-variable .ensures) in
     ⊎-elim
-    (λ t. rw (t .1, t .2) (adding-next (now (a .sizes)) (now (a .s)) (now (a .work)) (a .r) (a .v) (a .from) (q .0) (q .2) (w .work) (w .end) (w .i) (w .inv) (omega arith) (says ∙ t .0 .taken)))
-    (λ t. rw (t .1, t .2) (adding-skip (now (a .sizes)) (now (a .s)) (now (a .work)) (a .r) (a .v) (a .from) (q .0) (q .2) (w .work) (w .end) (w .i) (w .inv) (omega arith) (says ∙ t .0 .left)))
+    (λ t. rw (t .1, t .2) (adding-next u (omega arith) (says ∙ t .0 .taken)))
+    (λ t. rw (t .1, t .2) (adding-skip u (omega arith) (says ∙ t .0 .left)))
     (c .if1 .came)
 
 same-length : tie.Need-same-length Inv-loop μ-loop
-same-length c =
-    let a = c .before .before .before .before .before .args in
-    let q = c .before .before .before .before .before .pre in
-    let w = c .before .loop in
-    adding-length (now (a .sizes)) (now (a .s)) (now (a .work)) (a .r) (a .v) (a .from) (q .0) (q .2) (w .work) (w .end) (w .i) (w .inv)
+same-length c = adding-length (c .before .loop .inv)
 
 returns : tie.Need-returns Inv-loop μ-loop
-returns c =
-    let a = c .before .before .before .before .before .args in
-    let q = c .before .before .before .before .before .pre in
-    let w = c .before .loop in
-    adding-end (now (a .sizes)) (now (a .s)) (now (a .work)) (a .r) (a .v) (a .from) (q .0) (q .2) (w .work) (w .end) (w .i) (w .inv) (omega arith)
+returns c = adding-end (c .before .loop .inv) (omega arith)
 
 pub add-group-spec : {M : Type 1} → statement M
 add-group-spec =

@@ -56,7 +56,7 @@ loop-again c =
     let a = s .args in
     let w = c .before .before .before .before .before .loop in
     let room = row-room (a .n) (a .k) (w .row) (length (now (a .choices))) (s .pre .3) (omega arith) in
-    let long = values-long (now (a .work)) (w .row) (s .pre .0) (omega arith) (a .n) (s .pre .2) in
+    let long = values-long (now (a .work)) (w .row) (omega arith) (a .n) (s .pre .2) in
     (omega arith, out-next (w .inv .1) room long _ (c .before .before .copy-values .ensures))
 
 same-length : tie.Need-same-length Inv-loop μ-loop

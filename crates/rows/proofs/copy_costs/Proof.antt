@@ -47,7 +47,7 @@ loop-again c =
     let a = s .args in
     let w = c .before .before .before .before .before .loop in
     let room = row-room (a .p) (a .k) (w .row) (length (now (a .costs))) (s .pre .3) (omega arith) in
-    let long = costs-long (now (a .work)) (w .row) (s .pre .0) (omega arith) (a .p) (s .pre .2) in
+    let long = costs-long (now (a .work)) (w .row) (omega arith) (a .p) (s .pre .2) in
     (omega arith, out-next (w .inv .1) room long _ (c .before .before .copy-numbers .ensures))
 
 same-length : tie.Need-same-length Inv-loop μ-loop

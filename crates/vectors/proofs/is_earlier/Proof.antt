@@ -1,33 +1,29 @@
--- `is_earlier` meets its contract: what is left of both vectors is compared as the whole is.
-use mathlib.Core.Path.{_≡_, refl, sym, _∙_}
-use mathlib.Core.List.{_∷_}
-use Prim.Native.Nat.{ℕ, _+_, _≤_, _<_, _-_}
+-- `is_earlier` meets its contract. The invariant, `Comparing`: the first i costs are equal.
+use Prim.Native.Nat.{_-_, _≤_}
 use native.Mathlib.Omega.{arith}
-use lib.ListN.{getD, take, drop}
+use lib.ListN.{length}
+use mir.Syntax.{w64}
 use borrow.Author.Needs.{needs}
-use borrow.Author.Tests.{lt-ltb, le-ltb, eq-eqb, ne-eqb}
-use Rattle.model.specs.Vectors.{earlier}
-use Rattle.vectors.specs.Fronts.{frontEarlier}
-use Rattle.vectors.proofs.Fronts.{front-cons, front-end}
+use Rattle.model.specs.Limits.{maxObjectives}
+use Rattle.vectors.proofs.Fronts.{array-front}
+use Rattle.vectors.proofs.Comparing.{Comparing, comparing-start, comparing-less, comparing-more, comparing-next, comparing-end}
 use Rattle.vectors.proofs.is_earlier.Statement.{statement}
 use Rattle.vectors.proofs.is_earlier.Tie as tie
 
 abbrev Inv-loop : tie.InvT-loop
-Inv-loop p a b i₀ i = (i ≤ p) × (frontEarlier p a b ≡ earlier (drop i (take p a)) (drop i (take p b)))
+Inv-loop p a b i₀ i = Comparing p a b i
 
 abbrev μ-loop : tie.MeasureT-loop
 μ-loop p a b i₀ i = p - i
 
--- what is left of either vector from i on
-module _ (s : tie.Start Inv-loop μ-loop) (i : ℕ) (h : i < s .args .p) where
-  left-a : drop i (take (s .args .p) (s .args .t1)) ≡ getD (s .args .t1) i 0 ∷ drop (i + 1) (take (s .args .p) (s .args .t1))
-  left-a = front-cons (s .args .t1) _ (s .good .0) (s .args .p) i (s .pre) h
+long-a : (s : tie.Start Inv-loop μ-loop) → s .args .p ≤ length (s .args .t1)
+long-a s = array-front w64 maxObjectives (s .args .t1) _ (s .good .0) (s .args .p) (s .pre)
 
-  left-b : drop i (take (s .args .p) (s .args .t2)) ≡ getD (s .args .t2) i 0 ∷ drop (i + 1) (take (s .args .p) (s .args .t2))
-  left-b = front-cons (s .args .t2) _ (s .good .1 .0) (s .args .p) i (s .pre) h
+long-b : (s : tie.Start Inv-loop μ-loop) → s .args .p ≤ length (s .args .t2)
+long-b s = array-front w64 maxObjectives (s .args .t2) _ (s .good .1 .0) (s .args .p) (s .pre)
 
 loop-holds : tie.Need-loop-holds Inv-loop μ-loop
-loop-holds c = (omega arith, refl)
+loop-holds c = comparing-start (c .args .p) (c .args .t1) (c .args .t2)
 
 mul-if1 : tie.Need-mul-if1 Inv-loop μ-loop
 mul-if1 c = search needs
@@ -42,13 +38,9 @@ array-read-if1-2 : tie.Need-array-read-if1-2 Inv-loop μ-loop
 array-read-if1-2 c = search needs
 
 returns : tie.Need-returns Inv-loop μ-loop
-unfolding earlier
 returns c =
     let s = c .before .before .before in
-    let i = c .before .before .loop .i in
-    let a = getD (s .args .t1) i 0 in
-    let b = getD (s .args .t2) i 0 in
-    sym (c .before .before .loop .inv .1 ∙ rw (left-a s i (omega arith), left-b s i (omega arith), lt-ltb a b (c .if1 .taken)))
+    comparing-less (c .before .before .loop .inv) (long-a s) (long-b s) (omega arith) (c .if1 .taken)
 
 mul-if2 : tie.Need-mul-if2 Inv-loop μ-loop
 mul-if2 c = search needs
@@ -63,13 +55,9 @@ array-read-if2-2 : tie.Need-array-read-if2-2 Inv-loop μ-loop
 array-read-if2-2 c = search needs
 
 returns-2 : tie.Need-returns-2 Inv-loop μ-loop
-unfolding earlier
 returns-2 c =
     let s = c .before .before .before .before in
-    let i = c .before .before .before .loop .i in
-    let a = getD (s .args .t1) i 0 in
-    let b = getD (s .args .t2) i 0 in
-    sym (c .before .before .before .loop .inv .1 ∙ rw (left-a s i (omega arith), left-b s i (omega arith), le-ltb a b (omega arith), ne-eqb a b (λ e. omega arith)))
+    comparing-more (c .before .before .before .loop .inv) (long-a s) (long-b s) (omega arith) (c .if2 .taken)
 
 add-i : tie.Need-add-i Inv-loop μ-loop
 add-i c = search needs
@@ -78,20 +66,14 @@ loop-less : tie.Need-loop-less Inv-loop μ-loop
 loop-less c = search needs
 
 loop-again : tie.Need-loop-again Inv-loop μ-loop
-unfolding earlier
 loop-again c =
     let s = c .before .before .before .before in
-    let i = c .before .before .before .loop .i in
-    let a = getD (s .args .t1) i 0 in
-    let b = getD (s .args .t2) i 0 in
-    (omega arith, c .before .before .before .loop .inv .1 ∙ rw (left-a s i (omega arith), left-b s i (omega arith), le-ltb a b (omega arith), eq-eqb a b (omega arith)))
+    comparing-next (c .before .before .before .loop .inv) (long-a s) (long-b s) (omega arith) (omega arith)
 
 returns-3 : tie.Need-returns-3 Inv-loop μ-loop
-unfolding earlier
 returns-3 c =
     let s = c .before .before in
-    let i = c .before .loop .i in
-    sym (c .before .loop .inv .1 ∙ rw (front-end (s .args .t1) _ (s .good .0) (s .args .p) i (s .pre) (omega arith)))
+    comparing-end (c .before .loop .inv) (long-a s) (long-b s) (omega arith)
 
 pub is-earlier-spec : {M : Type 1} → statement M
 is-earlier-spec =

@@ -6,9 +6,11 @@ use native.Mathlib.Omega.{arith}
 use lib.ListN.{getD, take, drop}
 use borrow.Author.Needs.{needs}
 use borrow.Author.Tests.{lt-ltb, le-ltb}
+use mir.Syntax.{w64}
+use Rattle.model.specs.Limits.{maxObjectives}
 use Rattle.model.specs.Vectors.{under}
 use Rattle.vectors.specs.Fronts.{frontUnder}
-use Rattle.vectors.proofs.Fronts.{front-cons, front-end}
+use Rattle.vectors.proofs.Fronts.{array-front, front-cons, front-end}
 use Rattle.vectors.proofs.is_under.Statement.{statement}
 use Rattle.vectors.proofs.is_under.Tie as tie
 
@@ -21,10 +23,10 @@ abbrev μ-loop : tie.MeasureT-loop
 -- what is left of either vector from i on
 module _ (s : tie.Start Inv-loop μ-loop) (i : ℕ) (h : i < s .args .p) where
   left-a : drop i (take (s .args .p) (s .args .t1)) ≡ getD (s .args .t1) i 0 ∷ drop (i + 1) (take (s .args .p) (s .args .t1))
-  left-a = front-cons (s .args .t1) _ (s .good .0) (s .args .p) i (s .pre) h
+  left-a = front-cons (s .args .p) (s .args .t1) (array-front w64 maxObjectives (s .args .t1) _ (s .good .0) (s .args .p) (s .pre)) i h
 
   left-b : drop i (take (s .args .p) (s .args .t2)) ≡ getD (s .args .t2) i 0 ∷ drop (i + 1) (take (s .args .p) (s .args .t2))
-  left-b = front-cons (s .args .t2) _ (s .good .1 .0) (s .args .p) i (s .pre) h
+  left-b = front-cons (s .args .p) (s .args .t2) (array-front w64 maxObjectives (s .args .t2) _ (s .good .1 .0) (s .args .p) (s .pre)) i h
 
 loop-holds : tie.Need-loop-holds Inv-loop μ-loop
 loop-holds c = (omega arith, refl)
@@ -66,7 +68,7 @@ unfolding under
 returns-2 c =
     let s = c .before .before in
     let i = c .before .loop .i in
-    sym (c .before .loop .inv .1 ∙ rw (front-end (s .args .t1) _ (s .good .0) (s .args .p) i (s .pre) (omega arith)))
+    sym (c .before .loop .inv .1 ∙ rw (front-end (s .args .p) (s .args .t1) (array-front w64 maxObjectives (s .args .t1) _ (s .good .0) (s .args .p) (s .pre)) i (omega arith)))
 
 pub is-under-spec : {M : Type 1} → statement M
 is-under-spec =

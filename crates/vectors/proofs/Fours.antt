@@ -1,0 +1,49 @@
+-- Vectors of four numbers, number by number, and their sums.
+use mathlib.Core.Path.{_≡_, refl, sym, ap, _∙_}
+use mathlib.Core.List.{List, [], _∷_}
+use Prim.Native.Nat.{ℕ, zero, suc, _+_, _≤_, _<_}
+use native.Mathlib.Omega.{arith}
+use native.Mathlib.Nat.{add-zero}
+use lib.ListN.{length, getD, take, drop, length-drop}
+use lib.Seq.{take-all, getD-take, getD-drop}
+use Rattle.model.specs.Limits.{maxObjectives}
+use Rattle.model.specs.Vectors.{added}
+
+abbrev pub listed : (ℕ → ℕ) → List ℕ
+listed f = f 0 ∷ f 1 ∷ f 2 ∷ f 3 ∷ []
+
+-- four numbers of a list, at its start and from a place on
+pub four-listed : (xs : List ℕ) → maxObjectives ≤ length xs → take maxObjectives xs ≡ listed (λ i. getD xs i 0)
+four-listed [] h = absurd (omega arith)
+four-listed (a ∷ []) h = absurd (omega arith)
+four-listed (a ∷ b ∷ []) h = absurd (omega arith)
+four-listed (a ∷ b ∷ c ∷ []) h = absurd (omega arith)
+four-listed (a ∷ b ∷ c ∷ d ∷ xs) h = refl
+
+pub four-all : (xs : List ℕ) → length xs ≡ maxObjectives → listed (λ i. getD xs i 0) ≡ xs
+four-all xs e = sym (four-listed xs (omega arith)) ∙ take-all maxObjectives xs (omega arith)
+
+pub four-from : (xs : List ℕ) (at : ℕ) → at + maxObjectives ≤ length xs → getD xs at 0 ∷ getD xs (at + 1) 0 ∷ getD xs (at + 2) 0 ∷ getD xs (at + 3) 0 ∷ [] ≡ take maxObjectives (drop at xs)
+four-from xs at h = sym (four-listed (drop at xs) (omega (arith, length-drop at xs)) ∙ simp (getD-drop, add-zero))
+
+pub four-at : (xs : List ℕ) (at : ℕ) (c : List ℕ) → c ≡ take maxObjectives (drop at xs) → (o : ℕ) → o < maxObjectives → getD c o 0 ≡ getD xs (at + o) 0
+four-at xs at c e o l = rw (e, getD-take maxObjectives (drop at xs) o 0 l, getD-drop at xs o 0)
+
+pub at-listed : (f : ℕ → ℕ) (o : ℕ) → o < maxObjectives → getD (listed f) o 0 ≡ f o
+at-listed f zero l = refl
+at-listed f (suc zero) l = refl
+at-listed f (suc (suc zero)) l = refl
+at-listed f (suc (suc (suc zero))) l = refl
+at-listed f (suc (suc (suc (suc o)))) l = absurd (omega arith)
+
+-- sums of two vectors: the first p, and of four numbers one by one
+pub take-added : (p : ℕ) (xs ys : List ℕ) → take p (added xs ys) ≡ added (take p xs) (take p ys)
+unfolding added
+take-added zero xs ys = refl
+take-added (suc p) [] ys = refl
+take-added (suc p) (x ∷ xs) [] = refl
+take-added (suc p) (x ∷ xs) (y ∷ ys) = ap (_∷_ (x + y)) (take-added p xs ys)
+
+pub added-listed : (xs ys : List ℕ) → length xs ≡ maxObjectives → length ys ≡ maxObjectives → listed (λ o. getD xs o 0 + getD ys o 0) ≡ added xs ys
+unfolding added
+added-listed xs ys e d = ap (λ l. added l (listed (λ o. getD ys o 0))) (four-all xs e) ∙ ap (added xs) (four-all ys d)
