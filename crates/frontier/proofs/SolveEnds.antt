@@ -36,7 +36,7 @@ module _ (s : List ℕ) (r : DG.Reading) (a : AcceptedReading s r) (c x w : List
   abbrev searched : Problem
   searched = problemAt p (r .head .ceilings) (take n (r .sizes)) s (6 + 4 * p + 3 * n) (r .head .tables)
 
-  module _ (room : ℕ) (room-as : room ≡ min (divided (length c) p) (min (divided (length x) n) maxPoints)) (f : DF.Found) (w1 : List ℕ) (says : FoundSays searched room w w1 f) where
+  module _ (room : ℕ) (room-as : room ≡ min (divided (length c) p) (min (divided (length x) n) maxPoints)) (f : DF.Found) (w1 : List ℕ) (says : FoundSays p (length (take n (r .sizes))) (frontier searched) room w w1 f) where
     -- the room's test, of the problem that was read
     told : f .full ≡ ltb (roomOf (problemOf s) c x) (length (frontier (problemOf s)))
     told = says .full ∙ (λ i. ltb ((room-as ∙ room-is s r a c x) i) (length (frontier (same-problem s r a i))))

@@ -1,12 +1,14 @@
--- Memory in which rows of the list are written: what stands before the list is kept, so that the records and their groups stay.
+-- Memory in which rows of the list are written: what stands before the list is kept, so that the records, their groups and the gains stay.
 use mathlib.Core.Path.{_≡_}
 use mathlib.Core.List.{List}
-use Prim.Native.Nat.{ℕ, _+_, _-_, _≤_, _<_}
+use Prim.Native.Nat.{ℕ, _+_, _-_, _*_, _≤_, _<_}
 use native.Mathlib.Omega.{arith}
 use lib.ListN.{length, getD}
-use Rattle.groups.specs.Layout.{recordsAt, listAt}
+use Rattle.model.specs.Limits.{maxObjectives}
+use Rattle.groups.specs.Layout.{recordsAt, gainsAt, listAt}
 use Rattle.groups.specs.Groups.{placesIn, Placed, Grouped}
 use Rattle.groups.proofs.Overwritten.{over, over-length, over-before, over-part}
+use Rattle.search.specs.States.{gainsIn}
 
 module _ (ds s work : List ℕ) (r : ℕ) (grouped : Grouped ds s work r) (from : ℕ) (g : List ℕ) (end : ℕ) (is : end ≡ from + length g) (inside : end ≤ length work) (behind : listAt ≤ from) where
   abbrev after : List ℕ
@@ -14,6 +16,9 @@ module _ (ds s work : List ℕ) (r : ℕ) (grouped : Grouped ds s work r) (from 
 
   pub kept-places : placesIn after r ≡ placesIn work r
   kept-places = over-part work from g end is inside r recordsAt (omega (arith, grouped .placed .few))
+
+  pub kept-gains : (p k : ℕ) → p ≤ maxObjectives → k ≤ length ds → gainsIn p after k ≡ gainsIn p work k
+  kept-gains p k few h = over-part work from g end is inside p (gainsAt + 4 * k) (omega (arith, grouped .placed .variables))
 
   kept-placed : Placed ds s after r
   kept-placed =

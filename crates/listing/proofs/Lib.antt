@@ -1,5 +1,9 @@
 -- The laws that the functions' proofs share.
 pub mod RowSteps
 pub mod Kept
+pub mod Made
 pub mod Passing
+pub mod Since
+pub mod Sourced
 pub mod PlacesKept
+pub mod HalfKept

@@ -1,24 +1,23 @@
--- The places of accepted records, written over work memory: the records are whole, their tables are those read.
-use mathlib.Core.Path.{_≡_, refl, ap, _∙_, subst}
-use mathlib.Core.List.{List, [], _∷_, _++_, append-assoc}
-use Prim.Native.Nat.{ℕ, zero, suc, _+_}
+-- The places of accepted records, written over work memory: the records are whole, and their tables are those read.
+use mathlib.Core.Path.{_≡_, refl, sym, ap}
+use mathlib.Core.List.{List, _∷_, _++_, append-assoc, append-nil}
+use Prim.Native.Nat.{ℕ, zero, suc, _+_, _-_, _≤_, _<_}
 use native.Mathlib.Omega.{arith}
-use lib.ListN.{length, take, drop}
-use lib.Seq.{length-take-le, take-at, drop-at}
+use lib.ListN.{length, take, drop, length-drop}
+use lib.Seq.{take-all, drop-drop, drop-length}
 use Rattle.model.specs.Basics.{All}
 use Rattle.model.specs.Limits.{maxObjectives}
-use Rattle.model.specs.Problems.{Problem}
+use Rattle.model.specs.Frontiers.{frontier}
 use Rattle.model.specs.Reading.{tableLength, tableOf, tablesAt, placesAt}
-use Rattle.model.specs.Costs.{totalsFrom}
-use Rattle.model.specs.Bounds.{prefixOk, leastOf}
-use Rattle.model.specs.Calls.{over}
+use Rattle.model.specs.Calls.{over as filled}
 use Rattle.problem.specs.Records.{Whole, AllWhole}
-use Rattle.groups.specs.Layout.{recordsAt}
-use Rattle.groups.specs.Groups.{tablesOver, placesIn, Placed, Grouped}
-use Rattle.search.specs.States.{tablesIn, problemIn, prefixOf, Setting, Stands}
-use Rattle.search.specs.declared.Partial as DP
+use Rattle.groups.specs.Layout.{sourceAt, listEnd}
+use Rattle.groups.specs.Groups.{tablesOver}
+use Rattle.groups.proofs.Overwritten.{over, over-length, over-behind, over-here}
+use Rattle.suffixes.specs.Gained.{sourceProblem, Source}
 use Rattle.listing.specs.Says.{problemAt, Accepted, FoundSays}
 use Rattle.listing.specs.declared.Found as DF
+use Rattle.listing.proofs.Since.{says-since}
 
 module _ (ds s : List ℕ) where
   pub places-count : (r at : ℕ) → length (placesAt r ds s at) ≡ r
@@ -36,46 +35,63 @@ module _ (ds s : List ℕ) where
   places-tables zero at = refl
   places-tables (suc r) at = ap (_∷_ (tableOf ds (drop at s))) (places-tables r (at + tableLength ds (drop at s)))
 
--- `kept` is written over the records' part of work memory
-module _ (p r at room : ℕ) (ceilings ds s work : List ℕ) (a : Accepted p r at room ceilings ds s work) (kept part rest : List ℕ) (says : kept ≡ over (placesAt r ds s at) part) where
-  abbrev written : List ℕ
-  written = take recordsAt work ++ (kept ++ rest)
+  pub places-owners : (r at : ℕ) → AllWhole r ds s at → All (λ t. t .objective < maxObjectives) (tablesAt r ds s at)
+  unfolding tablesAt tableOf
+  places-owners zero at h = tt
+  places-owners (suc r) at h = (h .0 .owner, places-owners r (at + tableLength ds (drop at s)) (h .1))
 
-  pub written-places : placesIn written r ≡ placesAt r ds s at
-  unfolding over
-  written-places =
-      let places = placesAt r ds s at in
-      let front : length (take recordsAt work) ≡ recordsAt = length-take-le recordsAt work (omega (arith, a .memory)) in
-      rw (drop-at (take recordsAt work) (kept ++ rest) recordsAt front, says, append-assoc places (drop (length places) part) rest)
-      (take-at places (drop (length places) part ++ rest) r (places-count ds s r at))
+-- they are kept in the part of work memory from `from` on
+abbrev pub behindAt : List ℕ → ℕ → List ℕ
+behindAt work from = take (length work - from) (drop from work)
 
-  pub written-placed : length written ≡ length work → Placed ds s written r
-  written-placed same =
+abbrev pub written : List ℕ → ℕ → List ℕ → List ℕ
+written work from kept = take from work ++ (kept ++ drop (length work - from) (drop from work))
+
+module _ (r at : ℕ) (ds s work : List ℕ) (from : ℕ) (inside : from + r ≤ length work) (kept : List ℕ) (says : kept ≡ filled (placesAt r ds s at) (behindAt work from)) where
+  abbrev places : List ℕ
+  places = placesAt r ds s at
+
+  ends : from + r ≡ from + length places
+  ends = omega (arith, places-count ds s r at)
+
+  written-over : written work from kept ≡ over work from places (from + r)
+  unfolding filled
+  written-over =
+      let all : from + (length work - from) ≡ length work = omega arith in
+      let part : behindAt work from ≡ drop from work = take-all (length work - from) (drop from work) (omega (arith, length-drop from work)) in
+      rw (says, part, drop-drop (length places) from work, drop-drop (length work - from) from work, all, drop-length work, ← ends, append-nil (places ++ drop (from + r) work))
+      (sym (append-assoc (take from work) places (drop (from + r) work)))
+
+  pub written-places : take r (drop from (written work from kept)) ≡ placesAt r ds s at
+  written-places = rw written-over (rw (places-count ds s r at) at (over-here work from places (from + r) ends inside))
+
+  pub written-length : length (written work from kept) ≡ length work
+  written-length = rw written-over (over-length work from places (from + r) ends inside)
+
+  pub written-behind : (k : ℕ) → from + r ≤ k → drop k (written work from kept) ≡ drop k work
+  written-behind k h = rw written-over (over-behind work from places (from + r) ends inside k h)
+
+-- they are kept as the problem's records
+module _ (p r at room : ℕ) (ceilings ds s work : List ℕ) (a : Accepted p r at room ceilings ds s work) (kept : List ℕ) (says : kept ≡ filled (placesAt r ds s at) (behindAt work sourceAt)) (wide : List ℕ) (same : wide ≡ ceilings) where
+  inside : sourceAt + r ≤ length work
+  inside = omega (arith, a .tables, a .memory)
+
+  abbrev after : List ℕ
+  after = written work sourceAt kept
+
+  pub kept-source : Source p r wide ds s after
+  kept-source =
       record {
+        whole = rw (written-places r at ds s work sourceAt inside kept says) (places-whole ds s r at (a .whole));
         few = a .tables;
         small = a .small;
         variables = a .variables;
-        long = omega (arith, a .memory);
-        whole = rw written-places (places-whole ds s r at (a .whole));
+        objectives = a .objectives;
+        words = rw same (a .words);
+        long = omega (arith, written-length r at ds s work sourceAt inside kept says, a .memory);
       }
 
--- the records are placed and grouped
-module _ (p r at room : ℕ) (ceilings ds s work : List ℕ) (a : Accepted p r at room ceilings ds s work) (after : List ℕ) (grouped : Grouped ds s after r) (places : placesIn after r ≡ placesAt r ds s at) where
-  tables : tablesIn r ds s after ≡ tablesAt r ds s at
-  tables = ap (tablesOver ds s) places ∙ places-tables ds s r at
-
-  pub grouped-setting : Setting p r 0 ds s after
-  grouped-setting = record { grouped = grouped; objectives = a .objectives; count = omega arith }
-
-  -- the empty choice
-  pub grouped-root : (x : DP.Partial) → x .len ≡ 0 → x .bound ≡ totalsFrom maxObjectives 0 (leastOf ds []) (tablesAt r ds s at) → Stands r ds s after x
-  unfolding prefixOk
-  grouped-root x none bound =
-      let empty : prefixOf x ≡ [] = ap (λ n. take n (x .values)) none in
-      record { short = omega arith; good = rw empty; exact = rw (empty, tables) bound }
-
-  pub grouped-says : (wide after′ : List ℕ) (f : DF.Found) → wide ≡ ceilings → length after ≡ length work → FoundSays (problemIn p r wide ds s after) room after after′ f → FoundSays (problemAt p ceilings ds s at r) room work after′ f
-  grouped-says wide after′ f same long h =
-      let q : problemIn p r wide ds s after ≡ problemAt p ceilings ds s at r = rw (same, tables) in
-      let says : FoundSays (problemIn p r wide ds s after) room work after′ f = record { full = h .full; count = h .count; list = h .list; long = h .long ∙ long } in
-      subst (λ (q : Problem). FoundSays q room work after′ f) q says
+  pub kept-says : (work′ : List ℕ) (f : DF.Found) → FoundSays p (length ds) (frontier (sourceProblem p r wide ds s after)) room after work′ f → FoundSays p (length ds) (frontier (problemAt p ceilings ds s at r)) room work work′ f
+  kept-says work′ f =
+      let q : sourceProblem p r wide ds s after ≡ problemAt p ceilings ds s at r = rw (same, written-places r at ds s work sourceAt inside kept says, places-tables ds s r at) in
+      says-since (written-length r at ds s work sourceAt inside kept says) (written-behind r at ds s work sourceAt inside kept says listEnd (omega (arith, a .tables))) (ap frontier q)

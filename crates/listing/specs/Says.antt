@@ -1,16 +1,17 @@
--- What finding the list ensures: the frontier list is in work memory, or it is longer than the room.
+-- What finding a list ensures: it is in work memory, or it is longer than the room.
 use mathlib.Core.Path.{_≡_}
 use mathlib.Core.Bool.{false, not}
 use mathlib.Core.List.{List}
 use Prim.Native.Nat.{ℕ, _≤_}
 use lib.Dec.{ltb}
-use lib.ListN.{length, take}
+use lib.ListN.{length, take, drop}
 use Rattle.model.specs.Basics.{All, when}
 use Rattle.model.specs.Limits.{maxBytes, maxObjectives, maxTables, maxVariables, maxPoints, workNeed}
 use Rattle.model.specs.Problems.{Problem, Word, DomainSize}
 use Rattle.model.specs.Reading.{tablesAt}
-use Rattle.model.specs.Frontiers.{frontier}
+use Rattle.model.specs.Frontiers.{Point}
 use Rattle.problem.specs.Records.{AllWhole}
+use Rattle.groups.specs.Layout.{listEnd}
 use Rattle.rows.specs.Rows.{listIn}
 use Rattle.listing.specs.declared.Found as DF
 
@@ -30,8 +31,10 @@ pub record Accepted (p r at room : ℕ) (ceilings ds s work : List ℕ) : Type 0
   pub room-small : room ≤ maxPoints
   pub memory : workNeed ≤ length work
 
-pub record FoundSays (q : Problem) (room : ℕ) (work work′ : List ℕ) (f : DF.Found) : Type 0 where
-  pub full : f .full ≡ ltb room (length (frontier q))
-  pub count : f .count ≡ when (not (f .full)) (length (frontier q))
-  pub list : f .full ≡ false → listIn (q .objectives) (length (q .domains)) work′ 0 (f .count) ≡ frontier q
+-- the list fs is in work memory, or it is longer than the room; what stands behind the list stays
+pub record FoundSays (p n : ℕ) (fs : List Point) (room : ℕ) (work work′ : List ℕ) (f : DF.Found) : Type 0 where
+  pub full : f .full ≡ ltb room (length fs)
+  pub count : f .count ≡ when (not (f .full)) (length fs)
+  pub list : f .full ≡ false → listIn p n work′ 0 (f .count) ≡ fs
   pub long : length work′ ≡ length work
+  pub behind : drop listEnd work′ ≡ drop listEnd work

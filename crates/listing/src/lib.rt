@@ -1,35 +1,21 @@
-// Finds the frontier list: the records are placed and grouped in work memory, and each pass adds the next point.
+// Finds a frontier list: the records are placed and grouped in work memory, and each pass adds the next point.
 ghost use mathlib.Core.Path.{_≡_};
-ghost use mathlib.Core.List.{[]};
 ghost use Prim.Native.Nat.{_≤_};
-ghost use lib.ListN.{take};
+ghost use lib.ListN.{length, take};
 ghost use Rattle.model.specs.Basics.{All};
-ghost use Rattle.model.specs.Limits.{maxObjectives, maxPoints, maxTables};
-ghost use Rattle.model.specs.Problems.{Word, DomainSize};
-ghost use Rattle.model.specs.Reading.{tablesAt};
-ghost use Rattle.model.specs.Costs.{totalsFrom};
-ghost use Rattle.model.specs.Bounds.{leastOf};
-ghost use Rattle.problem.specs.Records.{AllWhole};
-ghost use Rattle.search.specs.States.{problemIn, Setting, Stands};
+ghost use Rattle.model.specs.Limits.{maxPoints};
+ghost use Rattle.model.specs.Problems.{Word};
+ghost use Rattle.model.specs.Frontiers.{frontier};
+ghost use Rattle.model.specs.Suffixes.{Gains};
+ghost use Rattle.model.specs.Views.{view};
+ghost use Rattle.search.specs.States.{problemIn, gainsIn, Setting, Stands};
+ghost use Rattle.suffixes.specs.Gained.{Source, sourceProblem};
 ghost use Rattle.listing.specs.Says.{problemAt, Accepted, FoundSays};
 
 // Whether the list is longer than the room, and else how many points it has.
 pub struct Found {
     pub full: bool,
     pub count: usize,
-}
-
-// The empty partial choice, with its bound.
-fn root_of(s: &[u8], at: usize, r: u32, sizes: &[u8]) -> search::Partial
-    requires { ⌜ AllWhole r (now sizes) (now s) at × (r ≤ maxTables) × All DomainSize (now sizes) ⌝ }
-    ensures { λ x. ⌜ (x .len ≡ 0) × (x .bound ≡ totalsFrom maxObjectives 0 (leastOf (now (sizes .entry)) []) (tablesAt r (now (sizes .entry)) (now (s .entry)) at)) ⌝ }
-{
-    let bound = costs::bounds_of(s, at, r, sizes, &sizes[..0]);
-    search::Partial {
-        len: 0,
-        values: [0u8; 24],
-        bound,
-    }
 }
 
 // Passes until no point is left or the room is full.
@@ -43,8 +29,8 @@ pub fn find_points(
     room: usize,
     work: &mut [u32],
 ) -> Found
-    requires { ⌜ Setting p r 0 (now sizes) (now s) (now work) × Stands r (now sizes) (now s) (now work) root × (root .len ≡ 0) × All Word (take p ceilings) × (room ≤ maxPoints) ⌝ }
-    ensures { λ f. ⌜ FoundSays (problemIn p r ceilings (now (sizes .entry)) (now (s .entry)) (now (work .entry))) room (now (work .entry)) (now (work .exit)) f ⌝ }
+    requires { ⌜ Setting p r 0 (now sizes) (now s) (now work) × Stands r (now sizes) (now s) (now work) root × (root .len ≡ 0) × All Word (take p ceilings) × (room ≤ maxPoints) × Gains (problemIn p r ceilings (now sizes) (now s) (now work)) (gainsIn p (now work)) ⌝ }
+    ensures { λ f. ⌜ FoundSays p (length (now (sizes .entry))) (frontier (problemIn p r ceilings (now (sizes .entry)) (now (s .entry)) (now (work .entry)))) room (now (work .entry)) (now (work .exit)) f ⌝ }
 {
     let mut k: usize = 0;
     while k < room {
@@ -73,6 +59,38 @@ pub fn find_points(
     }
 }
 
+// The frontier list of `r` records whose places stand in work memory where a problem's records are.
+pub fn find_source(
+    s: &[u8],
+    sizes: &[u8],
+    r: usize,
+    p: usize,
+    ceilings: [u64; 4],
+    room: usize,
+    work: &mut [u32],
+) -> Found
+    requires { ⌜ Source p r ceilings (now sizes) (now s) (now work) × (room ≤ maxPoints) ⌝ }
+    ensures { λ f. ⌜ FoundSays p (length (now (sizes .entry))) (frontier (sourceProblem p r ceilings (now (sizes .entry)) (now (s .entry)) (now (work .entry)))) room (now (work .entry)) (now (work .exit)) f ⌝ }
+{
+    suffixes::find_gains(s, sizes, r, p, ceilings, work);
+    groups::copy_numbers(groups::SOURCE_AT, groups::RECORDS_AT, r, work);
+    groups::group_records(s, sizes, r, work);
+    let root = search::root_of(s, sizes, r, work);
+    find_points(root, s, sizes, r, p, ceilings, room, work)
+}
+
+// The ceilings in eight bytes each, as the sums are.
+fn widened(ceilings: [u32; 4]) -> [u64; 4]
+    ensures { λ wide. ⌜ wide ≡ ceilings ⌝ }
+{
+    [
+        ceilings[0] as u64,
+        ceilings[1] as u64,
+        ceilings[2] as u64,
+        ceilings[3] as u64,
+    ]
+}
+
 // The frontier list of `r` accepted records from `at` on, in work memory.
 pub fn find_list(
     s: &[u8],
@@ -85,16 +103,43 @@ pub fn find_list(
     work: &mut [u32],
 ) -> Found
     requires { ⌜ Accepted p r at room ceilings (now sizes) (now s) (now work) ⌝ }
-    ensures { λ f. ⌜ FoundSays (problemAt p ceilings (now (sizes .entry)) (now (s .entry)) at r) room (now (work .entry)) (now (work .exit)) f ⌝ }
+    ensures { λ f. ⌜ FoundSays p (length (now (sizes .entry))) (frontier (problemAt p ceilings (now (sizes .entry)) (now (s .entry)) at r)) room (now (work .entry)) (now (work .exit)) f ⌝ }
+{
+    problem::keep_places(s, at, r, sizes, &mut work[groups::SOURCE_AT..]);
+    let wide = widened(ceilings);
+    find_source(s, sizes, r as usize, p, wide, room, work)
+}
+
+// The frontier list of one half, in work memory: the records on the side, over the domain sizes that it leaves.
+pub fn find_half(
+    s: &[u8],
+    at: usize,
+    r: u32,
+    sizes: &[u8],
+    sides: &[u8],
+    side: u8,
+    p: usize,
+    ceilings: [u32; 4],
+    work: &mut [u32],
+) -> Found
+    requires { ⌜ Accepted p r at maxPoints ceilings (now sizes) (now s) (now work) × (length (now sides) ≡ length (now sizes)) ⌝ }
+    ensures { λ f. ⌜ FoundSays p (length (now (sizes .entry))) (frontier (view side (problemAt p ceilings (now (sizes .entry)) (now (s .entry)) at r) (now (sides .entry)))) maxPoints (now (work .entry)) (now (work .exit)) f ⌝ }
 {
     problem::keep_places(s, at, r, sizes, &mut work[groups::RECORDS_AT..]);
-    groups::group_records(s, sizes, r as usize, work);
-    let root = root_of(s, at, r, sizes);
-    let wide = [
-        ceilings[0] as u64,
-        ceilings[1] as u64,
-        ceilings[2] as u64,
-        ceilings[3] as u64,
-    ];
-    find_points(root, s, sizes, r as usize, p, wide, room, work)
+    let narrow = views::narrow(sizes, sides, side);
+    let count = views::keep_records(
+        s,
+        sizes,
+        sides,
+        side,
+        0,
+        4,
+        r as usize,
+        groups::RECORDS_AT,
+        groups::SOURCE_AT,
+        work,
+    );
+    let n = sizes.len();
+    let wide = widened(ceilings);
+    find_source(s, &narrow[..n], count, p, wide, 64, work)
 }

@@ -1,5 +1,5 @@
 -- The laws that the functions' proofs share.
-pub mod Fours
+pub mod FourTotals
 pub mod Matching
 pub mod Touched
 pub mod SumLimits

@@ -18,9 +18,10 @@ use Rattle.model.specs.Costs.{costsOf}
 use Rattle.model.specs.Bounds.{prefixOk, boundOf}
 use Rattle.model.specs.Frontiers.{consistent, Point, point}
 use Rattle.model.specs.Search.{Held, nothing, just, matched, isLeft, better, met, late, dead, tries, opens}
+use Rattle.model.specs.Suffixes.{sharper}
 use Rattle.model.proofs.Bits.{test}
 use Rattle.model.proofs.Bounded.{bound-whole}
-use Rattle.search.specs.States.{ruleOf, opensFrom, triesFrom}
+use Rattle.search.specs.States.{gainsIn, ruleOf, opensFrom, triesFrom}
 use Rattle.search.proofs.PrefixSteps.{prefix-whole}
 
 -- a complete choice is met where its costs are not dead
@@ -35,27 +36,31 @@ unfolding met isLeft consistent better dead late
 met-alive q ps x nothing = alive (under (costsOf q x) (q .ceilings)) (matched (costsOf q x) ps) true (just (point (costsOf q x) x)) nothing
 met-alive q ps x (just w) = alive (under (costsOf q x) (q .ceilings)) (matched (costsOf q x) ps) (earlier (costsOf q x) (w .costs)) (just (point (costsOf q x) x)) (just w)
 
-module _ (q : Problem) (ps : List Point) (pre : List ℕ) (h : Held) where
-  pub opens-leaf : prefixOk (q .domains) pre ≡ true → length (q .domains) ≤ length pre → opensFrom q ps pre h ≡ pick (ruleOf q ps pre h) h (just (point (boundOf q pre) pre))
-  unfolding opens
-  opens-leaf ok l = rw (drop-of-length-le (q .domains) l, bound-whole q pre (prefix-whole (q .domains) pre ok l)) (met-alive q ps pre h)
+-- the gains leave the bound of a complete choice as it is
+abbrev pub Unchanged : Problem → List ℕ → List ℕ → Type 0
+Unchanged q work pre = length (q .domains) ≤ length pre → sharper q (gainsIn (q .objectives) work) pre ≡ boundOf q pre
 
-  pub opens-tries : length pre < length (q .domains) → opensFrom q ps pre h ≡ pick (ruleOf q ps pre h) h (triesFrom q ps pre 0 h)
+module _ (q : Problem) (work : List ℕ) (ps : List Point) (pre : List ℕ) (h : Held) where
+  pub opens-leaf : prefixOk (q .domains) pre ≡ true → Unchanged q work pre → length (q .domains) ≤ length pre → opensFrom q work ps pre h ≡ pick (ruleOf q work ps pre h) h (just (point (boundOf q pre) pre))
+  unfolding opens
+  opens-leaf ok same l = rw (drop-of-length-le (q .domains) l, same l, bound-whole q pre (prefix-whole (q .domains) pre ok l)) (met-alive q ps pre h)
+
+  pub opens-tries : length pre < length (q .domains) → opensFrom q work ps pre h ≡ pick (ruleOf q work ps pre h) h (triesFrom q work ps pre 0 h)
   unfolding opens
   opens-tries l =
       let ds = q .domains in
       let k = length pre in
       let next : (a : ℕ) → suc k ≡ length (pre ++ (a ∷ [])) = λ a. omega (arith, length-append pre (a ∷ [])) in
-      let same : _≡_ {A = ℕ → Held → Held} (λ a g. opens q ps (ruleOf q ps) (drop (suc k) ds) (pre ++ (a ∷ [])) g) (λ a g. opensFrom q ps (pre ++ (a ∷ [])) g) = fun-ext (λ a. fun-ext (λ g. ap (λ i. opens q ps (ruleOf q ps) (drop i ds) (pre ++ (a ∷ [])) g) (next a))) in
-      rw (drop-cons ds k 0 l, sub-zero) (ap (λ f. pick (ruleOf q ps pre h) h (tries (getD ds k 0) 0 f h)) same)
+      let same : _≡_ {A = ℕ → Held → Held} (λ a g. opens q ps (ruleOf q work ps) (drop (suc k) ds) (pre ++ (a ∷ [])) g) (λ a g. opensFrom q work ps (pre ++ (a ∷ [])) g) = fun-ext (λ a. fun-ext (λ g. ap (λ i. opens q ps (ruleOf q work ps) (drop i ds) (pre ++ (a ∷ [])) g) (next a))) in
+      rw (drop-cons ds k 0 l, sub-zero) (ap (λ f. pick (ruleOf q work ps pre h) h (tries (getD ds k 0) 0 f h)) same)
 
-  pub tries-end : (v : ℕ) → getD (q .domains) (length pre) 0 ≤ v → triesFrom q ps pre v h ≡ h
+  pub tries-end : (v : ℕ) → getD (q .domains) (length pre) 0 ≤ v → triesFrom q work ps pre v h ≡ h
   unfolding tries
   tries-end v l =
       let none : getD (q .domains) (length pre) 0 - v ≡ 0 = omega arith in
       rw none refl
 
-  pub tries-next : (v : ℕ) → v < getD (q .domains) (length pre) 0 → triesFrom q ps pre v h ≡ triesFrom q ps pre (v + 1) (opensFrom q ps (pre ++ (v ∷ [])) h)
+  pub tries-next : (v : ℕ) → v < getD (q .domains) (length pre) 0 → triesFrom q work ps pre v h ≡ triesFrom q work ps pre (v + 1) (opensFrom q work ps (pre ++ (v ∷ [])) h)
   unfolding tries
   tries-next v l =
       let d = getD (q .domains) (length pre) 0 in
@@ -63,9 +68,9 @@ module _ (q : Problem) (ps : List Point) (pre : List ℕ) (h : Held) where
       rw (one, add-one) refl
 
   -- a prefix whose bound is dead is left as it is
-  pub opens-dead : prefixOk (q .domains) pre ≡ true → ruleOf q ps pre h ≡ true → opensFrom q ps pre h ≡ h
-  opens-dead ok e =
+  pub opens-dead : prefixOk (q .domains) pre ≡ true → Unchanged q work pre → ruleOf q work ps pre h ≡ true → opensFrom q work ps pre h ≡ h
+  opens-dead ok same e =
       ⊎-elim
       (λ (t : ltb (length pre) (length (q .domains)) ≡ true). opens-tries (ltb-true _ _ t) ∙ rw e refl)
-      (λ (t : ltb (length pre) (length (q .domains)) ≡ false). opens-leaf ok (ltb-false _ _ t) ∙ rw e refl)
+      (λ (t : ltb (length pre) (length (q .domains)) ≡ false). opens-leaf ok same (ltb-false _ _ t) ∙ rw e refl)
       (test (ltb (length pre) (length (q .domains))))

@@ -10,14 +10,17 @@ use lib.Seq.{length-take-le, take-suc-set}
 use mir.Val.{Val}
 use denote.Laws.{Is}
 use denote.Struct.Declared.{row}
-use Rattle.model.specs.Limits.{maxVariables, maxObjectives}
+use Rattle.model.specs.Basics.{All}
+use Rattle.model.specs.Limits.{maxVariables, maxObjectives, byteEnd, sumEnd}
 use Rattle.model.specs.Costs.{total, totalsFrom}
 use Rattle.model.specs.Bounds.{prefixOk, leastOf}
 use Rattle.groups.specs.Groups.{groupOf, tablesOver, placesIn, Grouped}
 use Rattle.search.specs.States.{tablesIn, prefixOf, Stands, untouched, Rest}
 use Rattle.search.specs.declared.Partial as DP
 use Rattle.search.proofs.Partial.{the-type}
-use Rattle.search.proofs.Fours.{listed, at-listed, totals-listed}
+use Rattle.vectors.proofs.Fours.{listed, at-listed}
+use Rattle.search.proofs.FourTotals.{totals-listed}
+use Rattle.search.proofs.SumLimits.{total-fits}
 use Rattle.search.proofs.Touched.{split-before, split-after}
 use Rattle.search.proofs.PrefixSteps.{prefix-more}
 
@@ -26,9 +29,14 @@ pub record Standing (r : ℕ) (ds s work : List ℕ) (x : DP.Partial) : Type 0 w
   pub grouped : Grouped ds s work r
   pub stands : Stands r ds s work x
   pub long : length (x .values) ≡ maxVariables
+  pub four : length (x .bound) ≡ maxObjectives
+
+-- the bound of any partial choice has four numbers
+pub bound-four : (x : DP.Partial) (vs : List Val) → Is (row the-type) x vs → length (x .bound) ≡ maxObjectives
+bound-four x vs h = sym (length-map (x .bound) (λ v. v)) ∙ h .1 .1 .1 .1 .0 .1 .0 .1
 
 pub standing : {r : ℕ} {ds s work : List ℕ} {x : DP.Partial} → Grouped ds s work r → Stands r ds s work x → (vs : List Val) → Is (row the-type) x vs → Standing r ds s work x
-standing {x = x} g st vs h = record { grouped = g; stands = st; long = sym (length-map (x .values) (λ v. v)) ∙ h .1 .1 .1 .0 .1 .0 .1 }
+standing {x = x} g st vs h = record { grouped = g; stands = st; long = sym (length-map (x .values) (λ v. v)) ∙ h .1 .1 .1 .0 .1 .0 .1; four = bound-four x vs h }
 
 -- what the tables that a variable v touches add to the bound of a prefix
 abbrev pub touchedBy : ℕ → ℕ → List ℕ → List ℕ → List ℕ → List ℕ → List ℕ
@@ -54,13 +62,18 @@ module _ {r : ℕ} {ds s work : List ℕ} {x : DP.Partial} (a : Standing r ds s 
   pub prefix-length : length (prefixOf x) ≡ x .len
   prefix-length = length-take-le (x .len) (x .values) prefix-room
 
+  bound-is : x .bound ≡ listed (whole (prefixOf x))
+  bound-is = a .stands .exact ∙ totals-listed (leastOf ds (prefixOf x)) (tablesIn r ds s work)
+
+  pub bound-fits : ((i : ℕ) → getD s i 0 < byteEnd) → All (λ b. b ≤ sumEnd) (x .bound)
+  bound-fits bytes =
+      let fits : (o : ℕ) → whole (prefixOf x) o ≤ sumEnd = λ o. total-fits ds s work (prefixOf x) r o (a .grouped .placed .few) bytes in
+      rw bound-is (fits 0, (fits 1, (fits 2, (fits 3, tt))))
+
   -- before the next variable has a value: what is left of the bound without the tables that it touches
   module _ (touched : List ℕ) (t : touched ≡ touchedBy (x .len) r ds s work (prefixOf x)) where
     split : (o : ℕ) → whole (prefixOf x) o ≡ others o + own (prefixOf x) o
     split o = split-before ds s (prefixOf x) (placesIn work r) (x .len) o
-
-    bound-is : x .bound ≡ listed (whole (prefixOf x))
-    bound-is = a .stands .exact ∙ totals-listed (leastOf ds (prefixOf x)) (tablesIn r ds s work)
 
     touched-is : touched ≡ listed (own (prefixOf x))
     touched-is = t ∙ totals-listed (leastOf ds (prefixOf x)) (tablesOver ds s (groupOf s (x .len) (placesIn work r)))

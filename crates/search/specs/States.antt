@@ -2,16 +2,18 @@
 use mathlib.Core.Path.{_≡_}
 use mathlib.Core.Bool.{Bool, true, _||_, not}
 use mathlib.Core.List.{List, [], _∷_, _++_}
-use Prim.Native.Nat.{ℕ, _-_, _≤_}
-use lib.ListN.{length, getD, take, drop}
+use Prim.Native.Nat.{ℕ, _+_, _-_, _*_, _≤_}
+use lib.ListN.{length, getD, take, drop, replicate}
 use Rattle.model.specs.Basics.{pick, when}
 use Rattle.model.specs.Limits.{maxObjectives, maxPoints}
 use Rattle.model.specs.Problems.{Table, Problem}
 use Rattle.model.specs.Vectors.{under}
 use Rattle.model.specs.Costs.{totalsFrom}
 use Rattle.model.specs.Frontiers.{Point, point}
-use Rattle.model.specs.Bounds.{prefixOk, leastOf, boundOf}
+use Rattle.model.specs.Bounds.{prefixOk, leastOf}
 use Rattle.model.specs.Search.{Held, nothing, just, matched, late, dead, tries, opens}
+use Rattle.model.specs.Suffixes.{sharper}
+use Rattle.groups.specs.Layout.{gainsAt}
 use Rattle.groups.specs.Groups.{hasVariable, tablesOver, placesIn, Grouped}
 use Rattle.rows.specs.Rows.{listIn}
 use Rattle.search.specs.declared.Partial as DP
@@ -36,15 +38,20 @@ prefixOf x = take (x .len) (x .values)
 abbrev pub deadIn : ℕ → ℕ → ℕ → List ℕ → List ℕ → DB.Best → List ℕ → Bool
 deadIn p n k ceilings work best b = not (under b (take p ceilings)) || (matched b (listIn p n work 0 k) || late (heldOf p n best) b)
 
--- the rule of the search: the bound is dead
-abbrev pub ruleOf : Problem → List Point → List ℕ → Held → Bool
-ruleOf q ps pre h = dead q ps h (boundOf q pre)
+-- what the variables from j on add to a bound, for p objectives
+abbrev pub gainsIn : ℕ → List ℕ → ℕ → List ℕ
+gainsIn p work j = take p (drop (gainsAt + 4 * j) work)
 
--- memory in which a pass may run: grouped records of p objectives, and k listed points
+-- the rule of the search: the bound with the gains of the variables after the prefix is dead
+abbrev pub ruleOf : Problem → List ℕ → List Point → List ℕ → Held → Bool
+ruleOf q work ps pre h = dead q ps h (sharper q (gainsIn (q .objectives) work) pre)
+
+-- memory in which a pass may run: grouped records of p objectives, k listed points, and gains, of which a complete choice has none
 pub record Setting (p r k : ℕ) (ds s work : List ℕ) : Type 0 where
   pub grouped : Grouped ds s work r
   pub objectives : p ≤ maxObjectives
   pub count : k ≤ maxPoints
+  pub last : gainsIn maxObjectives work (length ds) ≡ replicate maxObjectives 0
 
 -- a partial choice stands for its prefix, with the prefix's bound in all four objectives
 pub record Stands (r : ℕ) (ds s work : List ℕ) (x : DP.Partial) : Type 0 where
@@ -60,8 +67,8 @@ abbrev pub Rest : ℕ → List ℕ → List ℕ → List ℕ → DP.Partial → 
 Rest r ds s work x rest = rest ≡ totalsFrom maxObjectives 0 (untouched (x .len) ds (prefixOf x)) (tablesIn r ds s work)
 
 -- the search of all that goes on from a prefix, and of its values from v on
-abbrev pub opensFrom : Problem → List Point → List ℕ → Held → Held
-opensFrom q ps pre h = opens q ps (ruleOf q ps) (drop (length pre) (q .domains)) pre h
+abbrev pub opensFrom : Problem → List ℕ → List Point → List ℕ → Held → Held
+opensFrom q work ps pre h = opens q ps (ruleOf q work ps) (drop (length pre) (q .domains)) pre h
 
-abbrev pub triesFrom : Problem → List Point → List ℕ → ℕ → Held → Held
-triesFrom q ps pre v h = tries (getD (q .domains) (length pre) 0 - v) v (λ a g. opensFrom q ps (pre ++ (a ∷ [])) g) h
+abbrev pub triesFrom : Problem → List ℕ → List Point → List ℕ → ℕ → Held → Held
+triesFrom q work ps pre v h = tries (getD (q .domains) (length pre) 0 - v) v (λ a g. opensFrom q work ps (pre ++ (a ∷ [])) g) h

@@ -3,12 +3,14 @@ ghost use mathlib.Core.Path.{_≡_};
 ghost use mathlib.Core.List.{_++_, _∷_, []};
 ghost use Prim.Native.Nat.{_+_, _<_, _≤_};
 ghost use lib.ListN.{length, getD, take, drop};
-ghost use Rattle.model.specs.Limits.{maxObjectives, maxPoints};
+ghost use Rattle.model.specs.Basics.{All};
+ghost use Rattle.model.specs.Limits.{maxObjectives, maxVariables, maxPoints, sumEnd};
+ghost use Rattle.model.specs.Vectors.{added};
 ghost use Rattle.model.specs.Search.{matched, pass};
-ghost use Rattle.groups.specs.Layout.{listEnd};
-ghost use Rattle.groups.specs.Groups.{Grouped};
+ghost use Rattle.groups.specs.Layout.{listEnd, rowsEnd};
+ghost use Rattle.groups.specs.Groups.{Placed, Grouped};
 ghost use Rattle.rows.specs.Rows.{listIn};
-ghost use Rattle.search.specs.States.{heldOf, problemIn, prefixOf, deadIn, ruleOf, Setting, Stands, Rest, opensFrom, triesFrom};
+ghost use Rattle.search.specs.States.{heldOf, problemIn, prefixOf, deadIn, gainsIn, ruleOf, Setting, Stands, Rest, opensFrom, triesFrom};
 
 // A partial choice: values of the first `len` variables, and the bound of that prefix.
 pub struct Partial {
@@ -25,7 +27,7 @@ pub struct Best {
 }
 
 // The four costs of the row that starts at `at`.
-fn costs_at(work: &[u32], at: usize) -> [u64; 4]
+pub fn costs_at(work: &[u32], at: usize) -> [u64; 4]
     requires { ⌜ at + 4 ≤ length (now work) ⌝ }
     ensures { λ c. ⌜ c ≡ take maxObjectives (drop at (now (work .entry))) ⌝ }
 {
@@ -38,7 +40,7 @@ fn costs_at(work: &[u32], at: usize) -> [u64; 4]
 }
 
 // Whether one of the `k` listed points matches or beats the vector.
-fn is_matched(c: [u64; 4], n: usize, work: &[u32], k: usize, p: usize) -> bool
+pub fn is_matched(c: [u64; 4], n: usize, work: &[u32], k: usize, p: usize) -> bool
     requires { ⌜ (listEnd ≤ length (now work)) × (k ≤ maxPoints) × (p ≤ maxObjectives) ⌝ }
     ensures { λ b. ⌜ b ≡ matched (take p c) (listIn p n (now (work .entry)) 0 k) ⌝ }
 {
@@ -76,6 +78,17 @@ fn is_dead(
         return !vectors::is_earlier(bound, costs, p);
     }
     false
+}
+
+// The bound with what the variables after the prefix add to it.
+fn sharper_bound(x: Partial, work: &[u32]) -> [u64; 4]
+    requires { ⌜ (rowsEnd ≤ length (now work)) × (x .len ≤ maxVariables) × All (λ b. b ≤ sumEnd) (x .bound) ⌝ }
+    ensures { λ b. ⌜ b ≡ added (x .bound) (gainsIn maxObjectives (now (work .entry)) (x .len)) ⌝ }
+{
+    let len = x.len;
+    let bound = x.bound;
+    let gains = costs_at(work, groups::GAINS_AT + 4 * len);
+    vectors::sum(bound, gains)
 }
 
 // What the records that the next variable does not touch add to the bound.
@@ -140,11 +153,12 @@ pub fn open_variable(
     ceilings: [u64; 4],
 ) -> Best
     requires { ⌜ Setting p r k (now sizes) (now s) (now work) × Stands r (now sizes) (now s) (now work) x ⌝ }
-    ensures { λ h. ⌜ heldOf p (length (now (sizes .entry))) h ≡ opensFrom (problemIn p r ceilings (now (sizes .entry)) (now (s .entry)) (now (work .entry))) (listIn p (length (now (sizes .entry))) (now (work .entry)) 0 k) (prefixOf x) (heldOf p (length (now (sizes .entry))) best) ⌝ }
+    ensures { λ h. ⌜ heldOf p (length (now (sizes .entry))) h ≡ opensFrom (problemIn p r ceilings (now (sizes .entry)) (now (s .entry)) (now (work .entry))) (now (work .entry)) (listIn p (length (now (sizes .entry))) (now (work .entry)) 0 k) (prefixOf x) (heldOf p (length (now (sizes .entry))) best) ⌝ }
 {
     let bound = x.bound;
+    let sharper = sharper_bound(x, work);
     let n = sizes.len();
-    if is_dead(bound, best, n, work, k, p, ceilings) {
+    if is_dead(sharper, best, n, work, k, p, ceilings) {
         return best;
     }
     if x.len == n {
@@ -174,7 +188,7 @@ pub fn try_value(
     ceilings: [u64; 4],
 ) -> Best
     requires { ⌜ Setting p r k (now sizes) (now s) (now work) × Stands r (now sizes) (now s) (now work) x × (x .len < length (now sizes)) × (v ≤ getD (now sizes) (x .len) 0) × Rest r (now sizes) (now s) (now work) x rest ⌝ }
-    ensures { λ h. ⌜ heldOf p (length (now (sizes .entry))) h ≡ triesFrom (problemIn p r ceilings (now (sizes .entry)) (now (s .entry)) (now (work .entry))) (listIn p (length (now (sizes .entry))) (now (work .entry)) 0 k) (prefixOf x) v (heldOf p (length (now (sizes .entry))) best) ⌝ }
+    ensures { λ h. ⌜ heldOf p (length (now (sizes .entry))) h ≡ triesFrom (problemIn p r ceilings (now (sizes .entry)) (now (s .entry)) (now (work .entry))) (now (work .entry)) (listIn p (length (now (sizes .entry))) (now (work .entry)) 0 k) (prefixOf x) v (heldOf p (length (now (sizes .entry))) best) ⌝ }
 {
     let len = x.len;
     if v >= sizes[len] {
@@ -183,6 +197,26 @@ pub fn try_value(
     let child = x.with(v, rest, s, sizes, work, r);
     let better = open_variable(child, best, s, sizes, work, r, k, p, ceilings);
     try_value(x, rest, v + 1, better, s, sizes, work, r, k, p, ceilings)
+}
+
+// The empty partial choice, with its bound over the `r` records that are searched.
+pub fn root_of(s: &[u8], sizes: &[u8], r: usize, work: &[u32]) -> Partial
+    requires { ⌜ Placed (now sizes) (now s) (now work) r ⌝ }
+    ensures { λ x. ⌜ (x .len ≡ 0) × Stands r (now (sizes .entry)) (now (s .entry)) (now (work .entry)) x ⌝ }
+{
+    let bound = groups::bounds_over(
+        s,
+        sizes,
+        groups::RECORDS_AT,
+        groups::RECORDS_AT + r,
+        &sizes[..0],
+        work,
+    );
+    Partial {
+        len: 0,
+        values: [0u8; 24],
+        bound,
+    }
 }
 
 // One pass: the least point that the `k` listed ones do not match. `root` is the empty choice with its bound.
@@ -197,7 +231,7 @@ pub fn next_point(
     ceilings: [u64; 4],
 ) -> Best
     requires { ⌜ Setting p r k (now sizes) (now s) (now work) × Stands r (now sizes) (now s) (now work) root × (root .len ≡ 0) ⌝ }
-    ensures { λ h. ⌜ heldOf p (length (now (sizes .entry))) h ≡ pass (problemIn p r ceilings (now (sizes .entry)) (now (s .entry)) (now (work .entry))) (ruleOf (problemIn p r ceilings (now (sizes .entry)) (now (s .entry)) (now (work .entry)))) (listIn p (length (now (sizes .entry))) (now (work .entry)) 0 k) ⌝ }
+    ensures { λ h. ⌜ heldOf p (length (now (sizes .entry))) h ≡ pass (problemIn p r ceilings (now (sizes .entry)) (now (s .entry)) (now (work .entry))) (ruleOf (problemIn p r ceilings (now (sizes .entry)) (now (s .entry)) (now (work .entry))) (now (work .entry))) (listIn p (length (now (sizes .entry))) (now (work .entry)) 0 k) ⌝ }
 {
     let none = Best {
         found: false,

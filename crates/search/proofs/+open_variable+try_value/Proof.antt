@@ -4,10 +4,10 @@ use Prim.Native.Nat.{ℕ, _+_, _-_, _*_, _≤_, _<_}
 use native.Mathlib.Omega.{arith}
 use lib.ListN.{length, getD}
 use denote.Ref.{now}
-use Rattle.model.specs.Limits.{maxDomain}
+use Rattle.model.specs.Limits.{maxDomain, byteEnd}
 use Rattle.model.specs.Problems.{DomainSize}
 use Rattle.model.proofs.Elements.{all-below}
-use Rattle.search.proofs.Partials.{Standing, standing}
+use Rattle.search.proofs.Partials.{Standing, standing, bound-fits}
 use Rattle.search.proofs.Steps.{left-out, completed, begun, ended, tried}
 use borrow.Fn.Kinds.{In}
 use borrow.Fn.PlainCycle.{Measures, is, falls, and}
@@ -18,6 +18,7 @@ use Rattle.search.proofs.try_value.Reads as try-value
 use Rattle.search.proofs.try_value.Kinds as try-value-kinds
 use Rattle.search.proofs.+open_variable+try_value.Lts-try_value as try-value-lts
 use Rattle.search.proofs.Partial.with.Reads as with-reads
+use Rattle.search.proofs.sharper_bound.Reads as sharper-bound-reads
 use Rattle.search.proofs.is_dead.Reads as is-dead-reads
 use Rattle.search.proofs.rest_of.Reads as rest-of-reads
 use Rattle.search.proofs.+open_variable+try_value.{statement}
@@ -49,7 +50,7 @@ try-value-below t =
     and 3 try-value-kinds.ps (falls 3 try-value-kinds.ps _<_ μ-try-value t) try-value.Pre
 
 abbrev open-calls : ℕ → open-variable-lts.Claims
-open-calls t = (is-dead-reads.Asked, is-dead-reads.Learnt, rest-of-reads.Asked, rest-of-reads.Learnt, try-value-below t, try-value.Post)
+open-calls t = (sharper-bound-reads.Asked, sharper-bound-reads.Learnt, is-dead-reads.Asked, is-dead-reads.Learnt, rest-of-reads.Asked, rest-of-reads.Learnt, try-value-below t, try-value.Post)
 
 abbrev try-calls : ℕ → try-value-lts.Claims
 try-calls t = (with-reads.Asked, with-reads.Learnt, open-variable-below t, open-variable.Post, try-value-below t, try-value.Post)
@@ -73,41 +74,48 @@ module _ (t : ℕ) where
 
   -- ## open_variable
 
+  open-variable-sharper-bound-requires : open-variable-lts.Need-sharper-bound-requires (open-calls t) (open-variable-at t) open-variable.Post
+  open-variable-sharper-bound-requires c κs =
+      let s = c .before .before .before .before in
+      let m = s .pre .1 .0 in
+      let bytes : (i : ℕ) → getD (now (s .args .s)) i 0 < byteEnd = λ i. omega (arith, c .before .before .before .shared-slice-known .given i) in
+      (m .grouped .placed .long, omega (arith, s .pre .1 .1 .short, m .grouped .placed .variables), bound-fits (opened s) bytes)
+
   open-variable-is-dead-requires : open-variable-lts.Need-is-dead-requires (open-calls t) (open-variable-at t) open-variable.Post
   open-variable-is-dead-requires c κs =
-      let m = c .before .before .before .before .pre .1 .0 in
-      (m .grouped .placed .long, m .count, m .objectives)
+      let m = c .before .before .before .before .before .pre .1 .0 in
+      (omega (arith, m .grouped .placed .long), m .count, m .objectives)
 
   open-variable-returns : open-variable-lts.Need-returns (open-calls t) (open-variable-at t) open-variable.Post
   open-variable-returns c =
-      let s = c .before .before .before .before .before .before in
+      let s = c .before .before .before .before .before .before .before in
       let a = s .args in
-      left-out (s .pre .1 .0) (opened s) (a .ceilings) (a .best) (c .before .is-dead .result) (c .before .is-dead .ensures) (c .if1 .taken)
+      left-out (s .pre .1 .0) (opened s) (a .ceilings) (a .best) (c .before .before .sharper-bound .result) (c .before .before .sharper-bound .ensures) (c .before .is-dead .result) (c .before .is-dead .ensures) (c .if1 .taken)
 
   open-variable-returns-2 : open-variable-lts.Need-returns-2 (open-calls t) (open-variable-at t) open-variable.Post
   open-variable-returns-2 c =
-      let s = c .before .before .before .before .before .before .before .before .before in
+      let s = c .before .before .before .before .before .before .before .before .before .before in
       let a = s .args in
       let tested = c .before .before .before in
-      completed (s .pre .1 .0) (opened s) (a .ceilings) (a .best) (tested .before .is-dead .result) (tested .before .is-dead .ensures) (tested .if1 .left) (c .before .if2 .taken)
+      completed (s .pre .1 .0) (opened s) (a .ceilings) (a .best) (tested .before .before .sharper-bound .result) (tested .before .before .sharper-bound .ensures) (tested .before .is-dead .result) (tested .before .is-dead .ensures) (tested .if1 .left) (c .before .if2 .taken)
 
   open-variable-rest-of-requires : open-variable-lts.Need-rest-of-requires (open-calls t) (open-variable-at t) open-variable.Post
   open-variable-rest-of-requires c κs =
-      let s = c .before .before .before .before .before .before .before .before in
+      let s = c .before .before .before .before .before .before .before .before .before in
       (s .pre .1 .0 .grouped, s .pre .1 .1, omega (arith, s .pre .1 .1 .short))
 
   open-variable-try-value-requires : open-variable-lts.Need-try-value-requires (open-calls t) (open-variable-at t) open-variable.Post
   open-variable-try-value-requires c κs =
-      let s = c .before .before .before .before .before .before .before .before .before in
+      let s = c .before .before .before .before .before .before .before .before .before .before in
       let l : s .args .x .len < length (now (s .args .sizes)) = omega (arith, s .pre .1 .1 .short) in
       (omega (arith, s .pre .0), (s .pre .1 .0, s .pre .1 .1, l, omega arith, c .rest-of .ensures))
 
   open-variable-returns-3 : open-variable-lts.Need-returns-3 (open-calls t) (open-variable-at t) open-variable.Post
   open-variable-returns-3 c =
-      let s = c .before .before .before .before .before .before .before .before .before .before in
+      let s = c .before .before .before .before .before .before .before .before .before .before .before in
       let a = s .args in
       let tested = c .before .before .before .before in
-      begun (s .pre .1 .0) (opened s) (a .ceilings) (a .best) (tested .before .is-dead .result) (tested .before .is-dead .ensures) (tested .if1 .left) (omega (arith, s .pre .1 .1 .short)) (c .try-value .result) (c .try-value .ensures)
+      begun (s .pre .1 .0) (opened s) (a .ceilings) (a .best) (tested .before .before .sharper-bound .result) (tested .before .before .sharper-bound .ensures) (tested .before .is-dead .result) (tested .before .is-dead .ensures) (tested .if1 .left) (omega (arith, s .pre .1 .1 .short)) (c .try-value .result) (c .try-value .ensures)
 
   -- ## try_value
 
@@ -156,6 +164,7 @@ pub +open-variable+try-value-spec : {M : Type 1} → statement M
     (open-calls t)
     (open-variable-at t)
     open-variable.Post
+    (open-variable-sharper-bound-requires t)
     (open-variable-is-dead-requires t)
     (open-variable-returns t)
     (open-variable-returns-2 t)

@@ -2,7 +2,7 @@
 use Prim.Native.Nat.{_+_}
 use native.Mathlib.Omega.{arith}
 use denote.Ref.{now}
-use Rattle.search.proofs.Fours.{four-from}
+use Rattle.vectors.proofs.Fours.{four-from}
 use borrow.Author.Needs.{needs}
 use Rattle.search.proofs.costs_at.Statement.{statement}
 use Rattle.search.proofs.costs_at.Tie as tie

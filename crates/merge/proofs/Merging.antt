@@ -1,0 +1,83 @@
+-- The passes over the sums: after k of them, work memory holds the first k of the best sums, and the halves' lists as before.
+use mathlib.Core.Path.{_≡_, refl, sym, ap, _∙_}
+use mathlib.Core.Bool.{true, false}
+use mathlib.Core.List.{List, [], _∷_, _++_, List·Memᴰ as In, List·Memᴰ·head as here, Memᴰ·append-right as in-right}
+use Prim.Native.Nat.{ℕ, _+_, _≤_, _<_}
+use native.Mathlib.Omega.{arith}
+use lib.ListN.{length, take, drop}
+use lib.Seq.{length-take-le}
+use Rattle.model.specs.Basics.{All}
+use Rattle.model.specs.Limits.{maxObjectives, maxPoints}
+use Rattle.model.specs.Problems.{Word}
+use Rattle.model.specs.Vectors.{under}
+use Rattle.model.specs.Frontiers.{Point, best}
+use Rattle.model.specs.Search.{nothing}
+use Rattle.model.specs.Merging.{leastLeft}
+use Rattle.model.specs.Calls.{padded}
+use Rattle.model.proofs.Best.{Pool}
+use Rattle.model.proofs.Passes.{Prefix}
+use Rattle.model.proofs.Frontier.{under-words}
+use Rattle.model.proofs.Sorting.{Sized, AllSized}
+use Rattle.model.proofs.Merging.{merge-some, merge-none, merge-count}
+use Rattle.rows.specs.Rows.{rowAt, listIn}
+use Rattle.search.specs.States.{heldOf}
+use Rattle.search.specs.declared.Best as DB
+use Rattle.listing.specs.Says.{FoundSays}
+use Rattle.listing.proofs.Made.{Made, made-done, made-full, made-next}
+use Rattle.merge.specs.Sums.{firstRow, secondRow, sumsIn, pointOf, Halved}
+use Rattle.merge.proofs.Sums.{sums-good, rows-kept, sums-kept}
+
+-- the sums, as the points that are listed
+abbrev pub Summed : ℕ → ℕ → List ℕ → List ℕ → ℕ → ℕ → Pool
+Summed p n ceilings work a b r = In r (sumsIn p n ceilings work a b)
+
+module _ {p n a b : ℕ} {was : List ℕ} (halved : Halved p n 0 a b was) (ceilings work : List ℕ) (k : ℕ) (u : Made (Summed p n ceilings was a b) p n was work k) where
+  abbrev ps : List Point
+  ps = listIn p n work 0 k
+
+  abbrev sums : List Point
+  sums = sumsIn p n ceilings was a b
+
+  sized : AllSized p n sums
+  sized r m = sums-good halved ceilings r m .0
+
+  pub merging-halved : k ≤ maxPoints → Halved p n k a b work
+  merging-halved h =
+      record {
+        long = omega (arith, u .same, halved .long);
+        objectives = halved .objectives;
+        variables = halved .variables;
+        count = h;
+        first-count = halved .first-count;
+        second-count = halved .second-count;
+        values = rw (rows-kept p n was work (u .behind) firstRow a (omega arith), rows-kept p n was work (u .behind) secondRow b (omega arith)) (halved .values);
+      }
+
+  -- what a pass gives
+  module _ (next : DB.Best) (gives : heldOf p n next ≡ leastLeft ps (sumsIn p n ceilings work a b) nothing) where
+    abbrev x : Point
+    x = pointOf p n next
+
+    given : leastLeft ps sums nothing ≡ heldOf p n next
+    given = sym (gives ∙ ap (λ l. leastLeft ps l nothing) (sums-kept p n was work (u .behind) ceilings a b))
+
+    -- no sum is left
+    pub merging-done : next .found ≡ false → (room : ℕ) → k ≤ room → FoundSays p n (best sums) room was work (record { full = false; count = k })
+    merging-done none = made-done u (best sums) (merge-none p n sums sized ps (u .found) (rw none at given))
+
+    -- a sum is found
+    module _ (some : next .found ≡ true) where
+      longer : Prefix (Summed p n ceilings was a b) (ps ++ (x ∷ []))
+      longer = merge-some p n sums sized ps (u .found) x (rw some at given)
+
+      pub merging-full : (room : ℕ) → room ≤ k → FoundSays p n (best sums) room was work (record { full = true; count = 0 })
+      merging-full = made-full u (best sums) x (merge-count p n sums sized (ps ++ (x ∷ [])) longer)
+
+      good : Sized p n x × (under (x .costs) (take p ceilings) ≡ true)
+      good = sums-good halved ceilings x (longer .listed .sound x (in-right ps (here refl)))
+
+      pub sum-words : length ceilings ≡ maxObjectives → All Word (take p ceilings) → All Word (take p (next .costs))
+      sum-words long words = under-words (x .costs) (take p ceilings) (good .0 .0 ∙ sym (length-take-le p ceilings (omega (arith, halved .objectives)))) (good .1) words
+
+      pub merging-next : k < maxPoints → (stored : List ℕ) → length stored ≡ length work → stored ≡ take (rowAt k) work ++ padded maxObjectives (take p (next .costs)) ++ next .choice ++ drop (rowAt k + 28) work → Made (Summed p n ceilings was a b) p n was stored (k + 1)
+      merging-next h stored size is = made-next u (halved .objectives) (halved .variables) (omega arith) (omega (arith, u .same, halved .long)) (take p (next .costs)) (next .choice) stored (good .0 .0) size is longer

@@ -1,0 +1,82 @@
+-- `merge::is_earlier_choice` meets its contract. The invariant, `Comparing`: the first i values are equal.
+use Prim.Native.Nat.{_-_, _≤_}
+use native.Mathlib.Omega.{arith}
+use lib.ListN.{length}
+use mir.Syntax.{w8}
+use borrow.Author.Needs.{needs}
+use Rattle.model.specs.Limits.{maxVariables}
+use Rattle.vectors.proofs.Fronts.{array-front}
+use Rattle.vectors.proofs.Comparing.{Comparing, comparing-start, comparing-less, comparing-more, comparing-next, comparing-end}
+use Rattle.merge.proofs.is_earlier_choice.Statement.{statement}
+use Rattle.merge.proofs.is_earlier_choice.Tie as tie
+
+abbrev Inv-loop : tie.InvT-loop
+Inv-loop n x y i₀ i = Comparing n x y i
+
+abbrev μ-loop : tie.MeasureT-loop
+μ-loop n x y i₀ i = n - i
+
+long-x : (s : tie.Start Inv-loop μ-loop) → s .args .n ≤ length (s .args .t1)
+long-x s = array-front w8 maxVariables (s .args .t1) _ (s .good .0) (s .args .n) (s .pre)
+
+long-y : (s : tie.Start Inv-loop μ-loop) → s .args .n ≤ length (s .args .t2)
+long-y s = array-front w8 maxVariables (s .args .t2) _ (s .good .1 .0) (s .args .n) (s .pre)
+
+loop-holds : tie.Need-loop-holds Inv-loop μ-loop
+loop-holds c = comparing-start (c .args .n) (c .args .t1) (c .args .t2)
+
+array-read-if1 : tie.Need-array-read-if1 Inv-loop μ-loop
+array-read-if1 c = search needs
+
+array-read-if1-2 : tie.Need-array-read-if1-2 Inv-loop μ-loop
+array-read-if1-2 c = search needs
+
+returns : tie.Need-returns Inv-loop μ-loop
+returns c =
+    let s = c .before .before .before in
+    comparing-less (c .before .before .loop .inv) (long-x s) (long-y s) (omega arith) (c .if1 .taken)
+
+array-read-if2 : tie.Need-array-read-if2 Inv-loop μ-loop
+array-read-if2 c = search needs
+
+array-read-if2-2 : tie.Need-array-read-if2-2 Inv-loop μ-loop
+array-read-if2-2 c = search needs
+
+returns-2 : tie.Need-returns-2 Inv-loop μ-loop
+returns-2 c =
+    let s = c .before .before .before .before in
+    comparing-more (c .before .before .before .loop .inv) (long-x s) (long-y s) (omega arith) (c .if2 .taken)
+
+add-i : tie.Need-add-i Inv-loop μ-loop
+add-i c = search needs
+
+loop-less : tie.Need-loop-less Inv-loop μ-loop
+loop-less c = search needs
+
+loop-again : tie.Need-loop-again Inv-loop μ-loop
+loop-again c =
+    let s = c .before .before .before .before in
+    comparing-next (c .before .before .before .loop .inv) (long-x s) (long-y s) (omega arith) (omega arith)
+
+returns-3 : tie.Need-returns-3 Inv-loop μ-loop
+returns-3 c =
+    let s = c .before .before in
+    comparing-end (c .before .loop .inv) (long-x s) (long-y s) (omega arith)
+
+pub is-earlier-choice-spec : {M : Type 1} → statement M
+is-earlier-choice-spec =
+    tie.close
+    (tie.spec
+    Inv-loop
+    μ-loop
+    loop-holds
+    array-read-if1
+    array-read-if1-2
+    returns
+    array-read-if2
+    array-read-if2-2
+    returns-2
+    add-i
+    loop-less
+    loop-again
+    returns-3)

@@ -1,0 +1,2 @@
+-- What the merge's functions rely on and ensure.
+pub mod Sums

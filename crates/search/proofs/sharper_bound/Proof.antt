@@ -1,0 +1,46 @@
+-- `search::sharper_bound` meets its contract: a bound is small enough that no gain makes it wrap.
+use mathlib.Core.Path.{_≡_}
+use Prim.Native.Nat.{ℕ, _+_, _*_, _≤_, _<_}
+use native.Mathlib.Omega.{arith}
+use lib.ListN.{length, getD, drop, length-drop}
+use lib.Seq.{getD-drop}
+use denote.Ref.{now}
+use Rattle.model.specs.Basics.{All}
+use Rattle.model.specs.Limits.{maxObjectives, sumEnd}
+use Rattle.model.proofs.Elements.{all-map}
+use Rattle.vectors.specs.Fronts.{Half}
+use Rattle.vectors.proofs.Fours.{four-listed}
+use Rattle.groups.specs.Layout.{gainsAt}
+use borrow.Author.Needs.{needs}
+use Rattle.search.proofs.sharper_bound.Statement.{statement}
+use Rattle.search.proofs.sharper_bound.Tie as tie
+
+mul-costs-at : tie.Need-mul-costs-at
+mul-costs-at c = search needs
+
+add-costs-at : tie.Need-add-costs-at
+add-costs-at c = search needs
+
+costs-at-requires : tie.Need-costs-at-requires
+costs-at-requires c κs = search needs
+
+-- a gain is a number of work memory
+gains-small : (c : tie.After-costs-at) → All Half (c .costs-at .result)
+gains-small c =
+    let s = c .before .before .before in
+    let work = now (s .args .work) in
+    let at = gainsAt + 4 * s .args .x .len in
+    let small : (i : ℕ) → getD (drop at work) i 0 < 9223372036854775808 = λ i. rw (getD-drop at work i 0) (omega (arith, c .before .before .shared-slice-known .given (at + i))) in
+    rw (c .costs-at .ensures, four-listed (drop at work) (omega (arith, length-drop at work, s .pre .0, s .pre .1))) (small 0, (small 1, (small 2, (small 3, tt))))
+
+sum-requires : tie.Need-sum-requires
+sum-requires c κs =
+    let s = c .before .before .before in
+    (all-map (λ b. b ≤ sumEnd) Half (λ b l. omega arith) (s .args .x .bound) (s .pre .2), gains-small c)
+
+returns : tie.Need-returns
+returns c = rw (c .before .costs-at .ensures) at (c .sum .ensures)
+
+pub sharper-bound-spec : {M : Type 1} → statement M
+sharper-bound-spec =
+    tie.close (tie.spec mul-costs-at add-costs-at costs-at-requires sum-requires returns)

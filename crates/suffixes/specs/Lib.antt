@@ -1,0 +1,2 @@
+-- What finding the gains relies on and ensures.
+pub mod Gained

@@ -1,0 +1,52 @@
+-- The places of the wanted records: how many, that their records are whole over the sizes that the side leaves, and which tables they have.
+use mathlib.Core.Path.{_≡_, refl}
+use mathlib.Core.Bool.{Bool, true, false}
+use mathlib.Core.List.{List, [], _∷_}
+use Prim.Native.Nat.{ℕ, _≤_}
+use lib.Dec.{leb, ltb}
+use lib.ListN.{length, drop}
+use Rattle.model.specs.Basics.{All, keepIf}
+use Rattle.model.specs.Reading.{tableObjective, tableScope, tableOf}
+use Rattle.model.specs.Views.{narrowed, within, kept}
+use Rattle.model.proofs.Bits.{and-right}
+use Rattle.problem.specs.Records.{Whole}
+use Rattle.groups.specs.Groups.{tablesOver}
+use Rattle.groups.proofs.Keeping.{Keeps, keeps-few}
+use Rattle.views.specs.Wanted.{wanted, wantedTable, keptPlaces}
+use Rattle.views.proofs.NarrowedRecords.{table-same, whole-same}
+
+module _ (low high k : ℕ) (ss s : List ℕ) where
+  abbrev pub wantedAt : ℕ → Bool
+  wantedAt at = wanted low high k ss (tableObjective (drop at s)) (tableScope (drop at s))
+
+  pub wanted-keeps : Keeps wantedAt (keptPlaces low high k ss s)
+  unfolding keptPlaces
+  wanted-keeps = record { none = refl; next = λ x xs. refl }
+
+  pub kept-count : (places : List ℕ) → length (keptPlaces low high k ss s places) ≤ length places
+  kept-count places = keeps-few wanted-keeps places
+
+  -- a wanted record lies on the side
+  wanted-inside : (at : ℕ) → wantedAt at ≡ true → within k ss (tableScope (drop at s)) ≡ true
+  wanted-inside at e =
+      let o = tableObjective (drop at s) in
+      and-right (ltb o high) _ (and-right (leb low o) _ e)
+
+  module _ (ds : List ℕ) (same : length ss ≡ length ds) where
+    pub kept-whole : (places : List ℕ) → All (Whole ds s) places → All (Whole (narrowed k ss ds) s) (keptPlaces low high k ss s places)
+    unfolding keptPlaces
+    kept-whole [] h = tt
+    kept-whole (at ∷ places) h = go (wantedAt at) refl (kept-whole places (h .1))
+      where
+        go : (b : Bool) → wantedAt at ≡ b → All (Whole (narrowed k ss ds) s) (keptPlaces low high k ss s places) → All (Whole (narrowed k ss ds) s) (keepIf b at (keptPlaces low high k ss s places))
+        go true e r = (whole-same k ss ds same s at (wanted-inside at e) (h .0), r)
+        go false e r = r
+
+    pub kept-tables : (places : List ℕ) → tablesOver (narrowed k ss ds) s (keptPlaces low high k ss s places) ≡ kept (wantedTable low high k ss) (tablesOver ds s places)
+    unfolding keptPlaces tablesOver kept tableOf
+    kept-tables [] = refl
+    kept-tables (at ∷ places) = go (wantedAt at) refl (kept-tables places)
+      where
+        go : (b : Bool) → wantedAt at ≡ b → tablesOver (narrowed k ss ds) s (keptPlaces low high k ss s places) ≡ kept (wantedTable low high k ss) (tablesOver ds s places) → tablesOver (narrowed k ss ds) s (keepIf b at (keptPlaces low high k ss s places)) ≡ keepIf b (tableOf ds (drop at s)) (kept (wantedTable low high k ss) (tablesOver ds s places))
+        go true e r = rw (r, table-same k ss ds same (drop at s) (wanted-inside at e))
+        go false e r = r

@@ -1,0 +1,164 @@
+// Parts of a problem by a side list: whether it may be cut, which domains and records a side has.
+ghost use mathlib.Core.Path.{_≡_};
+ghost use mathlib.Core.Logic.{_⊎_};
+ghost use mathlib.Core.Bool.{_&&_};
+ghost use mathlib.Core.List.{_++_};
+ghost use Prim.Native.Nat.{_+_, _<_, _≤_};
+ghost use lib.Dec.{eqb};
+ghost use lib.ListN.{length, getD, take, drop};
+ghost use Rattle.model.specs.Basics.{All};
+ghost use Rattle.model.specs.Limits.{maxTables, maxVariables};
+ghost use Rattle.model.specs.Problems.{DomainSize, InRange};
+ghost use Rattle.model.specs.Reading.{tableObjective, tableArity, tableScope, tablesAt, placesAt};
+ghost use Rattle.model.specs.Cuts.{allSides, hasSide, linkedVerdict};
+ghost use Rattle.model.specs.Views.{narrowed, within};
+ghost use Rattle.problem.specs.Records.{Whole, AllWhole};
+ghost use Rattle.problem.specs.Says.{RefusalSays};
+ghost use Rattle.views.specs.Wanted.{wanted, keptPlaces};
+
+// Whether a side list gives each of `n` variables 0 or 1.
+pub fn sides_ok(sides: &[u8], n: usize) -> bool
+    ensures { λ r. ⌜ r ≡ (eqb (length (now (sides .entry))) n && allSides (now (sides .entry))) ⌝ }
+{
+    if sides.len() != n {
+        return false;
+    }
+    let mut i: usize = 0;
+    while i < sides.len() {
+        if sides[i] > 1 {
+            return false;
+        }
+        i += 1;
+    }
+    true
+}
+
+// The side of number `i` of the variables in the scope of the record at `at`.
+fn side_at(s: &[u8], at: usize, i: usize, sides: &[u8]) -> u8
+    requires { ⌜ (at + 4 + i < length (now s)) × (getD (now s) (at + 4 + i) 0 < length (now sides)) ⌝ }
+    ensures { λ r. ⌜ r ≡ getD (now (sides .entry)) (getD (now (s .entry)) (at + 4 + i) 0) 0 ⌝ }
+{
+    let v = s[at + 4 + i] as usize;
+    sides[v]
+}
+
+// Whether the scope of the record at `at` has a variable of the side.
+pub fn has_side(s: &[u8], at: usize, sides: &[u8], side: u8) -> bool
+    requires { ⌜ (at + 4 + tableArity (drop at (now s)) ≤ length (now s)) × InRange (length (now sides)) (tableScope (drop at (now s))) ⌝ }
+    ensures { λ r. ⌜ r ≡ hasSide side (now (sides .entry)) (tableScope (drop at (now (s .entry)))) ⌝ }
+{
+    let a = s[at + 3] as usize;
+    let mut i: usize = 0;
+    while i < a {
+        if side_at(s, at, i, sides) == side {
+            return true;
+        }
+        i += 1;
+    }
+    false
+}
+
+// Whether the scope of the record at `at` lies on the side; one without variables lies on side 0.
+pub fn lies_on(s: &[u8], at: usize, sides: &[u8], side: u8) -> bool
+    requires { ⌜ (at + 4 + tableArity (drop at (now s)) ≤ length (now s)) × InRange (length (now sides)) (tableScope (drop at (now s))) ⌝ }
+    ensures { λ r. ⌜ r ≡ within side (now (sides .entry)) (tableScope (drop at (now (s .entry)))) ⌝ }
+{
+    let a = s[at + 3] as usize;
+    if a == 0 {
+        return side == 0;
+    }
+    let mut i: usize = 0;
+    while i < a {
+        if side_at(s, at, i, sides) != side {
+            return false;
+        }
+        i += 1;
+    }
+    true
+}
+
+// The first of `r` accepted records from `at` on that has both sides: number 14 and its place, else 0 and 0.
+pub fn first_linked(s: &[u8], at: usize, r: u32, sizes: &[u8], sides: &[u8]) -> problem::Refusal
+    requires { ⌜ AllWhole r (now sizes) (now s) at × All DomainSize (now sizes) × (length (now sides) ≡ length (now sizes)) ⌝ }
+    ensures { λ f. ⌜ RefusalSays (linkedVerdict (now (sides .entry)) (tablesAt r (now (sizes .entry)) (now (s .entry)) at) (placesAt r (now (sizes .entry)) (now (s .entry)) at)) f ⌝ }
+{
+    let mut here = at;
+    let mut left = r;
+    while left > 0 {
+        if has_side(s, here, sides, 0) && has_side(s, here, sides, 1) {
+            return problem::Refusal {
+                number: 14,
+                place: here,
+            };
+        }
+        let t = problem::record_at(s, here, sizes);
+        here += t.length;
+        left -= 1;
+    }
+    problem::Refusal {
+        number: 0,
+        place: 0,
+    }
+}
+
+// The domain sizes of one side's variables; the others have one value.
+pub fn narrow(sizes: &[u8], sides: &[u8], side: u8) -> [u8; 24]
+    requires { ⌜ (length (now sides) ≡ length (now sizes)) × (length (now sizes) ≤ maxVariables) ⌝ }
+    ensures { λ r. ⌜ take (length (now (sizes .entry))) r ≡ narrowed side (now (sides .entry)) (now (sizes .entry)) ⌝ }
+{
+    let n = sizes.len();
+    let mut sizes_of = [1u8; 24];
+    let mut v: usize = 0;
+    while v < n {
+        if sides[v] == side {
+            sizes_of[v] = sizes[v];
+        }
+        v += 1;
+    }
+    sizes_of
+}
+
+// Of `r` records whose places stand in work memory from `from` on, writes the places of the wanted ones from `to` on: those of objectives `low` to
+// below `high` whose scope lies on the side. Answers how many.
+pub fn keep_records(
+    s: &[u8],
+    sizes: &[u8],
+    sides: &[u8],
+    side: u8,
+    low: u8,
+    high: u8,
+    r: usize,
+    from: usize,
+    to: usize,
+    work: &mut [u32],
+) -> usize
+    requires { ⌜ All (Whole (now sizes) (now s)) (take r (drop from (now work))) × (length (now sides) ≡ length (now sizes)) × (r ≤ maxTables) × (from + r ≤ length (now work)) × (to + r ≤ length (now work)) × ((from + r ≤ to) ⊎ (to + r ≤ from)) ⌝ }
+    ensures { λ c. ⌜ (c ≡ length (keptPlaces low high side (now (sides .entry)) (now (s .entry)) (take r (drop from (now (work .entry)))))) × (now (work .exit) ≡ take to (now (work .entry)) ++ keptPlaces low high side (now (sides .entry)) (now (s .entry)) (take r (drop from (now (work .entry)))) ++ drop (to + c) (now (work .entry))) ⌝ }
+{
+    let mut count: usize = 0;
+    let mut i: usize = 0;
+    while i < r {
+        let at = work[from + i];
+        if is_wanted(s, at as usize, sides, side, low, high) {
+            work[to + count] = at;
+            count += 1;
+        }
+        i += 1;
+    }
+    count
+}
+
+// Whether the record at `at` belongs to an objective from `low` on and below `high`, and lies on the side.
+fn is_wanted(s: &[u8], at: usize, sides: &[u8], side: u8, low: u8, high: u8) -> bool
+    requires { ⌜ (at + 4 + tableArity (drop at (now s)) ≤ length (now s)) × InRange (length (now sides)) (tableScope (drop at (now s))) ⌝ }
+    ensures { λ r. ⌜ r ≡ wanted low high side (now (sides .entry)) (tableObjective (drop at (now (s .entry)))) (tableScope (drop at (now (s .entry)))) ⌝ }
+{
+    let o = s[at + 2];
+    if o < low {
+        return false;
+    }
+    if o >= high {
+        return false;
+    }
+    lies_on(s, at, sides, side)
+}
