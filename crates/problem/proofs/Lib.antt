@@ -13,6 +13,9 @@ pub mod WholeRecord
 -- records in a row
 pub mod DomainSteps
 pub mod TableSteps
+-- walks by hand, of a reader
+pub mod Walks
+pub mod Readers
 -- the whole
 pub mod Parts
 pub mod Accepted

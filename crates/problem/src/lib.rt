@@ -7,7 +7,7 @@ ghost use Rattle.model.specs.Limits.{maxBytes, maxVariables, maxObjectives, max
 ghost use Rattle.model.specs.Problems.{DomainSize, InRange, sizeOf, scopeOk};
 ghost use Rattle.model.specs.Reading.{word2, word4, wordsIn, startNumber, headNumber, domainNumber, tablesVerdict, placesAt};
 ghost use Rattle.model.specs.Calls.{padded, over};
-ghost use Rattle.problem.specs.Records.{Whole, AllWhole};
+ghost use Rattle.problem.specs.Records.{Whole, AllWhole, placeBehind};
 ghost use Rattle.problem.specs.Says.{HeadSays, DomainsSays, ScanSays, RefusalSays, RecordSays, refusal, ReadSays};
 
 pub fn wide(x: u8) -> u32
@@ -376,4 +376,62 @@ pub fn keep_places(s: &[u8], at: usize, r: u32, sizes: &[u8], places: &mut [u32]
         here += t.length;
         i += 1;
     }
+}
+
+// Where the accepted cost record number `count` from `at` on starts, or where the records end.
+pub fn place_behind(s: &[u8], at: usize, count: usize, sizes: &[u8]) -> usize
+    requires { ⌜ AllWhole count (now sizes) (now s) at × All DomainSize (now sizes) ⌝ }
+    ensures { λ r. ⌜ r ≡ placeBehind count (now (sizes .entry)) (now (s .entry)) at ⌝ }
+{
+    let mut here = at;
+    let mut left = count;
+    while left > 0 {
+        let t = record_at(s, here, sizes);
+        here += t.length;
+        left -= 1;
+    }
+    here
+}
+
+// "The reader" is document 01's term: a problem's bytes, and its place in them. The functions over it are proved by hand; each
+// takes it apart and leaves the work to a function on a plain slice.
+pub struct Reader<'a> {
+    pub bytes: &'a [u8],
+    pub at: usize,
+}
+
+impl<'a> Reader<'a> {
+    pub fn new(bytes: &'a [u8], at: usize) -> Reader<'a>
+        ensures { λ r. ⌜ (r .bytes ≡ bytes .entry) × (r .at ≡ at) ⌝ }
+    {
+        Reader { bytes, at }
+    }
+
+    // The fields of the accepted cost record at its place.
+    pub fn cost_record(self, sizes: &[u8]) -> model::CostRecord
+        requires { ⌜ Whole (now sizes) (now (self .bytes)) (self .at) × All DomainSize (now sizes) ⌝ }
+        ensures { λ r. ⌜ RecordSays (now (sizes .entry)) (now (self .entry .bytes)) (self .entry .at) r ⌝ }
+    {
+        record_at(self.bytes, self.at, sizes)
+    }
+
+    // The reader behind `count` accepted cost records.
+    pub fn behind(self, count: usize, sizes: &[u8]) -> Reader<'a>
+        requires { ⌜ AllWhole count (now sizes) (now (self .bytes)) (self .at) × All DomainSize (now sizes) ⌝ }
+        ensures { λ r. ⌜ (r .bytes ≡ self .entry .bytes) × (r .at ≡ placeBehind count (now (sizes .entry)) (now (self .entry .bytes)) (self .entry .at)) ⌝ }
+    {
+        let at = place_behind(self.bytes, self.at, count, sizes);
+        Reader {
+            bytes: self.bytes,
+            at,
+        }
+    }
+}
+
+// The fields of the accepted cost record number `i` from `at` on.
+pub fn record_number(s: &[u8], at: usize, i: usize, sizes: &[u8]) -> model::CostRecord
+    requires { ⌜ AllWhole (i + 1) (now sizes) (now s) at × All DomainSize (now sizes) ⌝ }
+    ensures { λ r. ⌜ RecordSays (now (sizes .entry)) (now (s .entry)) (placeBehind i (now (sizes .entry)) (now (s .entry)) at) r ⌝ }
+{
+    Reader::new(s, at).behind(i, sizes).cost_record(sizes)
 }
