@@ -1,4 +1,8 @@
 pub mod BoundAnswers
-pub mod SolveAnswers
 pub mod SolveSteps
+pub mod FoundRows
+pub mod ListVerdicts
+pub mod SolveAnswers
 pub mod SolveEnds
+pub mod ListAnswers
+pub mod Lent

@@ -1,38 +1,34 @@
--- What the plain call hands on of an accepted reading: the problem, the room, and what its callees ask.
+-- What the calls that list the frontier hand on of an accepted reading: the problem, and what the search asks.
 use mathlib.Core.Path.{_≡_, refl, sym, _∙_, subst}
 use mathlib.Core.Bool.{true, false≢true}
-use mathlib.Core.List.{List, [], _∷_, List·Memᴰ as In, List·Memᴰ·head as here, List·Memᴰ·tail as there}
-use Prim.Native.Nat.{ℕ, zero, suc, _+_, _-_, _*_, _≤_, _<_, min}
+use mathlib.Core.List.{List, [], _∷_}
+use Prim.Native.Nat.{ℕ, zero, suc, _+_, _-_, _*_, _≤_, _<_}
 use native.Mathlib.Omega.{arith}
-use native.Mathlib.Nat.{le-div-iff-mul-le}
 use lib.ListN.{length, getD, take, drop, replicate}
 use lib.Dec.{ltb}
 use lib.Seq.{length-take-le, take-at}
 use borrow.Author.Tests.{ltb-true}
 use Rattle.model.specs.Basics.{All}
 use Rattle.model.specs.Limits.{maxObjectives, maxPoints, workNeed}
-use Rattle.model.specs.Problems.{Word, DomainSize}
+use Rattle.model.specs.Problems.{Problem, Word, DomainSize}
 use Rattle.model.specs.Encoding.{Byte}
 use Rattle.model.specs.Reading.{wordsIn, headObjectives, tablesAt, problemOf}
 use Rattle.model.specs.Costs.{isChoice}
-use Rattle.model.specs.Frontiers.{Point, frontier}
-use Rattle.model.specs.Calls.{padded, divided, roomOf}
+use Rattle.model.specs.Frontiers.{frontier}
+use Rattle.model.specs.Calls.{padded}
 use Rattle.model.proofs.Bits.{and-left, and-right}
-use Rattle.model.proofs.Elements.{all-append, all-drop}
+use Rattle.model.proofs.Elements.{all-in, all-append, all-drop}
 use Rattle.model.proofs.Words.{length-wordsIn, words-below}
 use Rattle.model.proofs.Frontier.{frontier-best}
 use Rattle.problem.specs.declared.Reading as DG
 use Rattle.problem.proofs.Accepted.{AcceptedReading}
-use Rattle.listing.specs.Says.{problemAt, Accepted}
+use Rattle.listing.specs.declared.Found as DF
+use Rattle.listing.specs.Says.{problemAt, Accepted, FoundFor}
 
 -- elements one by one
 all-from : (P : ℕ → Type 0) (xs : List ℕ) → ((i : ℕ) → P (getD xs i 0)) → All P xs
 all-from P [] h = tt
 all-from P (x ∷ xs) h = (h 0, all-from P xs (λ i. h (suc i)))
-
-all-listed : (P : Point → Type 0) (ps : List Point) → ((p : Point) → In p ps → P p) → All P ps
-all-listed P [] h = tt
-all-listed P (p ∷ ps) h = (h p (here refl), all-listed P ps (λ r m. h r (there m)))
 
 all-zeros : (n : ℕ) → All Word (replicate n 0)
 all-zeros zero = tt
@@ -68,17 +64,18 @@ module _ (s : List ℕ) (r : DG.Reading) (a : AcceptedReading s r) where
   tables-are = rw (a .domains, a .tables, a .objectives, a .variables) refl
 
   -- what is searched is the problem that was read
-  pub same-problem : problemAt objectives (r .head .ceilings) (take variables (r .sizes)) s start (r .head .tables) ≡ problemOf s
+  same-problem : problemAt objectives (r .head .ceilings) (take variables (r .sizes)) s start (r .head .tables) ≡ problemOf s
   unfolding problemOf
   same-problem = λ i. record { objectives = a .objectives i; ceilings = ceilings-are i; domains = a .domains i; tables = tables-are i }
 
-  -- the room by the buffers' lengths
-  pub room-is : (c x : List ℕ) → min (divided (length c) objectives) (min (divided (length x) variables) maxPoints) ≡ roomOf (problemOf s) c x
-  unfolding roomOf
-  room-is c x = λ i. min (divided (length c) (same-problem i .objectives)) (min (divided (length x) (long i)) maxPoints)
-    where
-      long : variables ≡ length (problemOf s .domains)
-      long = sym sized ∙ (λ i. length (same-problem i .domains))
+  pub found-problem : (room : ℕ) (w w1 : List ℕ) (f : DF.Found) → FoundFor (problemAt objectives (r .head .ceilings) (take variables (r .sizes)) s start (r .head .tables)) room w w1 f → FoundFor (problemOf s) room w w1 f
+  found-problem room w w1 f says = subst (λ (q : Problem). FoundFor q room w w1 f) same-problem says
+
+  pub objectives-are : objectives ≡ problemOf s .objectives
+  objectives-are = λ i. same-problem i .objectives
+
+  pub variables-are : variables ≡ length (problemOf s .domains)
+  variables-are = sym sized ∙ (λ i. length (same-problem i .domains))
 
   pub asked : ((i : ℕ) → getD s i 0 < 256) → (room : ℕ) (w : List ℕ) → room ≤ maxPoints → workNeed ≤ length w → Accepted objectives (r .head .tables) start room (r .head .ceilings) (take variables (r .sizes)) s w
   unfolding problemOf padded
@@ -97,16 +94,7 @@ module _ (s : List ℕ) (r : DG.Reading) (a : AcceptedReading s r) where
 
   -- the choices of the list are bytes
   pub list-bytes : All (λ t. All Byte (t .choice)) (frontier (problemOf s))
-  list-bytes = all-listed (λ t. All Byte (t .choice)) (frontier (problemOf s)) (λ p m. choice-bytes (problemOf s .domains) (p .choice) domains (frontier-best (problemOf s) .listed .sound p m .complete))
+  list-bytes = all-in (λ t. All Byte (t .choice)) (frontier (problemOf s)) (λ p m. choice-bytes (problemOf s .domains) (p .choice) domains (frontier-best (problemOf s) .listed .sound p m .complete))
     where
       domains : All DomainSize (problemOf s .domains)
       domains = subst (All DomainSize) (λ i. same-problem i .domains) (a .small)
-
--- as many points as the room fit the buffer
-fits : (k a b : ℕ) → 1 ≤ b → k ≤ divided a b → k * b ≤ a
-unfolding divided
-fits k a zero h l = absurd (omega arith)
-fits k a (suc b) h l = le-div-iff-mul-le h .0 l
-
-pub room-fits : (k a b e d : ℕ) → 1 ≤ b → 1 ≤ d → k ≤ min (divided a b) (min (divided e d) maxPoints) → (k ≤ maxPoints) × (k * b ≤ a) × (k * d ≤ e)
-room-fits k a b e d h g l = (omega arith, fits k a b h (omega arith), fits k e d g (omega arith))

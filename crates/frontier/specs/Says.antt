@@ -1,9 +1,18 @@
 -- What the public calls promise: for every input, what the model's definition of the call says.
 use mathlib.Core.Path.{_≡_}
-use mathlib.Core.List.{List}
-use Prim.Native.Nat.{ℕ}
-use Rattle.model.specs.Calls.{SolveOutcome, boundOutcome}
+use mathlib.Core.List.{List, [], _∷_}
+use Prim.Native.Nat.{ℕ, _≤_, min}
+use lib.ListN.{length, replicate}
+use Rattle.model.specs.Basics.{pick}
+use Rattle.model.specs.Limits.{maxPoints}
+use Rattle.model.specs.Refusals.{Verdict}
+use Rattle.model.specs.Reading.{problemOf}
+use Rattle.model.specs.Frontiers.{Point, point, frontier}
+use Rattle.model.specs.Calls.{SolveOutcome, ListOutcome, answers, workAfter, solveVerdict, boundOutcome}
+use Rattle.model.specs.declared.Point as DP
+use Rattle.rows.specs.Rows.{listIn, RowsHold}
 use Rattle.frontier.specs.declared.Answer as DA
+use Rattle.frontier.specs.declared.Listed as DI
 use Rattle.frontier.specs.declared.Least as DL
 
 -- a refusal as an answer
@@ -26,6 +35,50 @@ pub record SolveExports (o : SolveOutcome) (costs′ choices′ work′ : List �
   pub count : points ≡ o .count
   pub costs : costs′ ≡ o .costs
   pub choices : choices′ ≡ o .choices
+  pub work : work′ ≡ o .work
+
+-- a list in work memory that was refused, and the answer of one
+abbrev pub unlisted : ℕ → ℕ → DI.Listed
+unlisted number place = record { number = number; place = place; count = 0; objectives = 0; variables = 0 }
+
+abbrev pub answerOf : DI.Listed → DA.Answer
+answerOf r = record { number = r .number; place = r .place; count = r .count }
+
+-- a list in work memory: number and place; where nothing is refused the list, and what copying it out asks; where something is, what the call leaves in work memory
+abbrev pub listVerdict : List ℕ → ℕ → List ℕ → Verdict
+listVerdict s room work = solveVerdict s work (min room maxPoints)
+
+pub record ListedSays (s : List ℕ) (room : ℕ) (work work′ : List ℕ) (r : DI.Listed) : Type 0 where
+  pub number : r .number ≡ listVerdict s room work .number
+  pub place : r .place ≡ listVerdict s room work .place
+  pub list : listIn (r .objectives) (r .variables) work′ 0 (r .count) ≡ pick (answers (listVerdict s room work)) (frontier (problemOf s)) []
+  pub fits : r .count ≤ room
+  pub hold : RowsHold (r .objectives) (r .variables) (r .count) work′
+  pub left : pick (answers (listVerdict s room work)) (replicate (length work′) 0) work′ ≡ workAfter (listVerdict s room work) work
+  pub long : length work′ ≡ length work
+
+-- records as the model's points: field by field
+abbrev pub asPoint : DP.Point → Point
+asPoint r = point (r .costs) (r .choice)
+
+unfoldable pub asPoints : List DP.Point → List Point
+asPoints [] = []
+asPoints (r ∷ rs) = asPoint r ∷ asPoints rs
+
+-- the call for point records: its answer, and the two lent buffers on exit
+pub record ListSays (o : ListOutcome) (points′ : List DP.Point) (work′ : List ℕ) (r : DA.Answer) : Type 0 where
+  pub number : r .number ≡ o .verdict .number
+  pub place : r .place ≡ o .verdict .place
+  pub count : r .count ≡ o .count
+  pub points : asPoints points′ ≡ o .points
+  pub work : work′ ≡ o .work
+
+-- the same for C
+pub record ListExports (o : ListOutcome) (points′ : List DP.Point) (work′ : List ℕ) (result at listed : ℕ) : Type 0 where
+  pub number : result ≡ o .verdict .number
+  pub place : at ≡ o .verdict .place
+  pub count : listed ≡ o .count
+  pub points : asPoints points′ ≡ o .points
   pub work : work′ ≡ o .work
 
 -- the bound call

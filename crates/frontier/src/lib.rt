@@ -1,10 +1,15 @@
 // The public calls, and their exports for C.
 ghost use mathlib.Core.Path.{_≡_};
 ghost use Prim.Native.Nat.{ℕ, _≤_};
-ghost use Rattle.model.specs.Limits.{maxBytes};
-ghost use lib.ListN.{length};
-ghost use Rattle.model.specs.Calls.{solveOutcome};
-ghost use Rattle.frontier.specs.Says.{refusal, SolveSays, SolveExports, BoundSays, BoundExports};
+ghost use Rattle.model.specs.Basics.{pick};
+ghost use Rattle.model.specs.Limits.{maxPoints, workNeed};
+ghost use lib.Dec.{eqb};
+ghost use lib.ListN.{length, replicate};
+ghost use Rattle.model.specs.Reading.{problemOf};
+ghost use Rattle.model.specs.Calls.{solveOutcome, listOutcome};
+ghost use Rattle.problem.specs.Says.{ReadSays};
+ghost use Rattle.listing.specs.Says.{FoundFor};
+ghost use Rattle.frontier.specs.Says.{refusal, unlisted, answerOf, asPoints, SolveSays, SolveExports, ListedSays, ListSays, ListExports, BoundSays, BoundExports};
 
 // The least length of a work buffer.
 pub const LEAST_WORK: usize = 8192;
@@ -33,6 +38,29 @@ fn refused(number: u8, place: u32) -> Answer
     }
 }
 
+// The frontier list of a problem that was read, in work memory.
+fn find_rows(problem: &[u8], g: problem::Reading, room: usize, work: &mut [u32]) -> listing::Found
+    requires { ⌜ ReadSays (now problem) g × (g .number ≡ 0) × (room ≤ maxPoints) × (workNeed ≤ length (now work)) ⌝ }
+    ensures { λ f. ⌜ FoundFor (problemOf (now (problem .entry))) room (now (work .entry)) (now (work .exit)) f ⌝ }
+{
+    let head = g.head;
+    let n = head.variables as usize;
+    let p = head.objectives as usize;
+    let sizes = g.sizes;
+    let ceilings = head.ceilings;
+    let start = 6 + 4 * p + 3 * n;
+    listing::find_list(
+        problem,
+        start,
+        head.tables,
+        &sizes[..n],
+        p,
+        ceilings,
+        room,
+        work,
+    )
+}
+
 // The frontier list in the flat buffers: costs, then choices, of one point after another.
 pub fn solve_problem(
     problem: &[u8],
@@ -52,20 +80,8 @@ pub fn solve_problem(
     let head = g.head;
     let n = head.variables as usize;
     let p = head.objectives as usize;
-    let sizes = g.sizes;
-    let ceilings = head.ceilings;
     let room = rows::room_of(costs.len(), choices.len(), p, n);
-    let start = 6 + 4 * p + 3 * n;
-    let found = listing::find_list(
-        problem,
-        start,
-        head.tables,
-        &sizes[..n],
-        p,
-        ceilings,
-        room,
-        work,
-    );
+    let found = find_rows(problem, g, room, work);
     if found.full {
         rows::clear(work);
         return refused(15, 0);
@@ -81,6 +97,15 @@ pub fn solve_problem(
     }
 }
 
+// An answer for C: the number is the result, place and count go through references.
+fn tell(answer: Answer, place: &mut u32, count: &mut u32) -> u8
+    ensures { λ r. ⌜ (r ≡ answer .number) × (now (place .exit) ≡ answer .place) × (now (count .exit) ≡ answer .count) ⌝ }
+{
+    *place = answer.place;
+    *count = answer.count;
+    answer.number
+}
+
 #[no_mangle]
 pub extern "C" fn frontier_solve(
     problem: &[u8],
@@ -93,9 +118,94 @@ pub extern "C" fn frontier_solve(
     ensures { λ r. ⌜ SolveExports (solveOutcome (now (problem .entry)) (now (costs .entry)) (now (choices .entry)) (now (work .entry))) (now (costs .exit)) (now (choices .exit)) (now (work .exit)) r (now (place .exit)) (now (count .exit)) ⌝ }
 {
     let answer = solve_problem(problem, costs, choices, work);
-    *place = answer.place;
-    *count = answer.count;
-    answer.number
+    tell(answer, place, count)
+}
+
+// A list in work memory: a refusal's number and place, or 0 and 0, the count of points, and how many costs and choices each has.
+pub struct Listed {
+    pub number: u8,
+    pub place: u32,
+    pub count: usize,
+    pub objectives: usize,
+    pub variables: usize,
+}
+
+fn not_listed(number: u8, place: u32) -> Listed
+    ensures { λ r. ⌜ r ≡ unlisted number place ⌝ }
+{
+    Listed {
+        number,
+        place,
+        count: 0,
+        objectives: 0,
+        variables: 0,
+    }
+}
+
+// The frontier list in work memory, where it has no more points than `room` and 64; after 15 work memory is cleared.
+fn list_rows(problem: &[u8], room: usize, work: &mut [u32]) -> Listed
+    ensures { λ r. ⌜ ListedSays (now (problem .entry)) room (now (work .entry)) (now (work .exit)) r ⌝ }
+{
+    let g = problem::read_problem(problem);
+    if g.number != 0 {
+        return not_listed(g.number, g.place as u32);
+    }
+    if work.len() < LEAST_WORK {
+        return not_listed(12, 0);
+    }
+    let found = find_rows(problem, g, rows::room_for(room), work);
+    if found.full {
+        rows::clear(work);
+        return not_listed(15, 0);
+    }
+    let head = g.head;
+    Listed {
+        number: 0,
+        place: 0,
+        count: found.count,
+        objectives: head.objectives as usize,
+        variables: head.variables as usize,
+    }
+}
+
+// The answer of a list in work memory, which is cleared where nothing was refused.
+fn settle(found: Listed, work: &mut [u32]) -> Answer
+    requires { ⌜ found .count ≤ maxPoints ⌝ }
+    ensures { λ r. ⌜ (r ≡ answerOf found) × (now (work .exit) ≡ pick (eqb (found .number) 0) (replicate (length (now (work .entry))) 0) (now (work .entry))) ⌝ }
+{
+    let answer = Answer {
+        number: found.number,
+        place: found.place,
+        count: found.count as u32,
+    };
+    if found.number == 0 {
+        rows::clear(work);
+        return answer;
+    }
+    answer
+}
+
+// The frontier list as point records. Proved by hand, thin over functions on plain slices.
+pub fn list_points(problem: &[u8], points: &mut [model::Point], work: &mut [u32]) -> Answer
+    ensures { λ r. ⌜ ListSays (listOutcome (now (problem .entry)) (asPoints (now (points .entry))) (now (work .entry))) (now (points .exit)) (now (work .exit)) r ⌝ }
+{
+    let found = list_rows(problem, points.len(), work);
+    rows::copy_points(work, found.count, found.variables, found.objectives, points);
+    settle(found, work)
+}
+
+#[no_mangle]
+pub extern "C" fn frontier_points(
+    problem: &[u8],
+    points: &mut [model::Point],
+    work: &mut [u32],
+    place: &mut u32,
+    count: &mut u32,
+) -> u8
+    ensures { λ r. ⌜ ListExports (listOutcome (now (problem .entry)) (asPoints (now (points .entry))) (now (work .entry))) (now (points .exit)) (now (work .exit)) r (now (place .exit)) (now (count .exit)) ⌝ }
+{
+    let answer = list_points(problem, points, work);
+    tell(answer, place, count)
 }
 
 // The bound of a prefix: for each objective the sum of the least entries that agree with it.

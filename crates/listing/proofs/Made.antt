@@ -16,7 +16,8 @@ use Rattle.groups.specs.Layout.{listEnd}
 use Rattle.groups.proofs.Overwritten.{over, over-behind}
 use Rattle.rows.specs.Rows.{rowAt, listIn}
 use Rattle.listing.specs.Says.{FoundSays}
-use Rattle.listing.proofs.RowSteps.{rows-length, row-full, row-end, row-inside, rows-written}
+use Rattle.rows.proofs.RowParts.{rows-length}
+use Rattle.listing.proofs.RowSteps.{row-full, row-end, row-inside, rows-written}
 
 -- its first k points are there; the memory is as long as before, and what stands behind the list is as before
 pub record Made (P : Pool) (p n : ℕ) (was work : List ℕ) (k : ℕ) : Type 0 where

@@ -1,9 +1,9 @@
--- The rows of the list: how many, one more, and a row written behind the others.
-use mathlib.Core.Path.{_≡_, refl, ap, _∙_}
+-- The rows of the list: a row written behind the others.
+use mathlib.Core.Path.{_≡_, refl, _∙_}
 use mathlib.Core.List.{List, [], _∷_, _++_, append-assoc}
 use Prim.Native.Nat.{ℕ, zero, suc, _+_, _≤_}
 use native.Mathlib.Omega.{arith}
-use native.Mathlib.Nat.{add-zero, zero-add}
+use native.Mathlib.Nat.{zero-add}
 use native.Mathlib.Numerals.{add-one}
 use lib.ListN.{length, take, drop, length-append, length-drop}
 use lib.Seq.{length-take-le, take-append-le, drop-at}
@@ -13,20 +13,8 @@ use Rattle.model.specs.Calls.{padded}
 use Rattle.problem.proofs.Filled.{length-padded, take-padded}
 use Rattle.groups.specs.Layout.{listEnd}
 use Rattle.groups.proofs.Overwritten.{over, over-part}
-use Rattle.rows.specs.Rows.{rowAt, pointIn, listIn}
-
-module _ (p n : ℕ) (work : List ℕ) where
-  pub rows-length : (i k : ℕ) → length (listIn p n work i k) ≡ k
-  unfolding listIn
-  rows-length i zero = refl
-  rows-length i (suc k) = ap suc (rows-length (i + 1) k)
-
-  rows-more : (i k : ℕ) → listIn p n work i (suc k) ≡ listIn p n work i k ++ (pointIn p n work (i + k) ∷ [])
-  unfolding listIn
-  rows-more i zero = rw add-zero
-  rows-more i (suc k) =
-      let e : i + 1 + k ≡ i + suc k = omega arith in
-      ap (_∷_ (pointIn p n work i)) (rw e at (rows-more (i + 1) k))
+use Rattle.rows.specs.Rows.{rowAt, listIn}
+use Rattle.rows.proofs.RowParts.{rows-more}
 
 -- what is written to row k fills it, where the whole keeps its length
 pub row-full : (work c x : List ℕ) (k : ℕ) → length c ≤ maxObjectives → k ≤ maxPoints → listEnd ≤ length work → length (take (rowAt k) work ++ padded maxObjectives c ++ x ++ drop (rowAt k + 28) work) ≡ length work → length x ≡ maxVariables

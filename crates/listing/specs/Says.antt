@@ -9,7 +9,7 @@ use Rattle.model.specs.Basics.{All, when}
 use Rattle.model.specs.Limits.{maxBytes, maxObjectives, maxTables, maxVariables, maxPoints, workNeed}
 use Rattle.model.specs.Problems.{Problem, Word, DomainSize}
 use Rattle.model.specs.Reading.{tablesAt}
-use Rattle.model.specs.Frontiers.{Point}
+use Rattle.model.specs.Frontiers.{Point, frontier}
 use Rattle.problem.specs.Records.{AllWhole}
 use Rattle.groups.specs.Layout.{listEnd}
 use Rattle.rows.specs.Rows.{listIn}
@@ -38,3 +38,7 @@ pub record FoundSays (p n : ℕ) (fs : List Point) (room : ℕ) (work work′ : 
   pub list : f .full ≡ false → listIn p n work′ 0 (f .count) ≡ fs
   pub long : length work′ ≡ length work
   pub behind : drop listEnd work′ ≡ drop listEnd work
+
+-- of a problem's frontier list
+abbrev pub FoundFor : Problem → ℕ → List ℕ → List ℕ → DF.Found → Type 0
+FoundFor q room work work′ f = FoundSays (q .objectives) (length (q .domains)) (frontier q) room work work′ f

@@ -51,6 +51,7 @@ pub mod SuffixProblems
 pub mod Merging
 -- the calls and the demands
 pub mod Calls
+pub mod Agreement
 pub mod Demands
 -- what is proved by computation
 pub mod Computing

@@ -91,6 +91,7 @@ impl CostRecord {
 }
 
 // A point of the frontier as a record: four costs and 24 choices, the unused ones zero.
+#[repr(C)]
 pub struct Point {
     pub costs: [u32; 4],
     pub choice: [u8; 24],

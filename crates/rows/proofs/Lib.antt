@@ -4,3 +4,4 @@ pub mod Copied
 pub mod PaddedParts
 pub mod RowsOut
 pub mod RowParts
+pub mod RecordsOut

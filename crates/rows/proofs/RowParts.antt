@@ -1,6 +1,6 @@
--- The costs and the values in a row: the lists of them that the buffers take, their lengths, and what each has of what all have.
+-- The rows of the list: how many, one more, what each has of what all have; their costs and values as the buffers take them.
 use mathlib.Core.Path.{_≡_, refl, ap}
-use mathlib.Core.List.{List, _++_}
+use mathlib.Core.List.{List, [], _∷_, _++_}
 use Prim.Native.Nat.{ℕ, zero, suc, _+_, _≤_, _<_}
 use native.Mathlib.Omega.{arith}
 use native.Mathlib.Nat.{add-zero}
@@ -30,6 +30,19 @@ module _ (p n : ℕ) (work : List ℕ) where
   unfolding flatChoices listIn joined
   flat-choices i zero = refl
   flat-choices i (suc k) = ap (_++_ (valuesIn n work i)) (flat-choices (i + 1) k)
+
+  -- how many, and one more
+  pub rows-length : (i k : ℕ) → length (listIn p n work i k) ≡ k
+  unfolding listIn
+  rows-length i zero = refl
+  rows-length i (suc k) = ap suc (rows-length (i + 1) k)
+
+  pub rows-more : (i k : ℕ) → listIn p n work i (suc k) ≡ listIn p n work i k ++ (pointIn p n work (i + k) ∷ [])
+  unfolding listIn
+  rows-more i zero = rw add-zero
+  rows-more i (suc k) =
+      let e : i + 1 + k ≡ i + suc k = omega arith in
+      ap (_∷_ (pointIn p n work i)) (rw e at (rows-more (i + 1) k))
 
   -- what every listed point has, each row has
   pub row-has : (P : Point → Type 0) (i k : ℕ) → All P (listIn p n work i k) → (row : ℕ) → row < k → P (pointIn p n work (i + row))

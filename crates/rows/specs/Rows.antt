@@ -1,9 +1,14 @@
 -- The listed points in work memory: rows of four costs and 24 values.
 use mathlib.Core.List.{List, [], _∷_}
-use Prim.Native.Nat.{ℕ, zero, suc, _+_, _*_}
-use lib.ListN.{take, drop}
+use Prim.Native.Nat.{ℕ, zero, suc, _+_, _*_, _≤_, _<_}
+use lib.ListN.{length, take, drop}
+use Rattle.model.specs.Basics.{All}
+use Rattle.model.specs.Limits.{maxObjectives, maxVariables, maxPoints}
+use Rattle.model.specs.Encoding.{Byte}
 use Rattle.model.specs.Frontiers.{Point, point}
-use Rattle.groups.specs.Layout.{listAt, rowWidth}
+use Rattle.model.specs.Calls.{padded}
+use Rattle.model.specs.declared.Point as DP
+use Rattle.groups.specs.Layout.{listAt, rowWidth, listEnd}
 
 -- where row i starts
 abbrev pub rowAt : ℕ → ℕ
@@ -17,3 +22,19 @@ pointIn p n work i = point (take p (drop (rowAt i) work)) (take n (drop (rowAt i
 unfoldable pub listIn : ℕ → ℕ → List ℕ → ℕ → ℕ → List Point
 listIn p n work i zero = []
 listIn p n work i (suc k) = pointIn p n work i ∷ listIn p n work (i + 1) k
+
+-- a point as a record of four costs and 24 choices, the unused ones zero
+abbrev pub recordOf : Point → DP.Point
+recordOf t = record { costs = padded maxObjectives (t .costs); choice = padded maxVariables (t .choice) }
+
+unfoldable pub recordsOf : List Point → List DP.Point
+recordsOf [] = []
+recordsOf (t ∷ ts) = recordOf t ∷ recordsOf ts
+
+-- what copying k rows out as records asks of work memory
+pub record RowsHold (p n k : ℕ) (work : List ℕ) : Type 0 where
+  pub objectives : p ≤ maxObjectives
+  pub variables : n ≤ maxVariables
+  pub few : k ≤ maxPoints
+  pub memory : 0 < k → listEnd ≤ length work
+  pub bytes : All (λ t. All Byte (t .choice)) (listIn p n work 0 k)

@@ -9,7 +9,7 @@ ghost use Rattle.model.specs.Problems.{Word};
 ghost use Rattle.model.specs.Encoding.{Byte};
 ghost use Rattle.model.specs.Calls.{over, padded, divided, flatCosts, flatChoices};
 ghost use Rattle.groups.specs.Layout.{listAt, listEnd};
-ghost use Rattle.rows.specs.Rows.{rowAt, listIn};
+ghost use Rattle.rows.specs.Rows.{rowAt, pointIn, listIn, recordOf, recordsOf, RowsHold};
 
 pub const LIST_AT: usize = 1405;
 
@@ -101,6 +101,32 @@ fn copy_values(work: &[u32], at: usize, count: usize, choices: &mut [u8], to: us
     }
 }
 
+// The point in row `row` as a record: its first `p` costs, its first `n` values, and zeros.
+pub fn point_at(work: &[u32], row: usize, n: usize, p: usize) -> model::Point
+    requires { ⌜ (listEnd ≤ length (now work)) × (row < maxPoints) × (n ≤ maxVariables) × (p ≤ maxObjectives) × All Byte (pointIn p n (now work) row .choice) ⌝ }
+    ensures { λ r. ⌜ r ≡ recordOf (pointIn p n (now (work .entry)) row) ⌝ }
+{
+    let at = LIST_AT + ROW_WIDTH * row;
+    let mut costs = [0u32; 4];
+    let mut choice = [0u8; 24];
+    copy_numbers(work, at, p, &mut costs, 0);
+    copy_values(work, at + 4, n, &mut choice, 0);
+    model::Point { costs, choice }
+}
+
+// Writes the records of the first `k` rows over the start of a list of records. Proved by hand.
+pub fn copy_points(work: &[u32], k: usize, n: usize, p: usize, points: &mut [model::Point])
+    requires { ⌜ (k ≤ length (now points)) × RowsHold p n k (now work) ⌝ }
+    ensures { λ _. ⌜ now (points .exit) ≡ over (recordsOf (listIn p n (now (work .entry)) 0 k)) (now (points .entry)) ⌝ }
+{
+    let mut row: usize = 0;
+    while row < k {
+        let t = point_at(work, row, n, p);
+        points[row] = t;
+        row += 1;
+    }
+}
+
 // Zeros all of work memory.
 pub fn clear(work: &mut [u32])
     ensures { λ _. ⌜ now (work .exit) ≡ replicate (length (now (work .entry))) 0 ⌝ }
@@ -118,6 +144,13 @@ pub fn room_of(costs: usize, choices: usize, p: usize, n: usize) -> usize
     ensures { λ r. ⌜ r ≡ Prim.Native.Nat.min (divided costs p) (Prim.Native.Nat.min (divided choices n) maxPoints) ⌝ }
 {
     lesser(costs / p, lesser(choices / n, model::Point::MAX_COUNT))
+}
+
+// Room: how many points a list of so many records holds, 64 at most.
+pub fn room_for(records: usize) -> usize
+    ensures { λ r. ⌜ r ≡ Prim.Native.Nat.min records maxPoints ⌝ }
+{
+    lesser(records, model::Point::MAX_COUNT)
 }
 
 fn lesser(a: usize, b: usize) -> usize

@@ -1,12 +1,12 @@
--- `solve_problem` meets its contract: each return hands what the callees ensure to one law of SolveAnswers.
-use mathlib.Core.Path.{sym}
+-- `solve_problem` meets its contract: each return hands what the callees ensure to one law of SolveAnswers or SolveEnds.
+use mathlib.Core.Path.{refl}
 use native.Mathlib.Omega.{arith}
 use denote.Ref.{now}
 use borrow.Author.Needs.{needs}
 use Rattle.model.proofs.Places.{place-limit, refused-number}
 use Rattle.problem.proofs.Accepted.{read-accepted}
-use Rattle.frontier.proofs.SolveAnswers.{refused-solve, short-solve}
-use Rattle.frontier.proofs.SolveSteps.{sized, asked}
+use Rattle.frontier.proofs.ListVerdicts.{refused-verdict, short-verdict}
+use Rattle.frontier.proofs.SolveAnswers.{unchanged-solve}
 use Rattle.frontier.proofs.SolveEnds.{full-end, costs-asked, choices-asked, list-end}
 use Rattle.frontier.proofs.solve_problem.Statement.{statement}
 use Rattle.frontier.proofs.solve_problem.Tie as tie
@@ -24,7 +24,8 @@ returns : tie.Need-returns
 returns c =
     let g = c .before .before .before .before .read-problem in
     let s = now (c .before .before .before .before .before .before .before .before .before .args .problem) in
-    rw (c .refused .ensures) (refused-solve s _ _ _ (g .result .number) (g .result .place) (g .ensures .number) (g .ensures .place) (c .before .before .if1 .taken) (omega (arith, refused-number s)))
+    let taken = c .before .before .if1 .taken in
+    rw (c .refused .ensures) (unchanged-solve s _ _ _ _ (refused-verdict s _ _ (g .result .number) (g .ensures .number) taken) (g .result .number) (g .result .place) (g .ensures .number) (g .ensures .place) taken (λ z. omega (arith, z, g .ensures .number, refused-number s)))
 
 refused-requires-2 : tie.Need-refused-requires-2
 refused-requires-2 c κs = search needs
@@ -32,7 +33,7 @@ refused-requires-2 c κs = search needs
 returns-2 : tie.Need-returns-2
 returns-2 c =
     let a = read-accepted _ (c .before .before .before .before .read-problem .result) (c .before .before .before .before .read-problem .ensures) (c .before .before .if1 .left) in
-    rw (c .refused2 .ensures) (short-solve _ _ _ _ (a .none) (c .before .if2 .taken))
+    rw (c .refused2 .ensures) (unchanged-solve _ _ _ _ _ (short-verdict _ _ _ (a .none) (c .before .if2 .taken)) _ _ refl refl (λ z. omega arith) (λ z. omega arith))
 
 cast-n : tie.Need-cast-n
 cast-n c = search needs
@@ -42,33 +43,11 @@ cast-p c = search needs
 
 room-of-requires : tie.Need-room-of-requires
 room-of-requires c κs =
-    let a = read-accepted _ (c .before .before .before .before .before .before .before .before .read-problem .result) (c .before .before .before .before .before .before .before .before .read-problem .ensures) (c .before .before .before .before .before .before .if1 .left) in
+    let a = read-accepted _ (c .before .before .before .before .before .before .read-problem .result) (c .before .before .before .before .before .before .read-problem .ensures) (c .before .before .before .before .if1 .left) in
     (a .few-objectives .0, a .few-variables .0)
 
-mul-start : tie.Need-mul-start
-mul-start c = search needs
-
-add-start : tie.Need-add-start
-add-start c = search needs
-
-mul-start-2 : tie.Need-mul-start-2
-mul-start-2 c = search needs
-
-add-start-2 : tie.Need-add-start-2
-add-start-2 c = search needs
-
-array-share-prefix-sizes : tie.Need-array-share-prefix-sizes
-array-share-prefix-sizes c =
-    let a = read-accepted _ (c .before .before .before .before .before .before .before .before .before .read-problem .result) (c .before .before .before .before .before .before .before .before .before .read-problem .ensures) (c .before .before .before .before .before .before .before .if1 .left) in
-    omega (arith, a .room, a .few-variables)
-
-slice-aggregate-find-list : tie.Need-slice-aggregate-find-list
-slice-aggregate-find-list c = sym (sized _ _ (read-accepted _ (c .before .before .before .before .before .before .before .before .before .before .read-problem .result) (c .before .before .before .before .before .before .before .before .before .before .read-problem .ensures) (c .before .before .before .before .before .before .before .before .if1 .left)))
-
-find-list-requires : tie.Need-find-list-requires
-find-list-requires c κs =
-    let a = read-accepted _ (c .before .before .before .before .before .before .before .before .before .before .before .read-problem .result) (c .before .before .before .before .before .before .before .before .before .before .before .read-problem .ensures) (c .before .before .before .before .before .before .before .before .before .if1 .left) in
-    asked _ _ a (λ i. omega (arith, c .before .before .before .before .before .before .before .before .before .before .before .before .before .before .before .shared-slice-known .given i)) _ _ (omega (arith, c .before .before .room-of .ensures)) (c .before .before .before .before .before .before .before .before .if2 .left)
+find-rows-requires : tie.Need-find-rows-requires
+find-rows-requires c κs = search needs
 
 clear-requires : tie.Need-clear-requires
 clear-requires c κs = search needs
@@ -81,26 +60,29 @@ same-length c = search needs
 
 returns-3 : tie.Need-returns-3
 returns-3 c =
-    let a = read-accepted _ (c .before .before .before .before .before .before .before .before .before .before .before .before .before .before .before .before .before .before .before .before .read-problem .result) (c .before .before .before .before .before .before .before .before .before .before .before .before .before .before .before .before .before .before .before .before .read-problem .ensures) (c .before .before .before .before .before .before .before .before .before .before .before .before .before .before .before .before .before .before .if1 .left) in
-    rw (c .refused3 .ensures) (full-end _ _ a _ _ _ (c .before .before .before .before .before .before .before .before .before .before .before .before .before .before .before .before .before .if2 .left) _ (c .before .before .before .before .before .before .before .before .before .before .before .room-of .ensures) _ _ (c .before .before .before .before .before .before .before .before .find-list .ensures) _ (c .before .before .before .before .before .if3 .taken) (c .before .before .before .clear .ensures))
+    let a = read-accepted _ (c .before .before .before .before .before .before .before .before .before .before .before .before .before .before .before .before .before .read-problem .result) (c .before .before .before .before .before .before .before .before .before .before .before .before .before .before .before .before .before .read-problem .ensures) (c .before .before .before .before .before .before .before .before .before .before .before .before .before .before .before .if1 .left) in
+    rw (c .refused3 .ensures) (full-end _ _ a _ _ _ (c .before .before .before .before .before .before .before .before .before .before .before .before .before .before .if2 .left) _ (c .before .before .before .before .before .before .before .before .before .before .room-of .ensures) _ _ (c .before .before .before .before .before .before .before .before .find-rows .ensures) _ (c .before .before .before .before .before .if3 .taken) (c .before .before .before .clear .ensures))
 
 copy-costs-requires : tie.Need-copy-costs-requires
 copy-costs-requires c κs =
-    let a = read-accepted _ (c .before .before .before .before .before .before .before .before .before .before .before .before .before .before .before .before .before .read-problem .result) (c .before .before .before .before .before .before .before .before .before .before .before .before .before .before .before .before .before .read-problem .ensures) (c .before .before .before .before .before .before .before .before .before .before .before .before .before .before .before .if1 .left) in
-    costs-asked _ _ a (now (c .before .before .before .before .before .before .before .before .before .before .before .before .before .before .before .before .before .before .before .before .before .before .args .costs)) (now (c .before .before .before .before .before .before .before .before .before .before .before .before .before .before .before .before .before .before .before .before .before .before .args .choices)) _ (c .before .before .before .before .before .before .before .before .before .before .before .before .before .before .if2 .left) _ (c .before .before .before .before .before .before .before .before .room-of .ensures) _ _ (c .before .before .before .before .before .find-list .ensures) (c .before .before .if3 .left)
+    let s = c .before .before .before .before .before .before .before .before .before .before .before .before .before .before .before .before .before .before .before .args in
+    let a = read-accepted _ (c .before .before .before .before .before .before .before .before .before .before .before .before .before .before .read-problem .result) (c .before .before .before .before .before .before .before .before .before .before .before .before .before .before .read-problem .ensures) (c .before .before .before .before .before .before .before .before .before .before .before .before .if1 .left) in
+    costs-asked _ _ a (now (s .costs)) (now (s .choices)) _ (c .before .before .before .before .before .before .before .before .before .before .before .if2 .left) _ (c .before .before .before .before .before .before .before .room-of .ensures) _ _ (c .before .before .before .before .before .find-rows .ensures) (c .before .before .if3 .left)
 
 copy-choices-requires : tie.Need-copy-choices-requires
 copy-choices-requires c κs =
-    let a = read-accepted _ (c .before .before .before .before .before .before .before .before .before .before .before .before .before .before .before .before .before .before .before .before .before .before .read-problem .result) (c .before .before .before .before .before .before .before .before .before .before .before .before .before .before .before .before .before .before .before .before .before .before .read-problem .ensures) (c .before .before .before .before .before .before .before .before .before .before .before .before .before .before .before .before .before .before .before .before .if1 .left) in
-    choices-asked _ _ a (now (c .before .before .before .before .before .before .before .before .before .before .before .before .before .before .before .before .before .before .before .before .before .before .before .before .before .before .before .args .costs)) (now (c .before .before .before .before .before .before .before .before .before .before .before .before .before .before .before .before .before .before .before .before .before .before .before .before .before .before .before .args .choices)) _ (c .before .before .before .before .before .before .before .before .before .before .before .before .before .before .before .before .before .before .before .if2 .left) _ (c .before .before .before .before .before .before .before .before .before .before .before .before .before .room-of .ensures) _ _ (c .before .before .before .before .before .before .before .before .before .before .find-list .ensures) (c .before .before .before .before .before .before .before .if3 .left)
+    let s = c .before .before .before .before .before .before .before .before .before .before .before .before .before .before .before .before .before .before .before .before .before .before .before .before .args in
+    let a = read-accepted _ (c .before .before .before .before .before .before .before .before .before .before .before .before .before .before .before .before .before .before .before .read-problem .result) (c .before .before .before .before .before .before .before .before .before .before .before .before .before .before .before .before .before .before .before .read-problem .ensures) (c .before .before .before .before .before .before .before .before .before .before .before .before .before .before .before .before .before .if1 .left) in
+    choices-asked _ _ a (now (s .costs)) (now (s .choices)) _ (c .before .before .before .before .before .before .before .before .before .before .before .before .before .before .before .before .if2 .left) _ (c .before .before .before .before .before .before .before .before .before .before .before .before .room-of .ensures) _ _ (c .before .before .before .before .before .before .before .before .before .before .find-rows .ensures) (c .before .before .before .before .before .before .before .if3 .left)
 
 clear-requires-2 : tie.Need-clear-requires-2
 clear-requires-2 c κs = search needs
 
-cast-t38 : tie.Need-cast-t38
-cast-t38 c =
-    let a = read-accepted _ (c .before .before .before .before .before .before .before .before .before .before .before .before .before .before .before .before .before .before .before .before .before .before .before .before .before .before .before .before .before .read-problem .result) (c .before .before .before .before .before .before .before .before .before .before .before .before .before .before .before .before .before .before .before .before .before .before .before .before .before .before .before .before .before .read-problem .ensures) (c .before .before .before .before .before .before .before .before .before .before .before .before .before .before .before .before .before .before .before .before .before .before .before .before .before .before .before .if1 .left) in
-    let k = costs-asked _ _ a (now (c .before .before .before .before .before .before .before .before .before .before .before .before .before .before .before .before .before .before .before .before .before .before .before .before .before .before .before .before .before .before .before .before .before .before .args .costs)) (now (c .before .before .before .before .before .before .before .before .before .before .before .before .before .before .before .before .before .before .before .before .before .before .before .before .before .before .before .before .before .before .before .before .before .before .args .choices)) _ (c .before .before .before .before .before .before .before .before .before .before .before .before .before .before .before .before .before .before .before .before .before .before .before .before .before .before .if2 .left) _ (c .before .before .before .before .before .before .before .before .before .before .before .before .before .before .before .before .before .before .before .before .room-of .ensures) _ _ (c .before .before .before .before .before .before .before .before .before .before .before .before .before .before .before .before .before .find-list .ensures) (c .before .before .before .before .before .before .before .before .before .before .before .before .before .before .if3 .left) in
+cast-t32 : tie.Need-cast-t32
+cast-t32 c =
+    let s = c .before .before .before .before .before .before .before .before .before .before .before .before .before .before .before .before .before .before .before .before .before .before .before .before .before .before .before .before .before .before .before .args in
+    let a = read-accepted _ (c .before .before .before .before .before .before .before .before .before .before .before .before .before .before .before .before .before .before .before .before .before .before .before .before .before .before .read-problem .result) (c .before .before .before .before .before .before .before .before .before .before .before .before .before .before .before .before .before .before .before .before .before .before .before .before .before .before .read-problem .ensures) (c .before .before .before .before .before .before .before .before .before .before .before .before .before .before .before .before .before .before .before .before .before .before .before .before .if1 .left) in
+    let k = costs-asked _ _ a (now (s .costs)) (now (s .choices)) _ (c .before .before .before .before .before .before .before .before .before .before .before .before .before .before .before .before .before .before .before .before .before .before .before .if2 .left) _ (c .before .before .before .before .before .before .before .before .before .before .before .before .before .before .before .before .before .before .before .room-of .ensures) _ _ (c .before .before .before .before .before .before .before .before .before .before .before .before .before .before .before .before .before .find-rows .ensures) (c .before .before .before .before .before .before .before .before .before .before .before .before .before .before .if3 .left) in
     omega (arith, k .1)
 
 same-length-2 : tie.Need-same-length-2
@@ -114,8 +96,8 @@ same-length-4 c = search needs
 
 returns-4 : tie.Need-returns-4
 returns-4 c =
-    let a = read-accepted _ (c .before .before .before .before .before .before .before .before .before .before .before .before .before .before .before .before .before .before .before .before .before .before .before .before .before .before .before .before .before .read-problem .result) (c .before .before .before .before .before .before .before .before .before .before .before .before .before .before .before .before .before .before .before .before .before .before .before .before .before .before .before .before .before .read-problem .ensures) (c .before .before .before .before .before .before .before .before .before .before .before .before .before .before .before .before .before .before .before .before .before .before .before .before .before .before .before .if1 .left) in
-    list-end _ _ a _ _ _ (c .before .before .before .before .before .before .before .before .before .before .before .before .before .before .before .before .before .before .before .before .before .before .before .before .before .before .if2 .left) _ (c .before .before .before .before .before .before .before .before .before .before .before .before .before .before .before .before .before .before .before .before .room-of .ensures) _ _ (c .before .before .before .before .before .before .before .before .before .before .before .before .before .before .before .before .before .find-list .ensures) (c .before .before .before .before .before .before .before .before .before .before .before .before .before .before .if3 .left) _ _ _ (c .before .before .before .before .before .before .before .before .before .before .before .copy-costs .ensures) (c .before .before .before .before .before .before .copy-choices .ensures) (c .before .before .clear2 .ensures)
+    let a = read-accepted _ (c .before .before .before .before .before .before .before .before .before .before .before .before .before .before .before .before .before .before .before .before .before .before .before .before .before .before .read-problem .result) (c .before .before .before .before .before .before .before .before .before .before .before .before .before .before .before .before .before .before .before .before .before .before .before .before .before .before .read-problem .ensures) (c .before .before .before .before .before .before .before .before .before .before .before .before .before .before .before .before .before .before .before .before .before .before .before .before .if1 .left) in
+    list-end _ _ a _ _ _ (c .before .before .before .before .before .before .before .before .before .before .before .before .before .before .before .before .before .before .before .before .before .before .before .if2 .left) _ (c .before .before .before .before .before .before .before .before .before .before .before .before .before .before .before .before .before .before .before .room-of .ensures) _ _ (c .before .before .before .before .before .before .before .before .before .before .before .before .before .before .before .before .before .find-rows .ensures) (c .before .before .before .before .before .before .before .before .before .before .before .before .before .before .if3 .left) _ _ _ (c .before .before .before .before .before .before .before .before .before .before .before .copy-costs .ensures) (c .before .before .before .before .before .before .copy-choices .ensures) (c .before .before .clear2 .ensures)
 
 pub solve-problem-spec : {M : Type 1} → statement M
 solve-problem-spec =
@@ -130,13 +112,7 @@ solve-problem-spec =
     cast-n
     cast-p
     room-of-requires
-    mul-start
-    add-start
-    mul-start-2
-    add-start-2
-    array-share-prefix-sizes
-    slice-aggregate-find-list
-    find-list-requires
+    find-rows-requires
     clear-requires
     refused-requires-3
     same-length
@@ -144,7 +120,7 @@ solve-problem-spec =
     copy-costs-requires
     copy-choices-requires
     clear-requires-2
-    cast-t38
+    cast-t32
     same-length-2
     same-length-3
     same-length-4
