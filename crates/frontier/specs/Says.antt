@@ -44,10 +44,11 @@ unlisted number place = record { number = number; place = place; count = 0; obje
 abbrev pub answerOf : DI.Listed → DA.Answer
 answerOf r = record { number = r .number; place = r .place; count = r .count }
 
--- a list in work memory: number and place; where nothing is refused the list, and what copying it out asks; where something is, what the call leaves in work memory
+-- the verdict of the call for point records, by the records' number
 abbrev pub listVerdict : List ℕ → ℕ → List ℕ → Verdict
 listVerdict s room work = solveVerdict s work (min room maxPoints)
 
+-- a list in work memory: number and place, the list where nothing is refused, what copying it out asks, and what is left in work memory where something is refused
 pub record ListedSays (s : List ℕ) (room : ℕ) (work work′ : List ℕ) (r : DI.Listed) : Type 0 where
   pub number : r .number ≡ listVerdict s room work .number
   pub place : r .place ≡ listVerdict s room work .place

@@ -1,6 +1,6 @@
 // The public calls, and their exports for C.
 ghost use mathlib.Core.Path.{_≡_};
-ghost use Prim.Native.Nat.{ℕ, _≤_};
+ghost use Prim.Native.Nat.{_≤_};
 ghost use Rattle.model.specs.Basics.{pick};
 ghost use Rattle.model.specs.Limits.{maxPoints, workNeed};
 ghost use lib.Dec.{eqb};
@@ -122,7 +122,7 @@ pub extern "C" fn frontier_solve(
 }
 
 // A list in work memory: a refusal's number and place, or 0 and 0, the count of points, and how many costs and choices each has.
-pub struct Listed {
+struct Listed {
     pub number: u8,
     pub place: u32,
     pub count: usize,

@@ -12,7 +12,7 @@ abbrev pub over : List ℕ → ℕ → List ℕ → ℕ → List ℕ
 over w from g end = take from w ++ g ++ drop end w
 
 -- a part is what is left of a front
-take-drop : (k a : ℕ) (l : List ℕ) → take k (drop a l) ≡ drop a (take (a + k) l)
+pub take-drop : (k a : ℕ) (l : List ℕ) → take k (drop a l) ≡ drop a (take (a + k) l)
 take-drop k zero l = rw zero-add
 take-drop k (suc a) [] = rw suc-add (take-nil k)
 take-drop k (suc a) (x ∷ l) = rw suc-add (take-drop k a l)

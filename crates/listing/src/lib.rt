@@ -80,7 +80,7 @@ pub fn find_source(
 }
 
 // The ceilings in eight bytes each, as the sums are.
-fn widened(ceilings: [u32; 4]) -> [u64; 4]
+pub fn widened(ceilings: [u32; 4]) -> [u64; 4]
     ensures { λ wide. ⌜ wide ≡ ceilings ⌝ }
 {
     [

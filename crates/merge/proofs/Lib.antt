@@ -5,3 +5,5 @@ pub mod Taking
 pub mod Meeting
 pub mod Sums
 pub mod Merging
+pub mod Keeping
+pub mod Cutting

@@ -1,12 +1,11 @@
 -- The sums of two lists in work memory: what each of them has, and that storing the listed points leaves them as they are.
-use mathlib.Core.Path.{_≡_, refl, sym, ap, ap₂, _∙_, subst}
+use mathlib.Core.Path.{_≡_, refl, sym, ap₂, _∙_, subst}
 use mathlib.Core.Logic.{⊎-elim}
 use mathlib.Core.Bool.{true}
 use mathlib.Core.List.{List, [], _∷_, List·Memᴰ as In, List·Memᴰ·head as here, List·Memᴰ·tail as there, List·Memᴰ·not-nil as in-none, List·Memᴰ·cases-cons as in-cases, List·Memᴰ·append-cases as in-append}
 use Prim.Native.Nat.{ℕ, zero, suc, _+_, _-_, _≤_}
 use native.Mathlib.Omega.{arith}
 use lib.ListN.{length, take, drop}
-use lib.Seq.{drop-drop}
 use Rattle.model.specs.Limits.{maxObjectives, maxVariables}
 use Rattle.model.specs.Vectors.{under, added}
 use Rattle.model.specs.Frontiers.{Point}
@@ -17,6 +16,7 @@ use Rattle.model.proofs.Sums.{added-length}
 use Rattle.groups.specs.Layout.{listEnd}
 use Rattle.rows.specs.Rows.{rowAt, pointIn, listIn}
 use Rattle.rows.proofs.RowParts.{costs-long, values-long}
+use Rattle.listing.proofs.Since.{drop-more}
 use Rattle.merge.specs.Sums.{firstRow, secondRow, firstIn, secondIn, sumsIn, Halved}
 
 -- what the sums of all pairs under the ceilings have
@@ -66,15 +66,10 @@ sums-good {p} {n} {k} {a} {b} {work} h ceilings =
 
 -- rows behind the listed points
 module _ (p n : ℕ) (was work : List ℕ) (behind : drop listEnd work ≡ drop listEnd was) where
-  drop-kept : (i : ℕ) → listEnd ≤ i → drop i work ≡ drop i was
-  drop-kept i l =
-      let e : listEnd + (i - listEnd) ≡ i = omega arith in
-      sym (rw e at (drop-drop (i - listEnd) listEnd work)) ∙ ap (drop (i - listEnd)) behind ∙ (rw e at (drop-drop (i - listEnd) listEnd was))
-
   pub rows-kept : (i k : ℕ) → firstRow ≤ i → listIn p n work i k ≡ listIn p n was i k
   unfolding listIn
   rows-kept i zero l = refl
-  rows-kept i (suc k) l = rw (drop-kept (rowAt i) (omega arith), drop-kept (rowAt i + 4) (omega arith), rows-kept (i + 1) k (omega arith))
+  rows-kept i (suc k) l = rw (drop-more listEnd (rowAt i) work was (omega arith) behind, drop-more listEnd (rowAt i + 4) work was (omega arith) behind, rows-kept (i + 1) k (omega arith))
 
   pub sums-kept : (ceilings : List ℕ) (a b : ℕ) → sumsIn p n ceilings work a b ≡ sumsIn p n ceilings was a b
   sums-kept ceilings a b = ap₂ (allSums (take p ceilings)) (rows-kept firstRow a (omega arith)) (rows-kept secondRow b (omega arith))

@@ -1,4 +1,4 @@
--- The listed points in work memory: rows of four costs and 24 values.
+-- The listed points in work memory: rows of four costs and 24 values; and points as records.
 use mathlib.Core.List.{List, [], _∷_}
 use Prim.Native.Nat.{ℕ, zero, suc, _+_, _*_, _≤_, _<_}
 use lib.ListN.{length, take, drop}

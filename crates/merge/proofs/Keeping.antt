@@ -1,0 +1,87 @@
+-- A half's list kept behind the list that is made: rows copied to other rows, and rows before them as they were.
+use mathlib.Core.Path.{_≡_, refl, sym, ap, _∙_}
+use mathlib.Core.Logic.{_⊎_, inl}
+use mathlib.Core.Bool.{Bool, true, false, not}
+use mathlib.Core.List.{List}
+use Prim.Native.Nat.{ℕ, zero, suc, _+_, _-_, _*_, _≤_}
+use native.Mathlib.Omega.{arith}
+use native.Mathlib.Nat.{add-zero}
+use lib.Dec.{ltb}
+use lib.ListN.{length, take, drop, length-drop}
+use lib.Seq.{length-take-le, take-take, drop-drop}
+use borrow.Author.Tests.{ltb-false}
+use Rattle.model.specs.Basics.{when}
+use Rattle.model.specs.Limits.{maxObjectives, maxVariables, maxPoints}
+use Rattle.model.specs.Frontiers.{Point}
+use Rattle.groups.specs.Layout.{listAt, listEnd, rowsEnd, rowWidth}
+use Rattle.groups.proofs.Overwritten.{over, take-drop, over-length, over-part, over-here}
+use Rattle.rows.specs.Rows.{rowAt, listIn}
+use Rattle.listing.specs.declared.Found as DF
+use Rattle.listing.specs.Says.{FoundSays}
+use Rattle.merge.specs.Sums.{firstRow, secondRow, firstIn}
+use Rattle.merge.specs.Says.{KeptSays}
+
+-- a list that is not longer than its room
+few-points : (t : Bool) (room c k : ℕ) → t ≡ ltb room k → c ≡ when (not t) k → c ≤ room
+few-points true room c k h e = omega arith
+few-points false room c k h e = omega (arith, ltb-false room k (sym h))
+
+pub kept-few : {p n row : ℕ} {fs : List Point} {was work : List ℕ} {f : DF.Found} → KeptSays p n fs row was work f → f .count ≤ maxPoints
+kept-few {fs = fs} {f = f} h = few-points (f .full) maxPoints (f .count) (length fs) (h .full) (h .count)
+
+-- equal fronts have equal parts
+part-same : (m k a : ℕ) (x y : List ℕ) → a + k ≤ m → take m x ≡ take m y → take k (drop a x) ≡ take k (drop a y)
+part-same m k a x y h e =
+    take-drop k a x
+    ∙ ap (drop a) (sym (take-take (a + k) m x h) ∙ ap (take (a + k)) e ∙ take-take (a + k) m y h)
+    ∙ sym (take-drop k a y)
+
+-- equal numbers are equal points
+module _ (p n : ℕ) (few : p ≤ maxObjectives) (values : n ≤ maxVariables) (x y : List ℕ) where
+  rows-same : (i j k : ℕ) → take (rowWidth * k) (drop (rowAt i) x) ≡ take (rowWidth * k) (drop (rowAt j) y) → listIn p n x i k ≡ listIn p n y j k
+  unfolding listIn
+  rows-same i j zero e = refl
+  rows-same i j (suc k) e =
+      let part : (a l : ℕ) → a + l ≤ rowWidth * suc k → take l (drop (rowAt i + a) x) ≡ take l (drop (rowAt j + a) y) =
+      λ a l h. rw (← drop-drop a (rowAt i) x, ← drop-drop a (rowAt j) y) (part-same (rowWidth * suc k) l a (drop (rowAt i) x) (drop (rowAt j) y) h e) in
+      let costs : take p (drop (rowAt i) x) ≡ take p (drop (rowAt j) y) = rw (add-zero, add-zero) at (part 0 p (omega arith)) in
+      let next : (r : ℕ) → rowAt r + rowWidth ≡ rowAt (r + 1) = λ r. omega arith in
+      let rest : take (rowWidth * k) (drop (rowAt (i + 1)) x) ≡ take (rowWidth * k) (drop (rowAt (j + 1)) y) = rw (next i, next j) at (part rowWidth (rowWidth * k) (omega arith)) in
+      rw (costs, part 4 n (omega arith), rows-same (i + 1) (j + 1) k rest)
+
+-- the rows of the first half, where nothing before the second half's row changed
+pub first-same : (p n : ℕ) → p ≤ maxObjectives → n ≤ maxVariables → (was work : List ℕ) → take (rowAt secondRow - listEnd) (drop listEnd work) ≡ take (rowAt secondRow - listEnd) (drop listEnd was) → (a : ℕ) → a ≤ maxPoints → firstIn p n work a ≡ firstIn p n was a
+first-same p n few values was work e a h = rows-same p n few values work was firstRow firstRow a (part-same (rowAt secondRow - listEnd) (rowWidth * a) 0 (drop listEnd work) (drop listEnd was) (omega arith) e)
+
+-- the list that was found is copied to a row behind it
+module _ {p n : ℕ} {fs : List Point} {was work : List ℕ} {f : DF.Found} (says : FoundSays p n fs maxPoints was work f) (long : rowsEnd ≤ length was) (row : ℕ) (low : firstRow ≤ row) (high : row ≤ secondRow) where
+  abbrev size : ℕ
+  size = rowWidth * f .count
+
+  pub copied-count : f .count ≤ maxPoints
+  copied-count = few-points (f .full) maxPoints (f .count) (length fs) (says .full) (says .count)
+
+  pub copied-asked : (listAt + size ≤ length work) × (rowAt row + size ≤ length work) × ((listAt + size ≤ rowAt row) ⊎ (rowAt row + size ≤ listAt))
+  copied-asked = (omega (arith, copied-count, says .long), omega (arith, copied-count, says .long), inl (omega (arith, copied-count)))
+
+  module _ (few : p ≤ maxObjectives) (values : n ≤ maxVariables) (copied : List ℕ) (is : copied ≡ over work (rowAt row) (take size (drop listAt work)) (rowAt row + size)) where
+    part : length (take size (drop listAt work)) ≡ size
+    part = length-take-le size (drop listAt work) (omega (arith, copied-asked .0, length-drop listAt work))
+
+    ends : rowAt row + size ≡ rowAt row + length (take size (drop listAt work))
+    ends = omega (arith, part)
+
+    same-rows : listIn p n copied row (f .count) ≡ listIn p n work 0 (f .count)
+    same-rows =
+        rows-same p n few values copied work row 0 (f .count)
+        (rw is (rw part at (over-here work (rowAt row) (take size (drop listAt work)) (rowAt row + size) ends (copied-asked .1))))
+
+    pub copied-says : KeptSays p n fs row was copied f
+    copied-says =
+        record {
+          full = says .full;
+          count = says .count;
+          list = λ t. same-rows ∙ says .list t;
+          long = rw is (over-length work (rowAt row) (take size (drop listAt work)) (rowAt row + size) ends (copied-asked .1) ∙ says .long);
+          between = rw is (over-part work (rowAt row) (take size (drop listAt work)) (rowAt row + size) ends (copied-asked .1) (rowAt row - listEnd) listEnd (omega arith) ∙ ap (take (rowAt row - listEnd)) (says .behind));
+        }
