@@ -11,7 +11,7 @@ use Rattle.model.specs.Reading.{tableScope, tableLength, tableNumber, tablesVer
 use Rattle.model.proofs.Verdicts.{record-accepts}
 use Rattle.model.proofs.TableRecord.{table-good}
 use Rattle.problem.specs.Says.{RefusalSays}
-use Rattle.problem.specs.Records.{Whole, AllWhole, placeBehind}
+use Rattle.problem.specs.Records.{Whole, AllWhole}
 use Rattle.problem.proofs.Chains.{pass-record, stop-record}
 use Rattle.problem.proofs.Rising.{scope-range}
 
@@ -47,22 +47,6 @@ places-none ds s at = refl
 pub places-go : (k : ℕ) (ds s : List ℕ) (at : ℕ) → placesAt (suc k) ds s at ≡ at ∷ placesAt k ds s (at + tableLength ds (drop at s))
 unfolding placesAt
 places-go k ds s at = refl
-
--- the place behind records, from the first of them on
-module _ (ds s : List ℕ) (at : ℕ) where
-  pub behind-none : placeBehind 0 ds s at ≡ at
-  unfolding placesAt
-  behind-none = refl
-
-  pub behind-go : (k : ℕ) → placeBehind (suc k) ds s at ≡ placeBehind k ds s (at + tableLength ds (drop at s))
-  unfolding placesAt
-  behind-go k = refl
-
--- of a row of whole records the last is whole, and those before it
-pub whole-behind : (k : ℕ) (ds s : List ℕ) (at : ℕ) → AllWhole (suc k) ds s at → AllWhole k ds s at × Whole ds s (placeBehind k ds s at)
-unfolding placesAt
-whole-behind zero ds s at w = (omega (arith, w .0 .long), w .0)
-whole-behind (suc k) ds s at w = let rest = whole-behind k ds s (at + tableLength ds (drop at s)) (w .1) in ((w .0, rest .0), rest .1)
 
 -- records whose verdict refuses nothing are whole
 pub all-whole : (r p : ℕ) (ds s : List ℕ) (at : ℕ) → p ≤ maxObjectives → at ≤ length s → tablesVerdict r p ds s at .number ≡ 0 → AllWhole r ds s at

@@ -1,10 +1,10 @@
 -- What a caller may rely on of records that were accepted.
 use Prim.Native.Nat.{ℕ, zero, suc, _+_, _≤_, _<_}
 use mathlib.Core.List.{List}
-use lib.ListN.{length, getD, drop}
+use lib.ListN.{length, drop}
 use Rattle.model.specs.Limits.{maxArity, maxObjectives}
 use Rattle.model.specs.Problems.{InRange}
-use Rattle.model.specs.Reading.{tableObjective, tableArity, tableScope, tableLength, placesAt}
+use Rattle.model.specs.Reading.{tableObjective, tableArity, tableScope, tableLength}
 
 -- the record at `at` is whole, and its objective and its scope's variables exist
 pub record Whole (ds s : List ℕ) (at : ℕ) : Type 0 where
@@ -17,7 +17,3 @@ pub record Whole (ds s : List ℕ) (at : ℕ) : Type 0 where
 abbrev pub AllWhole : ℕ → List ℕ → List ℕ → ℕ → Type 0
 AllWhole zero ds s at = at ≤ length s
 AllWhole (suc r) ds s at = Whole ds s at × AllWhole r ds s (at + tableLength ds (drop at s))
-
--- the place behind `count` records from `at` on: where the next one starts
-abbrev pub placeBehind : ℕ → List ℕ → List ℕ → ℕ → ℕ
-placeBehind count ds s at = getD (placesAt (suc count) ds s at) count 0

@@ -1,13 +1,13 @@
 // Reads a problem: its records in byte order, refusals 1 to 11 with their places, and where each cost record starts.
 ghost use mathlib.Core.Path.{_≡_};
-ghost use Prim.Native.Nat.{ℕ, _+_, _-_, _*_, _<_, _≤_};
+ghost use Prim.Native.Nat.{_+_, _-_, _*_, _<_, _≤_};
 ghost use lib.ListN.{length, getD, take, drop};
 ghost use Rattle.model.specs.Basics.{All};
 ghost use Rattle.model.specs.Limits.{maxBytes, maxVariables, maxObjectives, maxArity, shortEnd};
 ghost use Rattle.model.specs.Problems.{DomainSize, InRange, sizeOf, scopeOk};
-ghost use Rattle.model.specs.Reading.{word2, word4, wordsIn, startNumber, headNumber, domainNumber, tablesVerdict, placesAt};
+ghost use Rattle.model.specs.Reading.{word2, word4, wordsIn, startNumber, headNumber, domainNumber, tableLength, tablesVerdict, placesAt};
 ghost use Rattle.model.specs.Calls.{padded, over};
-ghost use Rattle.problem.specs.Records.{Whole, AllWhole, placeBehind};
+ghost use Rattle.problem.specs.Records.{Whole, AllWhole};
 ghost use Rattle.problem.specs.Says.{HeadSays, DomainsSays, ScanSays, RefusalSays, RecordSays, refusal, ReadSays};
 
 pub fn wide(x: u8) -> u32
@@ -347,7 +347,7 @@ pub fn read_problem(s: &[u8]) -> Reading
 }
 
 // The fields of the accepted cost record at `at`.
-pub fn record_at(s: &[u8], at: usize, sizes: &[u8]) -> model::CostRecord
+fn fields_at(s: &[u8], at: usize, sizes: &[u8]) -> model::CostRecord
     requires { ⌜ Whole (now sizes) (now s) at × All DomainSize (now sizes) ⌝ }
     ensures { λ r. ⌜ RecordSays (now (sizes .entry)) (now (s .entry)) at r ⌝ }
 {
@@ -362,35 +362,13 @@ pub fn record_at(s: &[u8], at: usize, sizes: &[u8]) -> model::CostRecord
     }
 }
 
-// Writes where each of the `r` accepted cost records from `at` on starts over the front of a buffer.
-pub fn keep_places(s: &[u8], at: usize, r: u32, sizes: &[u8], places: &mut [u32])
-    requires { ⌜ AllWhole r (now sizes) (now s) at × All DomainSize (now sizes) × (r ≤ length (now places)) × (length (now s) ≤ maxBytes) ⌝ }
-    ensures { λ _. ⌜ now (places .exit) ≡ over (placesAt r (now (sizes .entry)) (now (s .entry)) at) (now (places .entry)) ⌝ }
+// Where the accepted cost record at `at` ends: the next one's place.
+fn next_place(s: &[u8], at: usize, sizes: &[u8]) -> usize
+    requires { ⌜ Whole (now sizes) (now s) at × All DomainSize (now sizes) ⌝ }
+    ensures { λ r. ⌜ r ≡ at + tableLength (now (sizes .entry)) (drop at (now (s .entry))) ⌝ }
 {
-    let count = r as usize;
-    let mut here = at;
-    let mut i: usize = 0;
-    while i < count {
-        places[i] = here as u32;
-        let t = record_at(s, here, sizes);
-        here += t.length;
-        i += 1;
-    }
-}
-
-// Where the accepted cost record number `count` from `at` on starts, or where the records end.
-pub fn place_behind(s: &[u8], at: usize, count: usize, sizes: &[u8]) -> usize
-    requires { ⌜ AllWhole count (now sizes) (now s) at × All DomainSize (now sizes) ⌝ }
-    ensures { λ r. ⌜ r ≡ placeBehind count (now (sizes .entry)) (now (s .entry)) at ⌝ }
-{
-    let mut here = at;
-    let mut left = count;
-    while left > 0 {
-        let t = record_at(s, here, sizes);
-        here += t.length;
-        left -= 1;
-    }
-    here
+    let t = fields_at(s, at, sizes);
+    at + t.length
 }
 
 // "The reader" is document 01's term: a problem's bytes, and its place in them. The functions over it are proved by hand; each
@@ -412,15 +390,15 @@ impl<'a> Reader<'a> {
         requires { ⌜ Whole (now sizes) (now (self .bytes)) (self .at) × All DomainSize (now sizes) ⌝ }
         ensures { λ r. ⌜ RecordSays (now (sizes .entry)) (now (self .entry .bytes)) (self .entry .at) r ⌝ }
     {
-        record_at(self.bytes, self.at, sizes)
+        fields_at(self.bytes, self.at, sizes)
     }
 
-    // The reader behind `count` accepted cost records.
-    pub fn behind(self, count: usize, sizes: &[u8]) -> Reader<'a>
-        requires { ⌜ AllWhole count (now sizes) (now (self .bytes)) (self .at) × All DomainSize (now sizes) ⌝ }
-        ensures { λ r. ⌜ (r .bytes ≡ self .entry .bytes) × (r .at ≡ placeBehind count (now (sizes .entry)) (now (self .entry .bytes)) (self .entry .at)) ⌝ }
+    // The reader behind the accepted cost record at its place.
+    pub fn next(self, sizes: &[u8]) -> Reader<'a>
+        requires { ⌜ Whole (now sizes) (now (self .bytes)) (self .at) × All DomainSize (now sizes) ⌝ }
+        ensures { λ r. ⌜ (r .bytes ≡ self .entry .bytes) × (r .at ≡ self .entry .at + tableLength (now (sizes .entry)) (drop (self .entry .at) (now (self .entry .bytes)))) ⌝ }
     {
-        let at = place_behind(self.bytes, self.at, count, sizes);
+        let at = next_place(self.bytes, self.at, sizes);
         Reader {
             bytes: self.bytes,
             at,
@@ -428,10 +406,26 @@ impl<'a> Reader<'a> {
     }
 }
 
-// The fields of the accepted cost record number `i` from `at` on.
-pub fn record_number(s: &[u8], at: usize, i: usize, sizes: &[u8]) -> model::CostRecord
-    requires { ⌜ AllWhole (i + 1) (now sizes) (now s) at × All DomainSize (now sizes) ⌝ }
-    ensures { λ r. ⌜ RecordSays (now (sizes .entry)) (now (s .entry)) (placeBehind i (now (sizes .entry)) (now (s .entry)) at) r ⌝ }
+// The fields of the accepted cost record at `at`, by a reader: what callers with a plain slice call.
+pub fn record_at(s: &[u8], at: usize, sizes: &[u8]) -> model::CostRecord
+    requires { ⌜ Whole (now sizes) (now s) at × All DomainSize (now sizes) ⌝ }
+    ensures { λ r. ⌜ RecordSays (now (sizes .entry)) (now (s .entry)) at r ⌝ }
 {
-    Reader::new(s, at).behind(i, sizes).cost_record(sizes)
+    Reader::new(s, at).cost_record(sizes)
+}
+
+// Writes where each of the `r` accepted cost records from `at` on starts over the front of a buffer.
+pub fn keep_places(s: &[u8], at: usize, r: u32, sizes: &[u8], places: &mut [u32])
+    requires { ⌜ AllWhole r (now sizes) (now s) at × All DomainSize (now sizes) × (r ≤ length (now places)) × (length (now s) ≤ maxBytes) ⌝ }
+    ensures { λ _. ⌜ now (places .exit) ≡ over (placesAt r (now (sizes .entry)) (now (s .entry)) at) (now (places .entry)) ⌝ }
+{
+    let count = r as usize;
+    let mut here = at;
+    let mut i: usize = 0;
+    while i < count {
+        places[i] = here as u32;
+        let t = record_at(s, here, sizes);
+        here += t.length;
+        i += 1;
+    }
 }

@@ -1,4 +1,4 @@
--- `Reader::cost_record` meets its contract, by hand: the reader is taken apart, and `record_at` is called on its bytes and its place. Reader and sizes are Copy: one copy of what they own goes to the callee, one is kept for the exit.
+-- `Reader::cost_record` meets its contract, by hand: the reader is taken apart, and `fields_at` is called on its bytes and its place. Reader and sizes are Copy: one copy of what they own goes to the callee, one is kept for the exit.
 use mathlib.Core.Path.{refl}
 use mathlib.Core.List.{List, [], _∷_}
 use Prim.Native.Nat.{ℕ, _<_, _^_}
@@ -47,10 +47,10 @@ use Rattle.problem.proofs.Reader as T
 use Rattle.problem.proofs.Reader.Laws as T′
 use Rattle.problem.proofs.Walks.{sliceOf, OwnedSlice, number, twice}
 use Rattle.problem.proofs.Readers.{readerOf, Owned, bytes-of}
-use Rattle.problem.proofs.record_at as callee
-use Rattle.problem.proofs.record_at.Symbol as callee-def
-use Rattle.problem.proofs.record_at.Symbol.{name as #record-at}
-use Rattle.problem.proofs.record_at.Met as callee-thm
+use Rattle.problem.proofs.fields_at as callee
+use Rattle.problem.proofs.fields_at.Symbol as callee-def
+use Rattle.problem.proofs.fields_at.Symbol.{name as #fields-at}
+use Rattle.problem.proofs.fields_at.Met as callee-thm
 use Rattle.problem.proofs.Reader.cost_record.Key.{name as #cost-record}
 use Rattle.problem.proofs.Reader.cost_record as f
 use Rattle.problem.proofs.Reader.cost_record.Statement as stated
@@ -65,8 +65,8 @@ stayed = (stay-none B yes, (stay-none-slice (1 ∷ []) tt (plain (λ _. u8)) yes
 
 module _ {M : Type 1} (𝓤 : URA M) (H : Heap 𝓤) (A : Atoms 𝓤) (W : Given 𝓤 H A) (mem : Memory → SProp 𝓤) (run : Routine → Fun 𝓤) where
   -- the contract that the proof cites
-  abbrev RecordAt : Contract 𝓤
-  RecordAt = tripleOf 𝓤 H A callee.signature (callee.spec 𝓤 H A mem run)
+  abbrev FieldsAt : Contract 𝓤
+  FieldsAt = tripleOf 𝓤 H A callee.signature (callee.spec 𝓤 H A mem run)
 
   module _ (κ κ′ : Lft) (q q′ : Share) (d : Reader) (z : RefT (List ℕ)) where
     abbrev κs : Lfts 2
@@ -91,10 +91,10 @@ module _ {M : Type 1} (𝓤 : URA M) (H : Heap 𝓤) (A : Atoms 𝓤) (W : Given
     Sizes = OwnedSlice u8 (namedLft 2 1 tt κs) z
 
     -- the call: what is passed, what it asks, and what is known of its result
-    abbrev to : RecordAt .Ghost
+    abbrev to : FieldsAt .Ghost
     to = ((κs, qs, tt, (d .bytes, (d .at, (z, tt))), (sliceOf (d .bytes) ∷ [], (vint w64 (d .at) ∷ [], (sliceOf z ∷ [], tt)))), tt)
 
-    goes : d .at < 2 ^ 64 → Whole (now z) (now (d .bytes)) (d .at) × All DomainSize (now z) → ent 𝓤 (⋆ 𝓤 H A (Tokens ∷ ‵ (OwnedSlice u8 α (d .bytes)) ∷ ‵ Sizes ∷ [])) (RecordAt .pre to)
+    goes : d .at < 2 ^ 64 → Whole (now z) (now (d .bytes)) (d .at) × All DomainSize (now z) → ent 𝓤 (⋆ 𝓤 H A (Tokens ∷ ‵ (OwnedSlice u8 α (d .bytes)) ∷ ‵ Sizes ∷ [])) (FieldsAt .pre to)
     goes fits asked =
         qed W (Tokens ∷ ‵ (OwnedSlice u8 α (d .bytes)) ∷ ‵ Sizes ∷ []) ∵ says ! asked $ frame ! $
         nothing ! $ move ! (2 ∷ 0 ∷ []) $ fjoin ! $ number ! (d .at) fits $ fjoin ! $ move ! (1 ∷ 0 ∷ []) $ fjoin ! $ done !
@@ -111,7 +111,7 @@ module _ {M : Type 1} (𝓤 : URA M) (H : Heap 𝓤) (A : Atoms 𝓤) (W : Given
         suffices ! _ (ends-at 𝓤 H A f.ended stayed (f.clauses 𝓤 H A mem run) W ((κs, qs, tt, (d, (z, tt)), vals), tt) u r (tt, (tt, tt)) (tt, (tt, tt))) $ says ! e $
         move ! (1 ∷ []) $ frame ! $ nothing ! $ move ! (2 ∷ 0 ∷ []) $ fjoin ! $ move ! (2 ∷ 0 ∷ []) $ fjoin ! $ frame ! $ done !
 
-    walk : (𝓣 : Tables 𝓤 H) → Triple 𝓤 (𝓣 .C #record-at) RecordAt → Holds (hasTy (T′.mir (named 0)) (readerOf d)) × WT (readerOf d) → Is (ShrSlice (named 1) κ′ u8) z (sliceOf z ∷ [])
+    walk : (𝓣 : Tables 𝓤 H) → Triple 𝓤 (𝓣 .C #fields-at) FieldsAt → Holds (hasTy (T′.mir (named 0)) (readerOf d)) × WT (readerOf d) → Is (ShrSlice (named 1) κ′ u8) z (sliceOf z ∷ [])
         → Whole (now z) (now (d .bytes)) (d .at) × All DomainSize (now z) → ent 𝓤 (onEntry 𝓤 H A f.signature κs qs (d, (z, tt)) vals) (WpFn 𝓤 H (𝓣 .C) (𝓣 .Λ) code.function (readerOf d ∷ sliceOf z ∷ []) Post)
     walk 𝓣 known wt is asked =
         qed W (Tokens ∷ ‵ (owns (B κs ∷ ShrSlice (named 1) κ′ u8 ∷ []) (d, (z, tt)) vals) ∷ []) ∵ enter ! (𝓣 .C) (𝓣 .Λ) code.function (readerOf d ∷ sliceOf z ∷ []) _ $
@@ -121,9 +121,9 @@ module _ {M : Type 1} (𝓤 : URA M) (H : Heap 𝓤) (A : Atoms 𝓤) (W : Given
         -- [_4; …; _3; …; _2; …; _1; …; room for _0; …; the tokens; what the parameters own]
         move ! (11 ∷ []) $ fsplit ! $ use1 W (‵ (OwnedSlice u8 α (d .bytes)) ⊛ ‵ (Owned α d)) (bytes-of α 𝓤 H A W d) $ split ! $
         move ! (2 ∷ []) $ fsplit ! $ twice ! u8 (namedLft 2 1 tt κs) z $
-        move ! (15 ∷ 3 ∷ 0 ∷ []) $ use3 W (raw (RecordAt .pre to)) (goes (wt .1 .1 .0 .fits) asked) $
-        -- [what `record_at` asks; sizes; true; the reader; _4; …]
-        calls-at ! (fmOf 𝓤 H (W .laws) 𝓣) RecordAt known to (and-then ! (load ! (from ! (stop !)) (look ! 6 refl)) (and-then ! (load ! (from ! (stop !)) (look ! 4 refl)) (and-then ! (load ! (from ! (stop !)) (look ! 8 refl)) (no-more !)))) (λ u.
+        move ! (15 ∷ 3 ∷ 0 ∷ []) $ use3 W (raw (FieldsAt .pre to)) (goes (wt .1 .1 .0 .fits) asked) $
+        -- [what `fields_at` asks; sizes; true; the reader; _4; …]
+        calls-at ! (fmOf 𝓤 H (W .laws) 𝓣) FieldsAt known to (and-then ! (load ! (from ! (stop !)) (look ! 6 refl)) (and-then ! (load ! (from ! (stop !)) (look ! 4 refl)) (and-then ! (load ! (from ! (stop !)) (look ! 8 refl)) (no-more !)))) (λ u.
         use1 W (later (some (λ (r : CostRecord). (Tokens ⊛ ‵ (C.the-row .own r (u ∷ []))) ⊛ raw (ensured 𝓤 H A callee.ended (callee.clauses 𝓤 H A mem run) κs (d .bytes, (d .at, (z, tt))) tt r)))) (id⊢ 𝓤 _) $ await ! tt $ pick ! (λ r.
         split ! $ move ! (1 ∷ []) $ use1 W (raw (fact 𝓤 (Said r))) (said r) $ heard ! (Said r) (λ e. split ! $ move ! (1 ∷ []) $
         -- [the result; the tokens; sizes; true; the reader; _4; …; _3; …; _2; …; _1; …; room for _0; …]
@@ -132,7 +132,7 @@ module _ {M : Type 1} (𝓤 : URA M) (H : Heap 𝓤) (A : Atoms 𝓤) (W : Given
         returns ! (look ! 13 refl) $ forget ! 5 refl $ forget ! 7 refl $ forget ! 9 refl $ forget ! 11 refl $ forget ! 13 refl $
         move ! (13 ∷ 14 ∷ 11 ∷ 12 ∷ 9 ∷ 10 ∷ 7 ∷ 8 ∷ 5 ∷ 6 ∷ []) $ free1 ! $ free1 ! $ free1 ! $ free1 ! $ free1 ! $ free0 ! $ keep ! (0 ∷ 1 ∷ 2 ∷ 4 ∷ []) $ by ! (exits r u e))))))))))
 
-  meets : (𝓣 : Tables 𝓤 H) → Triple 𝓤 (𝓣 .C #record-at) RecordAt → Meets 𝓤 H A f.signature (WpFn 𝓤 H (𝓣 .C) (𝓣 .Λ) code.function) (f.spec 𝓤 H A mem run)
+  meets : (𝓣 : Tables 𝓤 H) → Triple 𝓤 (𝓣 .C #fields-at) FieldsAt → Meets 𝓤 H A f.signature (WpFn 𝓤 H (𝓣 .C) (𝓣 .Λ) code.function) (f.spec 𝓤 H A mem run)
   meets 𝓣 known =
       walk-meets 𝓤 H A f.ended stayed W (goes-none 𝓤 H A W 2 B yes (λ κs x l. refl), (goes-none-slice 𝓤 H A W 2 (1 ∷ []) tt (plain (λ _. u8)) yes, tt)) (f.clauses 𝓤 H A mem run) (WpFn 𝓤 H (𝓣 .C) (𝓣 .Λ) code.function) (WpFn-mono 𝓤 H (W .laws) 𝓣 code.function) (
       walked 𝓤 H A f.ended stayed (f.clauses 𝓤 H A mem run) (WpFn 𝓤 H (𝓣 .C) (𝓣 .Λ) code.function) (λ κs. (LL.vals (T.the-type (namedLft 2 0 tt κs)) (T′.the-laws (namedLft 2 0 tt κs)), (slice-vals, tt))) (λ κs. (LL.tells (T.the-type (namedLft 2 0 tt κs)) (T′.the-laws (namedLft 2 0 tt κs)), (shr-slice-tells (named 1) (κs .1 .0) u8, tt)))
@@ -145,4 +145,4 @@ cost-record-spec 𝓤 H 𝓜 𝓖 𝓡 =
     entered 𝓤 H (tripleOf 𝓤 H (𝓖 .A) f.signature (f.spec 𝓤 H (𝓖 .A) (𝓜 .mem) (𝓡 .run)))
     (tables 𝓤 H 𝓜 𝓡 code.env .C) (tables 𝓤 H 𝓜 𝓡 code.env .Λ) #cost-record code.function (code.unfolded 𝓤 H 𝓜 𝓡)
     (meets 𝓤 H (𝓖 .A) (givenOf 𝓤 H 𝓜 𝓖) (𝓜 .mem) (𝓡 .run) (tablesOf 𝓤 H 𝓜 (tables 𝓤 H 𝓜 𝓡 code.env))
-    (cited 𝓤 H (RecordAt 𝓤 H (𝓖 .A) (givenOf 𝓤 H 𝓜 𝓖) (𝓜 .mem) (𝓡 .run)) 𝓜 𝓡 code.env #record-at callee-def.routine code.calls-problem·record-at (callee-thm.met 𝓤 H 𝓜 𝓖 𝓡)))
+    (cited 𝓤 H (FieldsAt 𝓤 H (𝓖 .A) (givenOf 𝓤 H 𝓜 𝓖) (𝓜 .mem) (𝓡 .run)) 𝓜 𝓡 code.env #fields-at callee-def.routine code.calls-problem·fields-at (callee-thm.met 𝓤 H 𝓜 𝓖 𝓡)))
