@@ -1,5 +1,6 @@
 /* The variant chooser's limits, numbers of refusal and calls, for C and C++. Link libfrontier.a; it needs nothing but
- * the C library. frontier_solve lists the frontier of a problem; frontier_bound bounds what a partial choice leads to.
+ * the C library. frontier_solve lists the frontier of a problem; frontier_cut lists it by way of two halves of the
+ * problem; frontier_bound bounds what a partial choice leads to; frontier_points lists the frontier into point records.
  *
  * A problem is a string of bytes. Numbers in it are unsigned and little-endian, at any address, with nothing between
  * them. It is made of records, each of which starts with a mark of two letters:
@@ -101,6 +102,47 @@ extern "C" {
 uint8_t frontier_solve(const uint8_t *problem, size_t problem_len, uint32_t *costs, size_t costs_len, uint8_t *choices,
                        size_t choices_len, uint32_t *work, size_t work_len, uint32_t *place, uint32_t *count);
 
+/* Lists the frontier of a problem that falls into two halves, into the buffers that it is lent: the points that
+ * frontier_solve lists, by way of the halves' own frontiers.
+ *
+ * The side list has a side for each variable, one byte each: sides[v] is the side of variable v, 0 or 1, and sides_len
+ * is n. A record is linked if its scope has variables of both sides; there must be none. Half 0 has the variables of
+ * side 0, the records whose scope lies there, and all records of arity 0. Half 1 has the other variables and the other
+ * records. Each half is a problem of its own, under all the ceilings, and its frontier may have at most
+ * FRONTIER_MAX_POINTS points. A half may be without variables: then it has one choice, which in half 1 costs 0 in
+ * every objective and in half 0 what the records of arity 0 charge.
+ *
+ * The points are those that frontier_solve lists, in the same order and with the same choices, whichever side is 0.
+ * They are made from the sums of one vector of each half's frontier, over all pairs. A sum is listed, once, if it is
+ * strictly below the ceilings and no other such sum beats it; the choice with it is the earliest that a pair with this
+ * sum gives, where a pair gives each variable the value that its half's listed choice has for it. Exchanging the sides
+ * may change the half sizes, and whether a half has too many points, because the records of arity 0 then go with the
+ * other variables.
+ *
+ * costs, choices, their room and work are as in frontier_solve, and nothing in the answer depends on what they held
+ * before.
+ *
+ * The number of refusal is the result: 0 for none, 1 to 11 for the problem, then FRONTIER_WORK if work is too short,
+ * then FRONTIER_SIDES if sides_len is not n or a side is neither 0 nor 1, then FRONTIER_LINKED if a record is linked,
+ * then FRONTIER_FULL if the frontier of a half has more than FRONTIER_MAX_POINTS points, or that of the problem more
+ * points than room; how many sums there are on the way does not count. *place becomes the place of the refusal, with
+ * FRONTIER_LINKED the first byte of the first linked record, and 0 without a refusal. *count becomes the number of
+ * points listed, *first and *second become the half sizes: how many points the frontiers of half 0 and of half 1 have.
+ * After a refusal these three are 0. All four are always written, whatever they held. What the buffers hold
+ * afterwards:
+ *
+ *   result          costs and choices                                                           work
+ *   0               the first *count * p costs and *count * n choices are the points,           all 0
+ *                   the rest is unchanged
+ *   FRONTIER_FULL   unchanged                                                                   all 0
+ *   another number  unchanged                                                                   unchanged
+ *
+ * The time it takes can grow with the number of choices of each half, and like frontier_solve it cannot be
+ * interrupted. */
+uint8_t frontier_cut(const uint8_t *problem, size_t problem_len, const uint8_t *sides, size_t sides_len,
+                     uint32_t *costs, size_t costs_len, uint8_t *choices, size_t choices_len, uint32_t *work,
+                     size_t work_len, uint32_t *place, uint32_t *count, uint32_t *first, uint32_t *second);
+
 /* Bounds from below what any completion of a partial choice costs.
  *
  * The prefix has the values of variables 0, 1, and so on, one byte each; the variables after it are free. With length 0
@@ -113,6 +155,35 @@ uint8_t frontier_solve(const uint8_t *problem, size_t problem_len, uint32_t *cos
  * is all 0. */
 uint8_t frontier_bound(const uint8_t *problem, size_t problem_len, const uint8_t *prefix, size_t prefix_len,
                        uint64_t least[FRONTIER_MAX_OBJECTIVES], uint32_t *place);
+
+/* A point record: costs[k] is the cost in objective k, and 0 for k from p on; choice[v] is the value of variable v, and
+ * 0 for v from n on. It has 40 bytes and no padding. */
+struct frontier_point {
+    uint32_t costs[FRONTIER_MAX_OBJECTIVES];
+    uint8_t choice[FRONTIER_MAX_VARIABLES];
+};
+
+/* Lists the frontier of a problem into the point records that it is lent: the points that frontier_solve lists, in the
+ * same order.
+ *
+ * points is a list of points_len records. Room, the number of points that fit, is the smaller of points_len and
+ * FRONTIER_MAX_POINTS, so 64 records do for every problem. Room 0 is allowed, and suffices where no choice is allowed.
+ * work is as in frontier_solve. Nothing in the answer depends on what the records and work held before.
+ *
+ * The number of refusal is the result: 0 for none, 1 to 11 for the problem, then FRONTIER_WORK if work is too short,
+ * then FRONTIER_FULL if the frontier has more points than room. *place becomes the place of the refusal, and 0 without
+ * one; *count becomes the number of points listed, and 0 after a refusal. Both are always written, whatever they held.
+ * What the records and work hold afterwards:
+ *
+ *   result          points                                                                      work
+ *   0               the first *count records are the points, every field of them written,       all 0
+ *                   the rest is unchanged
+ *   FRONTIER_FULL   unchanged                                                                   all 0
+ *   another number  unchanged                                                                   unchanged
+ *
+ * It takes as long as frontier_solve, and cannot be interrupted either. */
+uint8_t frontier_points(const uint8_t *problem, size_t problem_len, struct frontier_point *points, size_t points_len,
+                        uint32_t *work, size_t work_len, uint32_t *place, uint32_t *count);
 
 #ifdef __cplusplus
 }

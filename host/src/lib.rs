@@ -13,6 +13,7 @@ pub mod limits;
 pub mod mixed;
 pub mod night;
 pub mod owned;
+pub mod point_records;
 pub mod problem;
 pub mod random;
 pub mod reading;

@@ -1,24 +1,28 @@
 //! Mixed cases of the calls (valid, damaged and boundary problems, with good and bad prefixes of
-//! every length and with buffers long enough or not), and the comparison with the brute force.
+//! every length, with good and bad side lists, and with buffers long enough or not), and the
+//! comparison with the brute force.
 
+use std::fmt::Debug;
 use std::ops::Range;
 
 use crate::bound::{bound_prefix, Least};
-use crate::brute::{solve_problem, Answer};
+use crate::brute::{solve_cut, solve_problem, Answer, Halves};
 use crate::examples::brimful;
 use crate::limits::{LEAST_WORK, MAX_ARITY, MAX_DOMAIN, MAX_OBJECTIVES, MAX_TABLES, MAX_VARIABLES};
 use crate::owned::Buffers;
 use crate::problem::{Problem, Table};
-use crate::random::{damage, junk, random_choice, random_problem, Rng, Shape};
+use crate::random::{bad_sides, damage, junk, random_choice, random_problem, random_sides};
+use crate::random::{uncrossed_sides, Rng, Shape};
 use crate::reading::read_problem;
 
-/// A problem's bytes, damaged or not, the prefixes that are asked about with them, and the buffers
-/// that are lent.
+/// A problem's bytes, damaged or not, the prefixes that are asked about with them, the buffers
+/// that are lent, and the side list for a cut.
 pub struct Mixed {
     pub seed: u64,
     pub bytes: Vec<u8>,
     pub prefixes: Vec<Vec<u8>>,
     pub lent: Buffers,
+    pub sides: Vec<u8>,
 }
 
 impl Mixed {
@@ -34,11 +38,13 @@ impl Mixed {
         }
         let prefixes = mixed_prefixes(&mut rng, &problem);
         let lent = mixed_buffers(&mut rng, &bytes);
+        let sides = mixed_sides(&mut rng, &bytes);
         Mixed {
             seed,
             bytes,
             prefixes,
             lent,
+            sides,
         }
     }
 
@@ -49,6 +55,16 @@ impl Mixed {
         call: impl Fn(&[u8], &mut [u32], &mut [u8], &mut [u32]) -> Answer,
     ) -> Result<(), String> {
         let compared = compare_solve(&self.bytes, &self.lent, call);
+        compared.map_err(|difference| format!("seed {}: {difference}", self.seed))
+    }
+
+    /// Compares a cut call with the brute force: the answer and all that is left in the buffers. A
+    /// difference is told with the seed, the side list and the bytes.
+    pub fn compare_cut(
+        &self,
+        call: impl Fn(&[u8], &[u8], &mut [u32], &mut [u8], &mut [u32]) -> Halves,
+    ) -> Result<(), String> {
+        let compared = compare_cut(&self.bytes, &self.sides, &self.lent, call);
         compared.map_err(|difference| format!("seed {}: {difference}", self.seed))
     }
 
@@ -72,7 +88,7 @@ pub fn compare_seeds(seeds: Range<u64>, compare: impl Fn(&Mixed) -> Result<(), S
 }
 
 /// Bytes in hex, so that a difference can be repeated.
-fn hex(bytes: &[u8]) -> String {
+pub(crate) fn hex(bytes: &[u8]) -> String {
     bytes.iter().map(|byte| format!("{byte:02x}")).collect()
 }
 
@@ -85,6 +101,31 @@ pub fn compare_solve(
 ) -> Result<(), String> {
     let (mut left, mut right) = (lent.clone(), lent.clone());
     let (answer, expected) = (left.lend(call, problem), right.lend(solve_problem, problem));
+    compare_outcomes(problem, [answer, expected], [left, right])
+}
+
+/// Compares a cut call with the brute force on one problem and side list, each lent a copy of the
+/// buffers. A difference is told with the side list, and the bytes in hex.
+pub fn compare_cut(
+    problem: &[u8],
+    sides: &[u8],
+    lent: &Buffers,
+    call: impl Fn(&[u8], &[u8], &mut [u32], &mut [u8], &mut [u32]) -> Halves,
+) -> Result<(), String> {
+    let (mut left, mut right) = (lent.clone(), lent.clone());
+    let answer = left.lend_cut(call, problem, sides);
+    let expected = right.lend_cut(solve_cut, problem, sides);
+    let compared = compare_outcomes(problem, [answer, expected], [left, right]);
+    compared.map_err(|difference| format!("sides {sides:?}: {difference}"))
+}
+
+/// Compares what a call and the brute force, in this order, have answered and left in the buffers.
+fn compare_outcomes<T: Debug + PartialEq>(
+    problem: &[u8],
+    [answer, expected]: [T; 2],
+    [left, right]: [Buffers; 2],
+) -> Result<(), String> {
+    let lengths = [left.costs.len(), left.choices.len(), left.work.len()];
     let difference = if answer != expected {
         format!("the call answers {answer:?}, the brute force {expected:?}")
     } else if left.costs != right.costs {
@@ -98,7 +139,6 @@ pub fn compare_solve(
     } else {
         return Ok(());
     };
-    let lengths = [lent.costs.len(), lent.choices.len(), lent.work.len()];
     let bytes = hex(problem);
     Err(format!("{difference}, lengths {lengths:?}, bytes {bytes}"))
 }
@@ -230,4 +270,18 @@ fn mixed_buffers(rng: &mut Rng, bytes: &[u8]) -> Buffers {
     let costs = room * p + rng.below(2 * p);
     let choices = room * n + rng.below(2 * n);
     junk(rng, costs, choices, work)
+}
+
+/// A side list for a problem's bytes, mostly one that no table crosses. Bytes that are no problem get
+/// one of any length.
+fn mixed_sides(rng: &mut Rng, bytes: &[u8]) -> Vec<u8> {
+    let Ok(reading) = read_problem(bytes) else {
+        let length = rng.below(MAX_VARIABLES + 2);
+        return (0..length).map(|_| rng.byte_below(3)).collect();
+    };
+    match rng.below(8) {
+        0 => bad_sides(rng, &reading.problem),
+        1 => random_sides(rng, &reading.problem),
+        _ => uncrossed_sides(rng, &reading.problem),
+    }
 }

@@ -1,6 +1,7 @@
-//! The calls with buffers of their own, flat calls as values, and the text of the list program.
+//! The calls with buffers of their own, flat and cut calls as values, and the text of the list
+//! program.
 
-use crate::brute::{solve_cut, solve_problem, Answer};
+use crate::brute::{solve_cut, solve_problem, Answer, Halves};
 use crate::limits::{LEAST_WORK, MAX_OBJECTIVES, MAX_POINTS, MAX_VARIABLES};
 use crate::problem::Problem;
 use crate::reading::read_problem;
@@ -8,6 +9,12 @@ use crate::refusal::Refusal;
 
 /// A flat call, as `solve_problem` is: problem, costs, choices, work.
 pub type SolveCall = fn(&[u8], &mut [u32], &mut [u8], &mut [u32]) -> Answer;
+
+/// A cut call, as `solve_cut` is: problem, sides, costs, choices, work.
+pub type CutCall = fn(&[u8], &[u8], &mut [u32], &mut [u8], &mut [u32]) -> Halves;
+
+/// What a cut call lists, and the two halves' frontier sizes.
+pub type Cut = (Vec<Listed>, [u32; 2]);
 
 /// A listed point: its p costs and its n values.
 #[derive(Clone, Debug, PartialEq, Eq)]
@@ -53,6 +60,17 @@ impl Buffers {
         call(bytes, &mut self.costs, &mut self.choices, &mut self.work)
     }
 
+    /// Lends the buffers to a cut call.
+    pub fn lend_cut(
+        &mut self,
+        call: impl Fn(&[u8], &[u8], &mut [u32], &mut [u8], &mut [u32]) -> Halves,
+        bytes: &[u8],
+        sides: &[u8],
+    ) -> Halves {
+        let (costs, choices) = (&mut self.costs, &mut self.choices);
+        call(bytes, sides, costs, choices, &mut self.work)
+    }
+
     /// The points an answer has left in the buffers. The bytes are read again for n and p.
     pub fn listed(&self, bytes: &[u8], answer: Answer) -> Result<Vec<Listed>, Refusal> {
         if answer.number != 0 {
@@ -88,18 +106,21 @@ pub fn frontier_of(bytes: &[u8]) -> Result<Vec<Listed>, Refusal> {
     frontier_by(solve_problem, bytes)
 }
 
-/// The list of the cut call and the two halves' frontier sizes, with room for 64 points.
-pub fn cut_of(bytes: &[u8], sides: &[u8]) -> Result<(Vec<Listed>, [u32; 2]), Refusal> {
+/// The list and the half sizes of a problem by a cut call, with room for 64 points.
+pub fn cut_by(
+    call: impl Fn(&[u8], &[u8], &mut [u32], &mut [u8], &mut [u32]) -> Halves,
+    bytes: &[u8],
+    sides: &[u8],
+) -> Result<Cut, Refusal> {
     let mut lent = Buffers::full();
-    let halves = solve_cut(
-        bytes,
-        sides,
-        &mut lent.costs,
-        &mut lent.choices,
-        &mut lent.work,
-    );
+    let halves = lent.lend_cut(call, bytes, sides);
     let list = lent.listed(bytes, halves.answer)?;
     Ok((list, [halves.first, halves.second]))
+}
+
+/// The list and the half sizes of a problem by the brute force, with room for 64 points.
+pub fn cut_of(bytes: &[u8], sides: &[u8]) -> Result<Cut, Refusal> {
+    cut_by(solve_cut, bytes, sides)
 }
 
 /// Numbers with one space between neighbours, and one space after the last.

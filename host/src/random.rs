@@ -70,6 +70,16 @@ impl Shape {
         }
     }
 
+    /// As small, but with up to all 24 variables, most of which then have one value.
+    pub fn many_variables() -> Shape {
+        Shape {
+            variables: 24,
+            domain: 8,
+            tables: 20,
+            ..Shape::small()
+        }
+    }
+
     /// Every size up to its limit, except that there are few tables. Too many choices for the
     /// calls that go through them; the bound call does not.
     pub fn wide() -> Shape {
@@ -190,12 +200,24 @@ fn opposed(rng: &mut Rng, objectives: usize, table: &Table) -> Table {
 /// A random valid problem. Every second one keeps its scopes within two groups of variables, so
 /// that it has a cut worth making.
 pub fn random_problem(rng: &mut Rng, shape: &Shape) -> Problem {
+    grouped_problem(rng, shape, false).0
+}
+
+/// A random valid problem that always has such groups, and the side list that parts them. Its
+/// tables are opposed, so that both halves often have several points.
+pub fn parted_problem(rng: &mut Rng, shape: &Shape) -> (Problem, Vec<u8>) {
+    grouped_problem(rng, shape, true)
+}
+
+/// A random valid problem, in one or two groups of variables or surely in two, and the group of
+/// each variable.
+fn grouped_problem(rng: &mut Rng, shape: &Shape, parted: bool) -> (Problem, Vec<u8>) {
     let objectives = 1 + rng.below(shape.objectives);
     let domains = random_domains(rng, shape);
-    let groups = 1 + rng.byte_below(2);
+    let groups = if parted { 2 } else { 1 + rng.byte_below(2) };
     let group_of: Vec<u8> = domains.iter().map(|_| rng.byte_below(groups)).collect();
     let entries = Entries::random(rng);
-    let opposing = rng.once_in(2);
+    let opposing = parted || rng.once_in(2);
     let mut problem = Problem {
         ceilings: vec![0; objectives],
         domains,
@@ -215,7 +237,7 @@ pub fn random_problem(rng: &mut Rng, shape: &Shape) -> Problem {
         problem.tables.push(table);
     }
     problem.ceilings = random_ceilings(rng, &problem);
-    problem
+    (problem, group_of)
 }
 
 /// For each variable the least variable that tables connect it with.

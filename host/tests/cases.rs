@@ -7,18 +7,26 @@ use frontier_host::chooser;
 use frontier_host::examples::{bent, brimful, colours, lone, pair, staircase, three};
 use frontier_host::limits::{LEAST_WORK, MAX_BYTES};
 use frontier_host::owned::{
-    cut_of, frontier_by, frontier_of, list_text_by, Buffers, Listed, SolveCall,
+    cut_by, frontier_by, frontier_of, list_text_by, Buffers, Cut, CutCall, Listed, SolveCall,
 };
 use frontier_host::problem::{Problem, Table};
 use frontier_host::refusal::Refusal;
 
 type BoundCall = fn(&[u8], &[u8]) -> Least;
 
+type ListCall = fn(&[u8], &mut [Point], &mut [u32]) -> Answer;
+
 /// The bound calls of the brute force and of the static library; each case is asked of both.
 const BOUND_CALLS: [BoundCall; 2] = [bound_prefix, chooser::bound_prefix];
 
 /// The flat calls of both; each case is asked of both.
 const SOLVE_CALLS: [SolveCall; 2] = [solve_problem, chooser::solve_problem];
+
+/// The cut calls of both; each case is asked of both.
+const CUT_CALLS: [CutCall; 2] = [solve_cut, chooser::solve_cut];
+
+/// The calls for point records of both; each case is asked of both.
+const LIST_CALLS: [ListCall; 2] = [list_points, chooser::list_points];
 
 /// A refusal with this number and place.
 fn refusal(number: u8, place: u32) -> Refusal {
@@ -47,9 +55,13 @@ fn assert_refused(bytes: &[u8], number: u8, place: u32) {
         let flat = solve(bytes, &mut costs, &mut choices, &mut work);
         assert_eq!(flat, expected.into());
     }
-    let cut = solve_cut(bytes, &[], &mut costs, &mut choices, &mut work);
-    assert_eq!(cut, expected.into());
-    assert_eq!(list_points(bytes, &mut points, &mut work), expected.into());
+    for cut in CUT_CALLS {
+        let halves = cut(bytes, &[], &mut costs, &mut choices, &mut work);
+        assert_eq!(halves, expected.into());
+    }
+    for list in LIST_CALLS {
+        assert_eq!(list(bytes, &mut points, &mut work), expected.into());
+    }
     for bound in BOUND_CALLS {
         assert_eq!(bound(bytes, &[]), expected.into());
     }
@@ -73,6 +85,13 @@ fn solve_within(problem: &Problem, costs: usize, choices: usize) -> Answer {
     });
     assert_eq!(answers[0], answers[1]);
     answers[0]
+}
+
+/// What the cut calls list, with room for 64 points; both must answer alike.
+fn cut_of(bytes: &[u8], sides: &[u8]) -> Result<Cut, Refusal> {
+    let [brute, library] = CUT_CALLS.map(|call| cut_by(call, bytes, sides));
+    assert_eq!(library, brute, "sides {sides:?}");
+    library
 }
 
 /// A problem of two objectives with this table behind an arity-0 one.
@@ -124,11 +143,13 @@ fn room_0_suffices_for_no_point_and_for_no_more() {
     assert_eq!(solve_within(&lone(1, 1), 0, 1), refusal(15, 0).into());
     assert_eq!(solve_within(&lone(1, 1), 1, 0), refusal(15, 0).into());
     assert_eq!(solve_within(&lone(1, 1), 1, 1), Answer::accepted(1));
-    let mut work = vec![5; LEAST_WORK];
-    let none = list_points(&lone(1, 0).encode(), &mut [], &mut work);
-    assert_eq!(none, Answer::accepted(0));
-    let one = list_points(&lone(1, 1).encode(), &mut [], &mut work);
-    assert_eq!(one, refusal(15, 0).into());
+    for list in LIST_CALLS {
+        let mut work = vec![5; LEAST_WORK];
+        let none = list(&lone(1, 0).encode(), &mut [], &mut work);
+        assert_eq!(none, Answer::accepted(0));
+        let one = list(&lone(1, 1).encode(), &mut [], &mut work);
+        assert_eq!(one, refusal(15, 0).into());
+    }
 }
 
 #[test]
@@ -152,13 +173,15 @@ fn room_is_at_most_64() {
         solve_within(&staircase([65, 200]), 9999, 9999),
         refusal(15, 0).into()
     );
-    let mut points = [junk_point(); 100];
-    let mut work = vec![5; LEAST_WORK];
-    let bytes = staircase([65, 200]).encode();
-    let full = list_points(&bytes, &mut points, &mut work);
-    assert_eq!(full, refusal(15, 0).into());
-    assert!(points.iter().all(|point| *point == junk_point()));
-    assert!(work.iter().all(|&number| number == 0));
+    for list in LIST_CALLS {
+        let mut points = [junk_point(); 100];
+        let mut work = vec![5; LEAST_WORK];
+        let bytes = staircase([65, 200]).encode();
+        let full = list(&bytes, &mut points, &mut work);
+        assert_eq!(full, refusal(15, 0).into());
+        assert!(points.iter().all(|point| *point == junk_point()));
+        assert!(work.iter().all(|&number| number == 0));
+    }
 }
 
 #[test]
@@ -241,11 +264,18 @@ fn side_lists_and_linked_records() {
 
 #[test]
 fn the_order_of_12_to_15() {
+    for call in CUT_CALLS {
+        assert_order_of_12_to_15(call);
+    }
+}
+
+/// Asserts which of several faults a cut call tells, and that it leaves its buffers right.
+fn assert_order_of_12_to_15(call: CutCall) {
     let bytes = colours([100, 100]).encode();
     let cut = |sides: &[u8], room: usize, work: usize| {
         let (mut costs, mut choices) = (vec![6; 2 * room], vec![6; 3 * room]);
         let mut work = vec![6; work];
-        let halves = solve_cut(&bytes, sides, &mut costs, &mut choices, &mut work);
+        let halves = call(&bytes, sides, &mut costs, &mut choices, &mut work);
         assert_eq!(
             (halves.answer.count, halves.first, halves.second),
             (0, 0, 0)
@@ -266,7 +296,6 @@ fn work_buffers_around_8192() {
     let bytes = three([3, 3]).encode();
     for length in [0, 1, LEAST_WORK - 1, LEAST_WORK, LEAST_WORK + 500] {
         let (mut costs, mut choices, mut work) = ([6; 6], [6; 3], vec![6; length]);
-        let mut points = [junk_point(); 3];
         let enough = length >= LEAST_WORK;
         let expected = if enough {
             Answer::accepted(3)
@@ -279,9 +308,13 @@ fn work_buffers_around_8192() {
             assert!(work.iter().all(|&x| x == if enough { 0 } else { 6 }));
             work.fill(6);
         }
-        assert_eq!(list_points(&bytes, &mut points, &mut work), expected);
-        assert!(work.iter().all(|&x| x == if enough { 0 } else { 6 }));
-        assert_eq!(points[0] == junk_point(), !enough);
+        for list in LIST_CALLS {
+            let mut points = [junk_point(); 3];
+            assert_eq!(list(&bytes, &mut points, &mut work), expected);
+            assert!(work.iter().all(|&x| x == if enough { 0 } else { 6 }));
+            assert_eq!(points[0] == junk_point(), !enough);
+            work.fill(6);
+        }
     }
 }
 

@@ -82,7 +82,9 @@ fn calls(text: &str) -> BTreeSet<&str> {
 #[test]
 fn rust_has_the_calls_of_the_header() {
     let expected = calls(HEADER);
-    assert!(expected.contains("frontier_solve") && expected.contains("frontier_bound"));
+    for call in ["solve", "cut", "bound", "points"].map(|name| format!("frontier_{name}")) {
+        assert!(expected.contains(&call[..]), "{call}");
+    }
     assert_eq!(calls(include_str!("../src/chooser.rs")), expected);
 }
 
@@ -90,17 +92,32 @@ fn rust_has_the_calls_of_the_header() {
 const HOST: &str = env!("CARGO_MANIFEST_DIR");
 
 /// What `tests/c/calls.c` prints: of each plain call number, place, count, how much of the work
-/// memory is not zero, and the points; of each bound call number, place and the four numbers.
+/// memory is not zero, and the points; of each cut call the same with both half sizes after the
+/// count; of each bound call number, place and the four numbers; of a point record its size and
+/// where the choice starts; of each call for point records the same as of the plain call, with the
+/// bytes changed past the points before these.
 const C_ANSWERS: &str = "\
 0 0 3 0 0 2:00 1 1:01 2 0:11
 15 0 0 0
 12 0 0 8192
 2 59 0 8192
+0 0 3 2 2 0 0 2:00 1 1:01 2 0:11
+0 0 3 1 3 0 0 2:00 1 1:01 2 0:11
+15 0 0 0 0 0
+13 0 0 0 0 8192
+13 0 0 0 0 8192
+14 16 0 0 0 8192
+2 59 0 0 0 8192
 0 0 4 0 0 0
 0 0 4 0 0 0
 0 0 259 0 0 0
 16 0 0 0 0 0
 2 16 0 0 0 0
+40 16
+0 0 3 0 0 0 2 0 0:000 1 1 0 0:010 2 0 0 0:110
+15 0 0 0 0
+12 0 0 8192 0
+2 59 0 8192 0
 ";
 
 /// Whether a compiler is installed. If not, it says so where the test harness hides nothing.

@@ -8,8 +8,9 @@ use std::collections::BTreeMap;
 use checker::case::{ask, Case};
 use checker::law::{
     agreement_law, bound_law, bytes_law, cut_law, exchange_law, flat_law, points_law,
-    sides_refusal, Bounder, Cutter, Solver,
+    sides_refusal, whole_law, Bounder, Cutter, Solver,
 };
+use checker::mismerged::{each_mischosen_cutter, each_mismerged_cutter};
 use checker::mutants::{
     each_faulty_bounder, each_faulty_lister, each_misread_bounder, each_missided_cutter,
     each_missized_cutter, each_untidy_solver, each_wrong_solver, wrong_lists, WRONG_LISTS,
@@ -51,9 +52,7 @@ fn a_cut_agrees_with_the_whole() {
         let refused = sides_refusal(&case.problem, &sides);
         ensure(refused.is_none(), || format!("{sides:?} are crossed"))?;
         cut_law(case, &sides, &solve_cut)?;
-        let cut = cut_of(&case.bytes, &sides).map(|(list, _)| list);
-        let equal = cut.is_err() || cut == frontier_of(&case.bytes);
-        ensure(equal, || format!("sides {sides:?} give {cut:?}"))
+        whole_law(case, &sides, &solve_cut, &solve_problem)
     });
 }
 
@@ -71,11 +70,11 @@ fn crossed_and_bad_sides_are_told() {
 fn sides_may_be_exchanged() {
     ask(CASES, |case| {
         let sides = uncrossed_sides(&mut case.rng, &case.problem);
-        exchange_law(case, &sides)?;
+        exchange_law(case, &sides, &solve_cut)?;
         let sides = random_sides(&mut case.rng, &case.problem);
-        exchange_law(case, &sides)?;
+        exchange_law(case, &sides, &solve_cut)?;
         let sides = bad_sides(&mut case.rng, &case.problem);
-        exchange_law(case, &sides)
+        exchange_law(case, &sides, &solve_cut)
     });
 }
 
@@ -202,8 +201,7 @@ fn wrong_lists_are_rejected() {
     ];
     for problem in examples {
         let mut case = Case::new(0);
-        case.bytes = problem.encode();
-        case.problem = problem;
+        case.replace(problem);
         assert_eq!(reject_wrong_lists(&mut case), Ok(()));
     }
 }
@@ -260,6 +258,14 @@ fn faulty_point_and_bound_calls_are_caught() {
 }
 
 #[test]
+fn faulty_point_calls_are_caught_by_mixed_cases() {
+    each_faulty_lister(|name, call| {
+        let differs = (0..FEW).any(|seed| Mixed::new(seed).compare_points(call).is_err());
+        assert!(differs, "{name} is not caught");
+    });
+}
+
+#[test]
 fn faulty_bound_calls_are_caught_by_mixed_cases() {
     let assert_differs = |name: &str, call: Bounder| {
         let differs = (0..FEW).any(|seed| Mixed::new(seed).compare_bounds(call).is_err());
@@ -269,18 +275,48 @@ fn faulty_bound_calls_are_caught_by_mixed_cases() {
     each_misread_bounder(assert_differs);
 }
 
+/// Asserts that the law of the cut complains of a faulty call.
+fn assert_cut_caught(name: &str, call: Cutter) {
+    assert_caught(name, |case| {
+        let sides = case.cut_at_random();
+        cut_law(case, &sides, call)
+    });
+}
+
 #[test]
 fn faulty_cut_calls_are_caught() {
-    let assert_cut_caught = |name: &str, call: Cutter| {
-        assert_caught(name, |case| {
-            let sides = uncrossed_sides(&mut case.rng, &case.problem);
-            cut_law(case, &sides, call)?;
-            let sides = random_sides(&mut case.rng, &case.problem);
-            cut_law(case, &sides, call)?;
-            let sides = bad_sides(&mut case.rng, &case.problem);
-            cut_law(case, &sides, call)
-        });
-    };
     each_missized_cutter(assert_cut_caught);
     each_missided_cutter(assert_cut_caught);
+    each_mismerged_cutter(assert_cut_caught);
+}
+
+#[test]
+fn faulty_cut_calls_are_caught_by_the_whole() {
+    each_mismerged_cutter(|name, call| {
+        assert_caught(name, |case| {
+            let sides = case.cut_at_random();
+            whole_law(case, &sides, call, &solve_problem)
+        });
+    });
+}
+
+/// A choice that depends on the order of pairs shows where the sides are exchanged.
+#[test]
+fn faulty_cut_calls_are_caught_by_exchanged_sides() {
+    each_mischosen_cutter(|name, call| {
+        assert_caught(name, |case| {
+            let sides = case.cut_at_random();
+            exchange_law(case, &sides, call)
+        });
+    });
+}
+
+#[test]
+fn faulty_cut_calls_are_caught_by_mixed_cases() {
+    let assert_differs = |name: &str, call: Cutter| {
+        let differs = (0..FEW).any(|seed| Mixed::new(seed).compare_cut(call).is_err());
+        assert!(differs, "{name} is not caught");
+    };
+    each_missized_cutter(assert_differs);
+    each_missided_cutter(assert_differs);
 }

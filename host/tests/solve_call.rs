@@ -3,6 +3,7 @@
 
 #[allow(dead_code)] // of the laws, only the one of the flat call is asked here
 mod checker;
+mod fence;
 
 use std::collections::BTreeSet;
 use std::ops::Range;
@@ -10,6 +11,7 @@ use std::thread;
 
 use checker::case::ask_seeds;
 use checker::law::agreement_law;
+use fence::{assert_fences, fenced, inside};
 use frontier_host::brute::{solve_problem, Answer};
 use frontier_host::chooser::{self, write_solve};
 use frontier_host::examples::{brimful, colours, objects, staircase, three};
@@ -149,26 +151,6 @@ fn junk_in_place_and_count_is_overwritten() {
             assert_eq!(answer, expected, "junk {junk:#x}");
         }
     }
-}
-
-/// How many elements stand on each side of a fenced buffer.
-const FENCE: usize = 8;
-
-/// The elements between two fences of one value.
-fn fenced<T: Copy>(inside: &[T], fence: T) -> Vec<T> {
-    [&[fence; FENCE], inside, &[fence; FENCE]].concat()
-}
-
-/// The elements of a fenced buffer that are lent.
-fn inside<T>(fenced: &mut [T]) -> &mut [T] {
-    let end = fenced.len() - FENCE;
-    &mut fenced[FENCE..end]
-}
-
-/// Asserts that both fences of a buffer stand as they were.
-fn assert_fences<T: Copy + PartialEq + std::fmt::Debug>(fenced: &[T], fence: T) {
-    assert_eq!(fenced[..FENCE], [fence; FENCE]);
-    assert_eq!(fenced[fenced.len() - FENCE..], [fence; FENCE]);
 }
 
 #[test]

@@ -1,17 +1,20 @@
 //! Test vectors beyond document 01's table, most of them worked examples of the source documents.
 
-use frontier_host::brute::{bound_prefix, list_points, solve_problem, Answer, Point};
+use frontier_host::brute::{bound_prefix, list_points, solve_cut, solve_problem, Answer, Point};
 use frontier_host::chooser;
 use frontier_host::examples::{
     all_clauses, colours, colours_first, constant, days_and_gain, objects, pair_with_constant,
     unary, xor,
 };
 use frontier_host::limits::LEAST_WORK;
-use frontier_host::owned::{cut_of, frontier_by, Listed, SolveCall};
+use frontier_host::owned::{cut_by, frontier_by, CutCall, Listed, SolveCall};
 use frontier_host::problem::{Problem, Table};
 
 /// The flat calls of the brute force and of the static library; each vector is asked of both.
 const SOLVE_CALLS: [SolveCall; 2] = [solve_problem, chooser::solve_problem];
+
+/// The cut calls of both.
+const CUT_CALLS: [CutCall; 2] = [solve_cut, chooser::solve_cut];
 
 /// Asserts that both calls list exactly these points.
 fn assert_points(problem: &Problem, expected: &[(&[u32], &[u8])]) {
@@ -62,14 +65,16 @@ fn objects_in_point_records() {
         costs: [9; 4],
         choice: [9; 24],
     };
-    let mut points = [junk; 5];
     let bytes = objects([13, 100, 100]).encode();
-    let answer = list_points(&bytes, &mut points, &mut vec![9; LEAST_WORK]);
-    assert_eq!(answer, Answer::accepted(3));
-    assert_eq!(points[1].costs, [6, 3, 7, 0]);
-    assert_eq!(points[1].choice[..4], [0, 0, 1, 1]);
-    assert_eq!(points[1].choice[4..], [0; 20]);
-    assert_eq!(points[3..], [junk; 2]);
+    for list in [list_points, chooser::list_points] {
+        let mut points = [junk; 5];
+        let answer = list(&bytes, &mut points, &mut vec![9; LEAST_WORK]);
+        assert_eq!(answer, Answer::accepted(3));
+        assert_eq!(points[1].costs, [6, 3, 7, 0]);
+        assert_eq!(points[1].choice[..4], [0, 0, 1, 1]);
+        assert_eq!(points[1].choice[4..], [0; 20]);
+        assert_eq!(points[3..], [junk; 2]);
+    }
 }
 
 /// The problem of the variables `from` and later, renumbered, with the tables within them.
@@ -142,8 +147,11 @@ fn all_2_clauses_over_ten_variables() {
 fn the_row_that_tells_halves_apart() {
     let bytes = pair_with_constant([2, 9]).encode();
     let expected = vec![Listed::new(&[1, 2], &[0, 0])];
-    for sides in [[0, 1], [1, 0]] {
-        assert_eq!(cut_of(&bytes, &sides), Ok((expected.clone(), [1, 2])));
+    for call in CUT_CALLS {
+        for sides in [[0, 1], [1, 0]] {
+            let cut = cut_by(call, &bytes, &sides);
+            assert_eq!(cut, Ok((expected.clone(), [1, 2])), "sides {sides:?}");
+        }
     }
 }
 

@@ -5,8 +5,8 @@ use std::env;
 use std::process::ExitCode;
 
 use frontier_host::bound::Least;
-use frontier_host::brute::Answer;
-use frontier_host::chooser::{write_bound, write_solve};
+use frontier_host::brute::{Answer, Halves, Point};
+use frontier_host::chooser::{write_bound, write_cut, write_points, write_solve};
 use frontier_host::limits::MAX_OBJECTIVES;
 use frontier_host::mixed::Mixed;
 
@@ -37,6 +37,40 @@ fn solve_on_heap(
     }
 }
 
+/// The cut call on copies that have exactly their lengths on the heap, and with junk where it
+/// writes, for the same reason.
+fn cut_on_heap(
+    problem: &[u8],
+    sides: &[u8],
+    costs: &mut [u32],
+    choices: &mut [u8],
+    work: &mut [u32],
+) -> Halves {
+    let (problem, sides): (Box<[u8]>, Box<[u8]>) = (problem.into(), sides.into());
+    let [mut place, mut count, mut first, mut second] = [0xa5a5_a5a5; 4].map(Box::new);
+    let number = write_cut(
+        &problem,
+        &sides,
+        costs,
+        choices,
+        work,
+        &mut place,
+        &mut count,
+        &mut first,
+        &mut second,
+    );
+    let answer = Answer {
+        number,
+        place: *place,
+        count: *count,
+    };
+    Halves {
+        answer,
+        first: *first,
+        second: *second,
+    }
+}
+
 /// The bound call on copies that have exactly their lengths on the heap, and with junk where it
 /// writes, for the same reason.
 fn bound_on_heap(problem: &[u8], prefix: &[u8]) -> Least {
@@ -48,6 +82,19 @@ fn bound_on_heap(problem: &[u8], prefix: &[u8]) -> Least {
         number,
         place: *place,
         least: *least,
+    }
+}
+
+/// The call for point records on a copy that has exactly its length on the heap, and with junk where
+/// it writes its place and count, for the same reason.
+fn points_on_heap(problem: &[u8], points: &mut [Point], work: &mut [u32]) -> Answer {
+    let problem: Box<[u8]> = problem.into();
+    let (mut place, mut count) = (Box::new(0xa5a5_a5a5), Box::new(0xa5a5_a5a5));
+    let number = write_points(&problem, points, work, &mut place, &mut count);
+    Answer {
+        number,
+        place: *place,
+        count: *count,
     }
 }
 
@@ -69,6 +116,8 @@ fn run_cases(cases: u64) -> Result<(), String> {
         let case = Mixed::new(seed);
         case.compare_bounds(bound_on_heap)?;
         case.compare_solve(solve_on_heap)?;
+        case.compare_cut(cut_on_heap)?;
+        case.compare_points(points_on_heap)?;
         let done = seed + 1;
         if done % PROGRESS == 0 && done < cases {
             println!("{done} of {cases} cases done");

@@ -4,6 +4,7 @@
 
 #include <inttypes.h>
 #include <stdio.h>
+#include <string.h>
 
 /* Two variables of two values, one objective with ceiling 9, one table over both variables. */
 static const uint8_t problem[] = {
@@ -39,6 +40,25 @@ static void print_list(size_t problem_len, size_t room, size_t work_len) {
     printf("\n");
 }
 
+/* Prints number, place, count, both half sizes, how many work numbers are not zero, and of each point costs and
+ * choices. The problem must be Pair, or be refused. */
+static void print_cut(const uint8_t *bytes, size_t bytes_len, const uint8_t *sides, size_t sides_len, size_t room) {
+    static uint32_t costs[FRONTIER_MAX_POINTS * 2], work[FRONTIER_LEAST_WORK];
+    static uint8_t choices[FRONTIER_MAX_POINTS * 2];
+    uint32_t place = 9, count = 9, first = 9, second = 9, kept = 0;
+    for (size_t i = 0; i < FRONTIER_LEAST_WORK; i++)
+        work[i] = 9;
+    uint8_t number = frontier_cut(bytes, bytes_len, sides, sides_len, costs, 2 * room, choices, 2 * room, work,
+                                  FRONTIER_LEAST_WORK, &place, &count, &first, &second);
+    for (size_t i = 0; i < FRONTIER_LEAST_WORK; i++)
+        kept += work[i] != 0;
+    printf("%u %" PRIu32 " %" PRIu32 " %" PRIu32 " %" PRIu32 " %" PRIu32, (unsigned)number, place, count, first,
+           second, kept);
+    for (uint32_t i = 0; i < count; i++)
+        printf(" %" PRIu32 " %" PRIu32 ":%u%u", costs[2 * i], costs[2 * i + 1], choices[2 * i], choices[2 * i + 1]);
+    printf("\n");
+}
+
 static void print_bound(size_t problem_len, const uint8_t *prefix, size_t prefix_len) {
     uint64_t least[FRONTIER_MAX_OBJECTIVES] = {9, 9, 9, 9};
     uint32_t place = 9;
@@ -49,14 +69,51 @@ static void print_bound(size_t problem_len, const uint8_t *prefix, size_t prefix
     printf("\n");
 }
 
+/* Prints number, place and count, how many work numbers are not zero, how many bytes past the points have changed, and
+ * of each point all costs, both choices and the last one, which Pair does not use. */
+static void print_points(size_t problem_len, size_t points_len, size_t work_len) {
+    static struct frontier_point points[FRONTIER_MAX_POINTS];
+    static uint32_t work[FRONTIER_LEAST_WORK];
+    uint32_t place = 9, count = 9, kept = 0, changed = 0;
+    memset(points, 9, sizeof points);
+    for (size_t i = 0; i < FRONTIER_LEAST_WORK; i++)
+        work[i] = 9;
+    uint8_t number = frontier_points(pair, problem_len, points, points_len, work, work_len, &place, &count);
+    for (size_t i = 0; i < FRONTIER_LEAST_WORK; i++)
+        kept += work[i] != 0;
+    for (size_t i = count * sizeof points[0]; i < sizeof points; i++)
+        changed += ((const uint8_t *)points)[i] != 9;
+    printf("%u %" PRIu32 " %" PRIu32 " %" PRIu32 " %" PRIu32, (unsigned)number, place, count, kept, changed);
+    for (uint32_t i = 0; i < count; i++) {
+        const uint32_t *costs = points[i].costs;
+        const uint8_t *choice = points[i].choice;
+        printf(" %" PRIu32 " %" PRIu32 " %" PRIu32 " %" PRIu32, costs[0], costs[1], costs[2], costs[3]);
+        printf(":%u%u%u", choice[0], choice[1], choice[FRONTIER_MAX_VARIABLES - 1]);
+    }
+    printf("\n");
+}
+
 int main(void) {
     print_list(sizeof pair, FRONTIER_MAX_POINTS, FRONTIER_LEAST_WORK);
     print_list(sizeof pair, 2, FRONTIER_LEAST_WORK);
     print_list(sizeof pair, 3, FRONTIER_LEAST_WORK - 1);
     print_list(sizeof pair - 1, 3, FRONTIER_LEAST_WORK);
+    static const uint8_t sides[] = {0, 1, 0}, one_side[] = {1, 1}, bad_sides[] = {0, 2};
+    print_cut(pair, sizeof pair, sides, 2, 3);
+    print_cut(pair, sizeof pair, one_side, 2, FRONTIER_MAX_POINTS);
+    print_cut(pair, sizeof pair, sides, 2, 2);
+    print_cut(pair, sizeof pair, sides, 3, 3);
+    print_cut(pair, sizeof pair, bad_sides, 2, 3);
+    print_cut(problem, sizeof problem, sides, 2, 3);
+    print_cut(pair, sizeof pair - 1, bad_sides, 2, 3);
     static const uint8_t prefix[] = {1, 0, 0};
     for (size_t length = 0; length <= sizeof prefix; length++)
         print_bound(sizeof problem, prefix, length);
     print_bound(sizeof problem - 1, prefix, 0);
+    printf("%u %u\n", (unsigned)sizeof(struct frontier_point), (unsigned)offsetof(struct frontier_point, choice));
+    print_points(sizeof pair, 4, FRONTIER_LEAST_WORK);
+    print_points(sizeof pair, 2, FRONTIER_LEAST_WORK);
+    print_points(sizeof pair, 3, FRONTIER_LEAST_WORK - 1);
+    print_points(sizeof pair - 1, 3, FRONTIER_LEAST_WORK);
     return 0;
 }

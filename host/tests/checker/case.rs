@@ -3,7 +3,9 @@
 use std::ops::Range;
 
 use frontier_host::problem::Problem;
-use frontier_host::random::{random_problem, Rng, Shape};
+use frontier_host::random::{
+    bad_sides, parted_problem, random_problem, random_sides, uncrossed_sides, Rng, Shape,
+};
 
 use super::Verdict;
 
@@ -26,6 +28,33 @@ impl Case {
             problem,
             bytes,
         }
+    }
+
+    /// Takes this problem in place of the random one.
+    pub fn replace(&mut self, problem: Problem) {
+        self.bytes = problem.encode();
+        self.problem = problem;
+    }
+
+    /// A side list for a cut: mostly one that no table crosses, else one that some may cross or that
+    /// 13 refuses. Every second time the problem is replaced by one that the sides part, since in
+    /// most others nearly all variables are linked.
+    pub fn cut_at_random(&mut self) -> Vec<u8> {
+        let rng = &mut self.rng;
+        match rng.below(20) {
+            0 => bad_sides(rng, &self.problem),
+            1 => random_sides(rng, &self.problem),
+            2..=9 => uncrossed_sides(rng, &self.problem),
+            10 => self.part(&Shape::many_variables()),
+            _ => self.part(&Shape::small()),
+        }
+    }
+
+    /// Takes a problem in two groups of variables, and gives the side list that parts them.
+    fn part(&mut self, shape: &Shape) -> Vec<u8> {
+        let (problem, sides) = parted_problem(&mut self.rng, shape);
+        self.replace(problem);
+        sides
     }
 }
 

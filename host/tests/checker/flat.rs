@@ -1,21 +1,12 @@
-//! What every element of the lent buffers must be after a call, and junk point records before it.
+//! What every element of the lent buffers must be after a call.
 
 use frontier_host::brute::{Answer, Point};
 use frontier_host::limits::{LEAST_WORK, MAX_POINTS};
 use frontier_host::owned::{Buffers, Listed};
 use frontier_host::problem::Problem;
-use frontier_host::random::Rng;
 use frontier_host::refusal::Refusal;
 
 use super::{ensure, Verdict};
-
-/// A point record with random contents.
-pub fn junk_point(rng: &mut Rng) -> Point {
-    Point {
-        costs: [0; 4].map(|_: u32| rng.bits() as u32),
-        choice: [0; 24].map(|_: u8| rng.bits() as u8),
-    }
-}
 
 /// What is known of a problem's frontier: its size, and the list if that is at most 64.
 pub struct Known<'a> {

@@ -3,14 +3,15 @@
 
 use frontier_host::brute::{bound_prefix, list_points, solve_cut, Answer, Halves, Least, Point};
 use frontier_host::limits::{LEAST_WORK, MAX_POINTS};
-use frontier_host::owned::{cut_of, frontier_of, Buffers, Listed};
+use frontier_host::owned::{cut_by, frontier_of, Buffers, Listed};
+use frontier_host::point_records::{junk_point, junk_points};
 use frontier_host::problem::{Problem, Table};
 use frontier_host::random::{junk, random_choice};
 use frontier_host::reading::read_problem;
 use frontier_host::refusal::Refusal;
 
 use super::case::Case;
-use super::flat::{junk_point, Known};
+use super::flat::Known;
 use super::{all_choices, check_bounds, check_frontier, consistent_choices, ensure};
 use super::{frontier_size, is_valid, record_starts, Verdict};
 
@@ -106,7 +107,7 @@ pub fn points_law(case: &mut Case, lister: Lister) -> Verdict {
     let (list, size) = listed_by_brute(case);
     let length = case.rng.below(size + 3);
     for length in [length, size, MAX_POINTS + 9] {
-        let before: Vec<Point> = (0..length).map(|_| junk_point(&mut case.rng)).collect();
+        let before = junk_points(&mut case.rng, length);
         let mut points = before.clone();
         let mut work = vec![case.seed as u32 | 1; LEAST_WORK];
         let answer = lister(&case.bytes, &mut points, &mut work);
@@ -192,8 +193,7 @@ pub fn cut_law(case: &mut Case, sides: &[u8], cutter: Cutter) -> Verdict {
             false => random_buffers(case, size),
         };
         let mut lent = before.clone();
-        let (costs, choices) = (&mut lent.costs, &mut lent.choices);
-        let cut = cutter(&case.bytes, sides, costs, choices, &mut lent.work);
+        let cut = lent.lend_cut(cutter, &case.bytes, sides);
         let answered = if cut.answer.number == 0 {
             sizes
         } else {
@@ -220,11 +220,29 @@ pub fn cut_law(case: &mut Case, sides: &[u8], cutter: Cutter) -> Verdict {
     Ok(())
 }
 
-/// Exchanging the sides keeps 13 and 14, and every point where neither call is refused.
-pub fn exchange_law(case: &Case, sides: &[u8]) -> Verdict {
+/// Where a cut is not refused it lists what the flat call lists.
+pub fn whole_law(case: &Case, sides: &[u8], cutter: Cutter, solver: Solver) -> Verdict {
+    let Ok((list, _)) = cut_by(cutter, &case.bytes, sides) else {
+        return Ok(());
+    };
+    let mut lent = Buffers::full();
+    let answer = lent.lend(solver, &case.bytes);
+    let whole = lent.listed(&case.bytes, answer);
+    ensure(whole.as_ref() == Ok(&list), || {
+        format!("sides {sides:?} give {list:?}, the whole {whole:?}")
+    })
+}
+
+/// The side list with its sides exchanged. A bad byte stays bad.
+pub fn exchanged(sides: &[u8]) -> Vec<u8> {
     let exchange = |&side: &u8| if side > 1 { side } else { 1 - side };
-    let exchanged: Vec<u8> = sides.iter().map(exchange).collect();
-    let (one, other) = (cut_of(&case.bytes, sides), cut_of(&case.bytes, &exchanged));
+    sides.iter().map(exchange).collect()
+}
+
+/// Exchanging the sides keeps 13 and 14, and every point where neither call is refused.
+pub fn exchange_law(case: &Case, sides: &[u8], cutter: Cutter) -> Verdict {
+    let cut = |sides: &[u8]| cut_by(cutter, &case.bytes, sides);
+    let (one, other) = (cut(sides), cut(&exchanged(sides)));
     let kept = match (&one, &other) {
         (Ok((list, _)), Ok((exchanged_list, _))) => list == exchanged_list,
         (Err(refusal), Ok(_)) | (Ok(_), Err(refusal)) => refusal.number == 15,

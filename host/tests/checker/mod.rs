@@ -4,6 +4,7 @@
 pub mod case;
 pub mod flat;
 pub mod law;
+pub mod mismerged;
 pub mod mutants;
 
 use frontier_host::limits::{MAX_DOMAIN, MAX_OBJECTIVES, MAX_TABLES, MAX_VARIABLES};
