@@ -8,6 +8,7 @@ use std::ops::Range;
 use crate::bound::{bound_prefix, Least};
 use crate::brute::{solve_cut, solve_problem, Answer, Halves};
 use crate::examples::brimful;
+use crate::hex::to_hex;
 use crate::limits::{LEAST_WORK, MAX_ARITY, MAX_DOMAIN, MAX_OBJECTIVES, MAX_TABLES, MAX_VARIABLES};
 use crate::owned::Buffers;
 use crate::problem::{Problem, Table};
@@ -87,11 +88,6 @@ pub fn compare_seeds(seeds: Range<u64>, compare: impl Fn(&Mixed) -> Result<(), S
     }
 }
 
-/// Bytes in hex, so that a difference can be repeated.
-pub(crate) fn hex(bytes: &[u8]) -> String {
-    bytes.iter().map(|byte| format!("{byte:02x}")).collect()
-}
-
 /// Compares a flat call with the brute force on one problem, each lent a copy of the buffers. A
 /// difference is told with the bytes in hex.
 pub fn compare_solve(
@@ -139,7 +135,7 @@ fn compare_outcomes<T: Debug + PartialEq>(
     } else {
         return Ok(());
     };
-    let bytes = hex(problem);
+    let bytes = to_hex(problem);
     Err(format!("{difference}, lengths {lengths:?}, bytes {bytes}"))
 }
 
@@ -154,7 +150,7 @@ pub fn compare_bound(
     if answer == expected {
         return Ok(());
     }
-    let bytes = hex(problem);
+    let bytes = to_hex(problem);
     Err(format!(
         "the call answers {answer:?}, the brute force {expected:?}, prefix {prefix:?}, bytes {bytes}"
     ))

@@ -137,14 +137,26 @@ pub fn read_bytes(path: &Path) -> Result<Vec<u8>, String> {
 /// Buffers with room for 64 points of any problem, full of junk.
 pub fn night_buffers() -> Buffers {
     let mut lent = Buffers::full();
+    fill_with_junk(&mut lent);
+    lent
+}
+
+pub fn fill_with_junk(lent: &mut Buffers) {
     lent.costs.fill(0xa5a5_a5a5);
     lent.choices.fill(0xa5);
     lent.work.fill(0xa5a5_a5a5);
-    lent
 }
 
 /// What the list program prints for these bytes, by the static library's plain call. What the
 /// buffers hold is left for the next problem.
 pub fn chosen_text(lent: &mut Buffers, bytes: &[u8]) -> String {
     list_text_by(chooser::solve_problem, lent, bytes)
+}
+
+/// The first line in which a text differs from the expected one, which it does.
+pub fn difference(text: &str, expected: &str) -> String {
+    let pairs = text.lines().zip(expected.lines());
+    let equal = pairs.take_while(|(line, due)| line == due).count();
+    let [line, due] = [text, expected].map(|text| text.lines().nth(equal).unwrap_or("nothing"));
+    format!("line {} DIFFERS: '{line}' instead of '{due}'", equal + 1)
 }

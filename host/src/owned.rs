@@ -132,6 +132,11 @@ fn spaced<T: ToString>(numbers: &[T]) -> String {
 /// buffers; they must have room for 64 points.
 pub fn list_text_by(call: SolveCall, lent: &mut Buffers, bytes: &[u8]) -> String {
     let answer = lent.lend(call, bytes);
+    answer_text(lent, bytes, answer)
+}
+
+/// What the list program prints for a problem with this answer, whose list is in the buffers.
+pub fn answer_text(lent: &Buffers, bytes: &[u8], answer: Answer) -> String {
     let list = match lent.listed(bytes, answer) {
         Ok(list) => list,
         Err(refusal) => return format!("refused {} at {}\n", refusal.number, refusal.place),

@@ -1,7 +1,8 @@
 //! Point records: junk in them, and the comparison of a call that writes them with the brute force.
 
 use crate::brute::{list_points, Answer, Point};
-use crate::mixed::{hex, Mixed};
+use crate::hex::to_hex;
+use crate::mixed::Mixed;
 use crate::random::Rng;
 
 /// A point record with random contents.
@@ -39,7 +40,7 @@ pub fn compare_points(
     } else {
         return Ok(());
     };
-    let (lengths, bytes) = ([points.len(), work.len()], hex(problem));
+    let (lengths, bytes) = ([points.len(), work.len()], to_hex(problem));
     Err(format!("{difference}, lengths {lengths:?}, bytes {bytes}"))
 }
 

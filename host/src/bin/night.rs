@@ -1,25 +1,25 @@
 //! Runs the night's problems through the static library's plain call, each with a time limit, and
 //! compares with the expected texts. See `docs/PERFORMANCE.md`.
 //!
-//! The call cannot be interrupted, so it runs in a worker: a second process of this program, which
-//! keeps one set of buffers from problem to problem. One that is too slow is killed and replaced.
+//! The call cannot be interrupted, so it runs in a worker, which keeps one set of buffers from
+//! problem to problem. One that is too slow is killed and replaced.
 
 use std::env;
-use std::io::{self, BufRead, BufReader, Write};
 use std::path::{Path, PathBuf};
-use std::process::{Child, ChildStdin, ChildStdout, Command, ExitCode, Stdio};
-use std::sync::mpsc::{self, Receiver, RecvTimeoutError, Sender};
-use std::thread;
+use std::process::ExitCode;
 use std::time::{Duration, Instant};
 
-use frontier_host::night::{chosen_text, night_buffers, read_bytes, read_night, NightProblem};
+use frontier_host::night::{
+    chosen_text, difference, night_buffers, read_bytes, read_night, NightProblem,
+};
+use frontier_host::worker::{asked_limit, serve, Ending, Worker, WORKER};
 
 const USAGE: &str = "usage: night [--limit SECONDS] [FOLDER]
        night --one FILE
 Runs all problems (*.bin) of FOLDER, by default those of the repository, each for at most SECONDS
-(default 2), and compares with the texts in FOLDER.expected, if there is such a file. The status is
-0 if no answer differs, 1 if one does or a process ends without an answer, and 2 if the run could
-not be made.
+of processor time (default 2), and compares with the texts in FOLDER.expected, if there is such a
+file. The status is 0 if no answer differs, 1 if one does or a process ends without an answer, and
+2 if the run could not be made.
 With --one it prints the list of the problem in FILE, without a limit.";
 
 const DEFAULT_FOLDER: &str = concat!(env!("CARGO_MANIFEST_DIR"), "/data/nightly");
@@ -30,9 +30,6 @@ const PROGRESS: usize = 20;
 
 /// So many of the slowest answers are told at the end.
 const SLOWEST: usize = 10;
-
-/// The argument that makes a process of this program a worker.
-const WORKER: &str = "--worker";
 
 /// What the arguments ask for.
 enum Task {
@@ -63,26 +60,11 @@ fn asked_task(arguments: &[String]) -> Result<Task, String> {
     Ok(Task::Night { folder, limit })
 }
 
-/// The time limit in an argument.
-fn asked_limit(argument: Option<&String>) -> Result<Duration, String> {
-    let text = argument.ok_or("--limit takes a number of seconds")?;
-    let seconds = text.parse().ok().filter(|&seconds: &f64| seconds > 0.0);
-    let limit = seconds.and_then(|seconds| Duration::try_from_secs_f64(seconds).ok());
-    limit.ok_or(format!("'{text}' is no number of seconds above 0"))
-}
-
-/// What a worker does: for each line of standard input, a problem's file, the list's text and an
-/// empty line. All problems go through one set of buffers, which starts with junk.
+/// What a worker does: for each problem's file the list's text. All problems go through one set of
+/// buffers, which starts with junk.
 fn work() -> Result<(), String> {
     let mut lent = night_buffers();
-    for line in io::stdin().lock().lines() {
-        let path = line.map_err(|error| format!("standard input cannot be read: {error}"))?;
-        let text = chosen_text(&mut lent, &read_bytes(Path::new(&path))?);
-        let mut output = io::stdout().lock();
-        let written = writeln!(output, "{text}").and_then(|()| output.flush());
-        written.map_err(|error| format!("standard output cannot be written: {error}"))?;
-    }
-    Ok(())
+    serve(|path| Ok(chosen_text(&mut lent, &read_bytes(Path::new(path))?)))
 }
 
 /// Prints the list of one problem.
@@ -90,81 +72,6 @@ fn print_one(path: &Path) -> Result<(), String> {
     let text = chosen_text(&mut night_buffers(), &read_bytes(path)?);
     print!("{text}");
     Ok(())
-}
-
-/// How a problem ended.
-enum Ending {
-    Answered {
-        text: String,
-        time: Duration,
-    },
-    TooSlow,
-    /// The worker ended by itself, as after a violation of memory.
-    Died,
-}
-
-/// A running worker. Its process ends with it.
-struct Worker {
-    process: Child,
-    paths: ChildStdin,
-    answers: Receiver<String>,
-}
-
-impl Worker {
-    fn start() -> io::Result<Worker> {
-        let mut process = Command::new(env::current_exe()?)
-            .arg(WORKER)
-            .stdin(Stdio::piped())
-            .stdout(Stdio::piped())
-            .spawn()?;
-        let paths = process.stdin.take().expect("standard input is piped");
-        let output = process.stdout.take().expect("standard output is piped");
-        let (sender, answers) = mpsc::channel();
-        // A thread reads the answers, because reading itself has no time limit.
-        thread::spawn(move || forward_answers(output, &sender));
-        Ok(Worker {
-            process,
-            paths,
-            answers,
-        })
-    }
-
-    /// Hands a problem to the worker and waits for the answer, but no longer than the limit.
-    fn ask(&mut self, path: &Path, limit: Duration) -> Ending {
-        let start = Instant::now();
-        if writeln!(self.paths, "{}", path.display()).is_err() {
-            return Ending::Died;
-        }
-        match self.answers.recv_timeout(limit) {
-            Ok(text) => Ending::Answered {
-                text,
-                time: start.elapsed(),
-            },
-            Err(RecvTimeoutError::Timeout) => Ending::TooSlow,
-            Err(RecvTimeoutError::Disconnected) => Ending::Died,
-        }
-    }
-}
-
-impl Drop for Worker {
-    fn drop(&mut self) {
-        // Both fail only for a process that has ended already.
-        let _ = self.process.kill();
-        let _ = self.process.wait();
-    }
-}
-
-/// Sends on each answer that a worker prints: its lines up to an empty one.
-fn forward_answers(output: ChildStdout, sender: &Sender<String>) {
-    let mut text = String::new();
-    for line in BufReader::new(output).lines().map_while(Result::ok) {
-        if !line.is_empty() {
-            text.push_str(&line);
-            text.push('\n');
-        } else if sender.send(std::mem::take(&mut text)).is_err() {
-            return;
-        }
-    }
 }
 
 /// What has come of the problems so far.
@@ -232,14 +139,6 @@ impl Report {
     }
 }
 
-/// The first line in which a text differs from the expected one, which it does.
-fn difference(text: &str, expected: &str) -> String {
-    let pairs = text.lines().zip(expected.lines());
-    let equal = pairs.take_while(|(line, due)| line == due).count();
-    let [line, due] = [text, expected].map(|text| text.lines().nth(equal).unwrap_or("nothing"));
-    format!("line {} DIFFERS: '{line}' instead of '{due}'", equal + 1)
-}
-
 /// Runs a folder's problems; whether all is as expected.
 fn run_night(folder: &Path, limit: Duration) -> Result<bool, String> {
     let problems = read_night(folder)?;
@@ -249,13 +148,11 @@ fn run_night(folder: &Path, limit: Duration) -> Result<bool, String> {
     let expected = problems.iter().filter(|problem| problem.expected.is_some());
     let (all, expected, seconds) = (problems.len(), expected.count(), limit.as_secs_f64());
     println!("{all} problems, {expected} with an expected text, {seconds} s for each");
-    let start_worker =
-        || Worker::start().map_err(|error| format!("a second process cannot start: {error}"));
-    let (start, mut report, mut worker) = (Instant::now(), Report::default(), start_worker()?);
+    let (start, mut report, mut worker) = (Instant::now(), Report::default(), Worker::start()?);
     for problem in &problems {
-        let ending = worker.ask(&problem.path, limit);
+        let ending = worker.ask(&problem.path.display().to_string(), limit);
         if !matches!(ending, Ending::Answered { .. }) {
-            worker = start_worker()?;
+            worker = Worker::start()?;
         }
         report.add(problem, ending);
         if report.done % PROGRESS == 0 && report.done < all {

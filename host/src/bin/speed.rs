@@ -1,0 +1,199 @@
+//! Measures the search on the repository's problems, the chooser and plain Rust in the same run, and
+//! prints a table. See `docs/PERFORMANCE.md`.
+
+use std::env;
+use std::io::{self, IsTerminal, Write};
+use std::path::Path;
+use std::process::ExitCode;
+use std::time::Duration;
+
+use frontier_host::plain::{Settings, SETTINGS};
+use frontier_host::reading::read_problem;
+use frontier_host::speed::cases::{only_family, read_cases, Case};
+use frontier_host::speed::growth::growth_cases;
+use frontier_host::speed::report::{Columns, Report, Runs, SLOW};
+use frontier_host::speed::sides::{serve_chooser, ChooserSide, PlainSide, Run};
+use frontier_host::speed::toulbar2;
+use frontier_host::worker::{asked_limit, WORKER};
+
+const USAGE: &str = "usage: speed [--limit SECONDS] [--only FAMILY] [--plain-only] [--growth]
+             [--settings NAME=VALUE,..]
+Runs the problems of data/nightly and data/stress through the chooser and through plain Rust, each
+for at most SECONDS of processor time (default 2), compares the answers with the expected ones, and
+prints a table with a row for each family: the first part of a problem's name that is no number.
+  --only FAMILY  runs one family
+  --plain-only   leaves the chooser out
+  --growth       runs generated problems of growing size instead: n, d and p in turn
+  --settings     changes how plain Rust works:";
+
+/// The folders of problems.
+const FOLDERS: [&str; 2] = [
+    concat!(env!("CARGO_MANIFEST_DIR"), "/data/nightly"),
+    concat!(env!("CARGO_MANIFEST_DIR"), "/data/stress"),
+];
+
+/// What the arguments ask for.
+struct Options {
+    limit: Duration,
+    only: Option<String>,
+    settings: Settings,
+    plain_only: bool,
+    growth: bool,
+}
+
+/// What the arguments ask for, or what is wrong with them.
+fn asked_options(arguments: &[String]) -> Result<Options, String> {
+    let mut options = Options {
+        limit: SLOW,
+        only: None,
+        settings: Settings::default(),
+        plain_only: false,
+        growth: false,
+    };
+    let mut rest = arguments.iter();
+    while let Some(argument) = rest.next() {
+        match argument.as_str() {
+            "--limit" => options.limit = asked_limit(rest.next())?,
+            "--only" => options.only = Some(rest.next().ok_or("--only takes a family")?.clone()),
+            "--settings" => {
+                let text = rest.next().ok_or("--settings takes settings")?;
+                options.settings = Settings::parse(text)?;
+            }
+            "--plain-only" => options.plain_only = true,
+            "--growth" => options.growth = true,
+            other => return Err(format!("there is no option '{other}'")),
+        }
+    }
+    Ok(options)
+}
+
+impl Options {
+    fn cases(&self) -> Result<Vec<Case>, String> {
+        let mut cases = Vec::new();
+        if self.growth {
+            cases = growth_cases();
+        } else {
+            for folder in FOLDERS {
+                cases.extend(read_cases(Path::new(folder))?);
+            }
+        }
+        match &self.only {
+            Some(family) => only_family(cases, family),
+            None => Ok(cases),
+        }
+    }
+
+    fn columns(&self) -> Columns {
+        Columns {
+            chooser: !self.plain_only,
+            toulbar2: toulbar2::is_installed(),
+        }
+    }
+}
+
+/// The sides that run.
+struct Sides {
+    chooser: Option<ChooserSide>,
+    plain: PlainSide,
+    toulbar2: bool,
+    limit: Duration,
+}
+
+impl Sides {
+    fn start(options: &Options, columns: Columns) -> Result<Sides, String> {
+        let chooser = match columns.chooser {
+            true => Some(ChooserSide::start(options.limit)?),
+            false => None,
+        };
+        Ok(Sides {
+            chooser,
+            plain: PlainSide::new(options.settings, options.limit),
+            toulbar2: columns.toulbar2,
+            limit: options.limit,
+        })
+    }
+
+    fn run(&mut self, case: &Case) -> Result<Runs, String> {
+        let chooser = self.chooser.as_mut().map(|side| side.run(&case.bytes));
+        let plain = self.plain.run(&case.bytes);
+        Ok(Runs {
+            chooser: chooser.transpose()?,
+            plain,
+            toulbar2: self.run_toulbar2(case).transpose()?,
+        })
+    }
+
+    /// toulbar2 knows problems with one objective only.
+    fn run_toulbar2(&self, case: &Case) -> Option<Result<Run, String>> {
+        let problem = read_problem(&case.bytes).ok()?.problem;
+        let asked = self.toulbar2 && problem.objectives() == 1;
+        asked.then(|| toulbar2::run(&problem, self.limit))
+    }
+}
+
+/// Says on a terminal which problem is under way; an empty line takes it back.
+fn show_progress(line: &str) {
+    let mut output = io::stderr();
+    if output.is_terminal() {
+        // Nothing is lost where it cannot be shown.
+        let _ = write!(output, "\r\x1b[K{line}").and_then(|()| output.flush());
+    }
+}
+
+/// Runs all problems and prints the table; whether all is as expected.
+fn run_speed(options: &Options) -> Result<bool, String> {
+    let cases = options.cases()?;
+    let columns = options.columns();
+    let mut sides = Sides::start(options, columns)?;
+    let mut report = Report::new(columns);
+    for (number, case) in (1..).zip(&cases) {
+        show_progress(&format!("{number} of {}: {}", cases.len(), case.name));
+        report.add(case, &sides.run(case)?);
+    }
+    show_progress("");
+    print_report(options, columns, &report);
+    Ok(report.faults.is_empty())
+}
+
+fn print_report(options: &Options, columns: Columns, report: &Report) {
+    let (slow, limit) = (SLOW.as_secs_f64(), options.limit.as_secs_f64());
+    println!("Processor time in seconds. A problem is given up after {limit} s.");
+    println!("Over: more than {slow} s, or given up. Nodes: values tried.");
+    if columns.chooser {
+        println!("Ratio: the chooser's speed over plain Rust's, 1 is equal and less is slower.");
+    }
+    match columns.toulbar2 {
+        true => {
+            println!("toulbar2 runs on problems with one objective; its times are what passes.")
+        }
+        false => println!("toulbar2 is not installed, so there is no column for it."),
+    }
+    println!("\n{}", report.table());
+    for fault in &report.faults {
+        println!("{fault}");
+    }
+    println!("{}", report.summary());
+}
+
+fn main() -> ExitCode {
+    let arguments: Vec<String> = env::args().skip(1).collect();
+    let done = match arguments.as_slice() {
+        [only] if only == WORKER => serve_chooser().map(|()| true),
+        [only] if only == "--help" => {
+            println!("{USAGE}\n{SETTINGS}");
+            Ok(true)
+        }
+        _ => match asked_options(&arguments) {
+            Err(complaint) => Err(format!("{complaint}\n{USAGE}\n{SETTINGS}")),
+            Ok(options) => run_speed(&options),
+        },
+    };
+    match done {
+        Ok(true) => ExitCode::SUCCESS,
+        Ok(false) => ExitCode::FAILURE,
+        Err(complaint) => {
+            eprintln!("speed: {complaint}");
+            ExitCode::from(2)
+        }
+    }
+}

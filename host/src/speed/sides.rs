@@ -1,0 +1,125 @@
+//! The sides: the chooser over its C interface, in a worker because its call cannot be interrupted,
+//! and plain Rust. Both get junk in their buffers before each call; the call alone is timed.
+
+use std::time::Duration;
+
+use crate::chooser;
+use crate::clock::thread_time;
+use crate::hex::{from_hex, to_hex};
+use crate::night::{fill_with_junk, night_buffers};
+use crate::owned::{answer_text, Buffers};
+use crate::plain::{solve_within, Settings};
+use crate::worker::{self, serve, Worker};
+
+/// What one side made of a problem.
+pub struct Run {
+    pub ending: Ending,
+    /// Processor time, up to the end or until the problem was given up.
+    pub time: Duration,
+    /// How many values were tried, where that is known.
+    pub nodes: Option<u64>,
+}
+
+#[derive(Debug, PartialEq, Eq)]
+pub enum Ending {
+    /// The text that the list program prints.
+    Answered(String),
+    GivenUp,
+    /// The process ended without an answer.
+    Died,
+}
+
+/// The chooser, each problem with this limit.
+pub struct ChooserSide {
+    worker: Worker,
+    limit: Duration,
+}
+
+impl ChooserSide {
+    pub fn start(limit: Duration) -> Result<ChooserSide, String> {
+        let worker = Worker::start()?;
+        Ok(ChooserSide { worker, limit })
+    }
+
+    pub fn run(&mut self, bytes: &[u8]) -> Result<Run, String> {
+        let run = |ending, time| Run {
+            ending,
+            time,
+            nodes: None,
+        };
+        let ended = match self.worker.ask(&to_hex(bytes), self.limit) {
+            worker::Ending::Answered { text, .. } => {
+                let (time, text) = timed_answer(&text)?;
+                return Ok(run(Ending::Answered(text.to_string()), time));
+            }
+            worker::Ending::TooSlow => Ending::GivenUp,
+            worker::Ending::Died => Ending::Died,
+        };
+        self.worker = Worker::start()?;
+        Ok(run(ended, self.limit))
+    }
+}
+
+/// What the worker does: for each problem in hex a line with the nanoseconds of the call, and then
+/// the list's text.
+pub fn serve_chooser() -> Result<(), String> {
+    let mut lent = night_buffers();
+    serve(|line| {
+        let bytes = from_hex(line).ok_or("standard input has a line that is no hex")?;
+        fill_with_junk(&mut lent);
+        let start = thread_time();
+        let answer = lent.lend(chooser::solve_problem, &bytes);
+        let time = thread_time() - start;
+        let text = answer_text(&lent, &bytes, answer);
+        Ok(format!("{}\n{text}", time.as_nanos()))
+    })
+}
+
+/// The time and the text in a worker's answer.
+fn timed_answer(answer: &str) -> Result<(Duration, &str), String> {
+    let parts = answer.split_once('\n');
+    let timed = parts.and_then(|(time, text)| Some((time.parse().ok()?, text)));
+    let (time, text) = timed.ok_or("the second process answers without a time")?;
+    Ok((Duration::from_nanos(time), text))
+}
+
+/// Plain Rust with these settings, each problem with this limit.
+pub struct PlainSide {
+    settings: Settings,
+    limit: Duration,
+    lent: Buffers,
+}
+
+impl PlainSide {
+    pub fn new(settings: Settings, limit: Duration) -> PlainSide {
+        let lent = night_buffers();
+        PlainSide {
+            settings,
+            limit,
+            lent,
+        }
+    }
+
+    pub fn run(&mut self, bytes: &[u8]) -> Run {
+        let lent = &mut self.lent;
+        fill_with_junk(lent);
+        let start = thread_time();
+        let outcome = solve_within(
+            Some(self.limit),
+            &self.settings,
+            bytes,
+            &mut lent.costs,
+            &mut lent.choices,
+            lent.work.len(),
+        );
+        let time = thread_time() - start;
+        let text = outcome
+            .answer
+            .map(|answer| answer_text(lent, bytes, answer));
+        Run {
+            ending: text.map_or(Ending::GivenUp, Ending::Answered),
+            time,
+            nodes: Some(outcome.nodes),
+        }
+    }
+}
