@@ -4,8 +4,13 @@ pub mod BoundAnswers
 pub mod SolveSteps
 pub mod FoundRows
 pub mod ListVerdicts
+pub mod CopyOut
 pub mod SolveAnswers
 pub mod SolveEnds
 pub mod ListAnswers
+-- the cut call
+pub mod CutRefusals
+pub mod CutAnswers
+pub mod CutEnds
 -- walks by hand
 pub mod Lent

@@ -2,9 +2,8 @@
 use mathlib.Core.Path.{_≡_, sym, ap, _∙_, subst}
 use mathlib.Core.Bool.{true, false}
 use mathlib.Core.List.{List}
-use Prim.Native.Nat.{ℕ, zero, suc, _*_, _≤_, min}
+use Prim.Native.Nat.{ℕ, _*_, _≤_, min}
 use native.Mathlib.Omega.{arith}
-use native.Mathlib.Nat.{le-div-iff-mul-le}
 use lib.Dec.{ltb}
 use lib.ListN.{length, replicate}
 use Rattle.model.specs.Basics.{All}
@@ -23,14 +22,8 @@ use Rattle.listing.specs.Says.{FoundFor}
 use Rattle.frontier.specs.Says.{SolveSays, refusal}
 use Rattle.frontier.proofs.ListVerdicts.{full-verdict, list-verdict}
 use Rattle.frontier.proofs.SolveAnswers.{listed, full-solve, list-solve}
-use Rattle.frontier.proofs.SolveSteps.{objectives-are, variables-are}
 use Rattle.frontier.proofs.FoundRows as rows
-
--- as many points as the room fit the buffer
-fits : (k a b : ℕ) → 1 ≤ b → k ≤ divided a b → k * b ≤ a
-unfolding divided
-fits k a zero h l = absurd (omega arith)
-fits k a (suc b) h l = le-div-iff-mul-le h .0 l
+use Rattle.frontier.proofs.CopyOut as out
 
 module _ (s : List ℕ) (r : DG.Reading) (a : AcceptedReading s r) (c x w : List ℕ) (enough : workNeed ≤ length w) where
   abbrev n : ℕ
@@ -39,18 +32,13 @@ module _ (s : List ℕ) (r : DG.Reading) (a : AcceptedReading s r) (c x w : List
   abbrev p : ℕ
   p = r .head .objectives
 
-  -- the room by the buffers' lengths
-  room-is : min (divided (length c) p) (min (divided (length x) n) maxPoints) ≡ roomOf (problemOf s) c x
-  unfolding roomOf
-  room-is = λ i. min (divided (length c) (objectives-are s r a i)) (min (divided (length x) (variables-are s r a i)) maxPoints)
-
   module _ (room : ℕ) (room-as : room ≡ min (divided (length c) p) (min (divided (length x) n) maxPoints)) (f : DF.Found) (w1 : List ℕ) (says : FoundFor (problemOf s) room w w1 f) where
     small : room ≤ maxPoints
     small = omega (arith, room-as)
 
     -- the room's test, of the problem that was read
     told : f .full ≡ ltb (roomOf (problemOf s) c x) (length (frontier (problemOf s)))
-    told = rows.told s r a room small w w1 enough f says ∙ ap (λ k. ltb k (length (frontier (problemOf s)))) (room-as ∙ room-is)
+    told = rows.told s r a room small w w1 enough f says ∙ ap (λ k. ltb k (length (frontier (problemOf s)))) (room-as ∙ out.room-is s r a c x)
 
     cleared : (w2 : List ℕ) → w2 ≡ replicate (length w1) 0 → w2 ≡ replicate (length w) 0
     cleared w2 e = e ∙ ap (λ k. replicate k 0) (rows.kept s r a room small w w1 enough f says)
@@ -67,10 +55,10 @@ module _ (s : List ℕ) (r : DG.Reading) (a : AcceptedReading s r) (c x w : List
       memory = omega (arith, rows.kept s r a room small w w1 enough f says, enough)
 
       pub costs-asked : (listEnd ≤ length w1) × (f .count ≤ maxPoints) × (p ≤ maxObjectives) × (f .count * p ≤ length c)
-      costs-asked = (memory, omega (arith, few), a .few-objectives .1, fits (f .count) (length c) p (a .few-objectives .0) (omega (arith, few)))
+      costs-asked = out.costs-asked s r a c x w1 (f .count) memory few
 
       pub choices-asked : (listEnd ≤ length w1) × (f .count ≤ maxPoints) × (n ≤ maxVariables) × (f .count * n ≤ length x) × All (λ t. All Byte (t .choice)) (listIn p n w1 0 (f .count))
-      choices-asked = (memory, omega (arith, few), a .few-variables .1, fits (f .count) (length x) n (a .few-variables .0) (omega (arith, few)), rows.hold s r a room small w w1 enough f says t .bytes)
+      choices-asked = out.choices-asked s r a c x w1 (f .count) memory few (rows.list-is s r a room small w w1 enough f says t)
 
       pub list-end : (c1 x1 w2 : List ℕ) → c1 ≡ over (flatCosts (listIn p n w1 0 (f .count))) c → x1 ≡ over (flatChoices (listIn p n w1 0 (f .count))) x → w2 ≡ replicate (length w1) 0 → SolveSays (solveOutcome s c x w) c1 x1 w2 (listed 0 0 (f .count))
       list-end c1 x1 w2 d e z =

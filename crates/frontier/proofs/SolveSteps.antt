@@ -64,7 +64,7 @@ module _ (s : List ℕ) (r : DG.Reading) (a : AcceptedReading s r) where
   tables-are = rw (a .domains, a .tables, a .objectives, a .variables) refl
 
   -- what is searched is the problem that was read
-  same-problem : problemAt objectives (r .head .ceilings) (take variables (r .sizes)) s start (r .head .tables) ≡ problemOf s
+  pub same-problem : problemAt objectives (r .head .ceilings) (take variables (r .sizes)) s start (r .head .tables) ≡ problemOf s
   unfolding problemOf
   same-problem = λ i. record { objectives = a .objectives i; ceilings = ceilings-are i; domains = a .domains i; tables = tables-are i }
 

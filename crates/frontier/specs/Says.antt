@@ -5,15 +5,17 @@ use Prim.Native.Nat.{ℕ, _≤_, min}
 use lib.ListN.{length, replicate}
 use Rattle.model.specs.Basics.{pick}
 use Rattle.model.specs.Limits.{maxPoints}
-use Rattle.model.specs.Refusals.{Verdict}
-use Rattle.model.specs.Reading.{problemOf}
+use Rattle.model.specs.Refusals.{Verdict, first}
+use Rattle.model.specs.Reading.{verdictOf, problemOf, placesOf}
 use Rattle.model.specs.Frontiers.{Point, point, frontier}
-use Rattle.model.specs.Calls.{SolveOutcome, ListOutcome, answers, workAfter, solveVerdict, boundOutcome}
+use Rattle.model.specs.Cuts.{linkedVerdict}
+use Rattle.model.specs.Calls.{SolveOutcome, ListOutcome, CutOutcome, answers, workAfter, workVerdict, sidesVerdict, solveVerdict, boundOutcome}
 use Rattle.model.specs.declared.Point as DP
 use Rattle.rows.specs.Rows.{listIn, RowsHold}
 use Rattle.frontier.specs.declared.Answer as DA
 use Rattle.frontier.specs.declared.Listed as DI
 use Rattle.frontier.specs.declared.Least as DL
+use Rattle.frontier.specs.declared.Halves as DH
 
 -- a refusal as an answer
 abbrev pub refusal : ℕ → ℕ → DA.Answer
@@ -93,3 +95,35 @@ pub record BoundExports (problem prefix : List ℕ) (result at : ℕ) (bounds : 
   pub number : result ≡ boundOutcome problem prefix .verdict .number
   pub place : at ≡ boundOutcome problem prefix .verdict .place
   pub least : bounds ≡ boundOutcome problem prefix .least
+
+-- what the cut call refuses before it searches: 1 to 11, 12, 13, and 14 with the place of the first linked record
+unfoldable pub cutRefusal : List ℕ → List ℕ → List ℕ → Verdict
+cutRefusal s sides work =
+    let q = problemOf s in
+    first (verdictOf s) (first (workVerdict work) (first (sidesVerdict q sides) (linkedVerdict sides (q .tables) (placesOf s))))
+
+-- a refusal as an answer of the cut call
+abbrev pub uncut : ℕ → ℕ → DH.Halves
+uncut number place = record { number = number; place = place; count = 0; first = 0; second = 0 }
+
+-- the cut call: its answer with how many points each half has, and the three lent buffers on exit
+pub record CutSays (o : CutOutcome) (costs′ choices′ work′ : List ℕ) (r : DH.Halves) : Type 0 where
+  pub number : r .number ≡ o .verdict .number
+  pub place : r .place ≡ o .verdict .place
+  pub count : r .count ≡ o .count
+  pub first-half : r .first ≡ o .first-half
+  pub second-half : r .second ≡ o .second-half
+  pub costs : costs′ ≡ o .costs
+  pub choices : choices′ ≡ o .choices
+  pub work : work′ ≡ o .work
+
+-- the same for C: the number is the result, the other numbers go through references
+pub record CutExports (o : CutOutcome) (costs′ choices′ work′ : List ℕ) (result at points points-0 points-1 : ℕ) : Type 0 where
+  pub number : result ≡ o .verdict .number
+  pub place : at ≡ o .verdict .place
+  pub count : points ≡ o .count
+  pub first-half : points-0 ≡ o .first-half
+  pub second-half : points-1 ≡ o .second-half
+  pub costs : costs′ ≡ o .costs
+  pub choices : choices′ ≡ o .choices
+  pub work : work′ ≡ o .work

@@ -1,15 +1,16 @@
 // The public calls, and their exports for C.
 ghost use mathlib.Core.Path.{_≡_};
 ghost use Prim.Native.Nat.{_≤_};
-ghost use Rattle.model.specs.Basics.{pick};
-ghost use Rattle.model.specs.Limits.{maxPoints, workNeed};
 ghost use lib.Dec.{eqb};
 ghost use lib.ListN.{length, replicate};
+ghost use Rattle.model.specs.Basics.{pick};
+ghost use Rattle.model.specs.Limits.{maxPoints, workNeed};
 ghost use Rattle.model.specs.Reading.{problemOf};
-ghost use Rattle.model.specs.Calls.{solveOutcome, listOutcome};
-ghost use Rattle.problem.specs.Says.{ReadSays};
+ghost use Rattle.model.specs.Calls.{solveOutcome, listOutcome, cutOutcome};
+ghost use Rattle.problem.specs.Says.{RefusalSays, ReadSays};
 ghost use Rattle.listing.specs.Says.{FoundFor};
-ghost use Rattle.frontier.specs.Says.{refusal, unlisted, answerOf, asPoints, SolveSays, SolveExports, ListedSays, ListSays, ListExports, BoundSays, BoundExports};
+ghost use Rattle.merge.specs.Says.{CutFound};
+ghost use Rattle.frontier.specs.Says.{refusal, unlisted, answerOf, asPoints, cutRefusal, uncut, SolveSays, SolveExports, ListedSays, ListSays, ListExports, CutSays, CutExports, BoundSays, BoundExports};
 
 // The least length of a work buffer.
 pub const LEAST_WORK: usize = 8192;
@@ -253,5 +254,161 @@ pub extern "C" fn frontier_bound(
     let bounds = answer.least;
     *least = bounds;
     *place = answer.place;
+    answer.number
+}
+
+// What the cut call answers: a refusal's number and place, or 0 and 0 with the count of points and how many each half has.
+pub struct Halves {
+    pub number: u8,
+    pub place: u32,
+    pub count: u32,
+    pub first: u32,
+    pub second: u32,
+}
+
+fn not_cut(number: u8, place: u32) -> Halves
+    ensures { λ r. ⌜ r ≡ uncut number place ⌝ }
+{
+    Halves {
+        number,
+        place,
+        count: 0,
+        first: 0,
+        second: 0,
+    }
+}
+
+// What the cut call refuses before it searches, of a problem that was read: number and place, else 0 and 0.
+fn cut_refusal(problem: &[u8], g: problem::Reading, sides: &[u8], work: &[u32]) -> problem::Refusal
+    requires { ⌜ ReadSays (now problem) g ⌝ }
+    ensures { λ f. ⌜ RefusalSays (cutRefusal (now (problem .entry)) (now (sides .entry)) (now (work .entry))) f ⌝ }
+{
+    if g.number != 0 {
+        return problem::Refusal {
+            number: g.number,
+            place: g.place,
+        };
+    }
+    if work.len() < LEAST_WORK {
+        return problem::Refusal {
+            number: 12,
+            place: 0,
+        };
+    }
+    let head = g.head;
+    let n = head.variables as usize;
+    if !views::sides_ok(sides, n) {
+        return problem::Refusal {
+            number: 13,
+            place: 0,
+        };
+    }
+    let p = head.objectives as usize;
+    let sizes = g.sizes;
+    let start = 6 + 4 * p + 3 * n;
+    views::first_linked(problem, start, head.tables, &sizes[..n], sides)
+}
+
+// The frontier list of a problem that may be cut, in work memory, made from the lists of its halves.
+fn cut_rows(
+    problem: &[u8],
+    g: problem::Reading,
+    sides: &[u8],
+    room: usize,
+    work: &mut [u32],
+) -> merge::Lists
+    requires { ⌜ ReadSays (now problem) g × (cutRefusal (now problem) (now sides) (now work) .number ≡ 0) × (room ≤ maxPoints) ⌝ }
+    ensures { λ f. ⌜ CutFound (problemOf (now (problem .entry))) (now (sides .entry)) room (now (work .entry)) (now (work .exit)) f ⌝ }
+{
+    let head = g.head;
+    let n = head.variables as usize;
+    let p = head.objectives as usize;
+    let sizes = g.sizes;
+    let ceilings = head.ceilings;
+    let start = 6 + 4 * p + 3 * n;
+    merge::cut_lists(
+        problem,
+        start,
+        head.tables,
+        &sizes[..n],
+        sides,
+        p,
+        ceilings,
+        room,
+        work,
+    )
+}
+
+// The same in the flat buffers.
+fn cut_accepted(
+    problem: &[u8],
+    g: problem::Reading,
+    sides: &[u8],
+    costs: &mut [u32],
+    choices: &mut [u8],
+    work: &mut [u32],
+) -> Halves
+    requires { ⌜ ReadSays (now problem) g × (cutRefusal (now problem) (now sides) (now work) .number ≡ 0) ⌝ }
+    ensures { λ r. ⌜ CutSays (cutOutcome (now (problem .entry)) (now (sides .entry)) (now (costs .entry)) (now (choices .entry)) (now (work .entry))) (now (costs .exit)) (now (choices .exit)) (now (work .exit)) r ⌝ }
+{
+    let head = g.head;
+    let n = head.variables as usize;
+    let p = head.objectives as usize;
+    let room = rows::room_of(costs.len(), choices.len(), p, n);
+    let lists = cut_rows(problem, g, sides, room, work);
+    if lists.full {
+        rows::clear(work);
+        return not_cut(15, 0);
+    }
+    let count = lists.count;
+    rows::copy_costs(work, count, n, p, costs);
+    rows::copy_choices(work, count, n, p, choices);
+    rows::clear(work);
+    Halves {
+        number: 0,
+        place: 0,
+        count: count as u32,
+        first: lists.first as u32,
+        second: lists.second as u32,
+    }
+}
+
+// The frontier list by the cut: that of the uncut problem, for any side list that no record has on both sides.
+pub fn solve_cut(
+    problem: &[u8],
+    sides: &[u8],
+    costs: &mut [u32],
+    choices: &mut [u8],
+    work: &mut [u32],
+) -> Halves
+    ensures { λ r. ⌜ CutSays (cutOutcome (now (problem .entry)) (now (sides .entry)) (now (costs .entry)) (now (choices .entry)) (now (work .entry))) (now (costs .exit)) (now (choices .exit)) (now (work .exit)) r ⌝ }
+{
+    let g = problem::read_problem(problem);
+    let refusal = cut_refusal(problem, g, sides, work);
+    if refusal.number != 0 {
+        return not_cut(refusal.number, refusal.place as u32);
+    }
+    cut_accepted(problem, g, sides, costs, choices, work)
+}
+
+#[no_mangle]
+pub extern "C" fn frontier_cut(
+    problem: &[u8],
+    sides: &[u8],
+    costs: &mut [u32],
+    choices: &mut [u8],
+    work: &mut [u32],
+    place: &mut u32,
+    count: &mut u32,
+    first: &mut u32,
+    second: &mut u32,
+) -> u8
+    ensures { λ r. ⌜ CutExports (cutOutcome (now (problem .entry)) (now (sides .entry)) (now (costs .entry)) (now (choices .entry)) (now (work .entry))) (now (costs .exit)) (now (choices .exit)) (now (work .exit)) r (now (place .exit)) (now (count .exit)) (now (first .exit)) (now (second .exit)) ⌝ }
+{
+    let answer = solve_cut(problem, sides, costs, choices, work);
+    *place = answer.place;
+    *count = answer.count;
+    *first = answer.first;
+    *second = answer.second;
     answer.number
 }

@@ -6,12 +6,12 @@ use Prim.Native.Nat.{ℕ, zero, suc, _+_, _≤_}
 use native.Mathlib.Omega.{arith}
 use lib.Dec.{eqb, ltb, leb}
 use lib.ListN.{length, drop, length-drop}
-use borrow.Author.Tests.{eqb-true, leb-true, ltb-false}
+use borrow.Author.Tests.{leb-true, ltb-false}
 use Rattle.model.specs.Basics.{pick, when, firstOf}
 use Rattle.model.specs.Limits.{maxBytes}
 use Rattle.model.specs.Refusals.{oversize, leftover, Verdict, verdict, accepted, refusedAt, first}
 use Rattle.model.specs.Reading.{startNumber, headVariables, headObjectives, headTables, headLength, headNumber, domainNumber, tableNumber, tableLength, domainsVerdict, tablesVerdict, domainsOf, tablesStart, bodyVerdict, verdictOf}
-use Rattle.model.proofs.Verdicts.{number-of-refused}
+use Rattle.model.proofs.Verdicts.{first-has, number-of-refused}
 use Rattle.model.proofs.HeadRecord.{head-good}
 use Rattle.model.proofs.DomainRecords.{domain-good, domains-end}
 use Rattle.model.proofs.TableRecord.{table-good}
@@ -53,15 +53,8 @@ module _ (s : List ℕ) where
   told-none : Told accepted
   told-none = omega arith
 
-  first-told : (a b : Verdict) → Told a → (a .number ≡ 0 → Told b) → Told (first a b)
-  first-told a b h k = go (eqb (a .number) 0) refl
-    where
-      go : (t : Bool) → eqb (a .number) 0 ≡ t → Told (pick t b a)
-      go true e = k (eqb-true _ _ e)
-      go false e = h
-
   record-told : (at n : ℕ) (v : Verdict) → at ≤ length s → n ≤ leftover → (n ≡ 0 → Told v) → Told (first (refusedAt at n) v)
-  record-told at n v h l k = first-told (refusedAt at n) v (go (eqb n 0)) (λ e. k (sym (number-of-refused at n) ∙ e))
+  record-told at n v h l k = first-has Told (refusedAt at n) v (go (eqb n 0)) (λ e. k (sym (number-of-refused at n) ∙ e))
     where
       go : (t : Bool) → Told (pick t accepted (verdict n at))
       go true = told-none
@@ -91,7 +84,7 @@ module _ (s : List ℕ) where
   body-told h =
       let n = headVariables s in
       let start = headLength s in
-      first-told (domainsVerdict n s start) (tablesVerdict (headTables s) (headObjectives s) (domainsOf s) s (tablesStart s)) (domains-told n start h)
+      first-has Told (domainsVerdict n s start) (tablesVerdict (headTables s) (headObjectives s) (domainsOf s) s (tablesStart s)) (domains-told n start h)
       (λ e. tables-told (headTables s) (headObjectives s) (domainsOf s) (tablesStart s) (domains-end n s start h e))
 
   all-told : Told (verdictOf s)

@@ -37,6 +37,21 @@ first-accepts a b h = go (eqb (a .number) 0) refl h
     go true e k = (eqb-true _ _ e, k)
     go false e k = absurd (eqb-false _ _ e k)
 
+-- what two verdicts have, the second where the first does not refuse, the first of them that refuses has
+pub first-has : (P : Verdict → Type 0) (a b : Verdict) → P a → (a .number ≡ 0 → P b) → P (first a b)
+first-has P a b h k = go (eqb (a .number) 0) refl
+  where
+    go : (t : Bool) → eqb (a .number) 0 ≡ t → P (pick t b a)
+    go true e = k (eqb-true _ _ e)
+    go false e = h
+
+pub first-assoc : (a b c : Verdict) → first (first a b) c ≡ first a (first b c)
+first-assoc a b c = go (eqb (a .number) 0) refl
+  where
+    go : (t : Bool) → eqb (a .number) 0 ≡ t → first (pick t b a) c ≡ pick t (first b c) a
+    go true e = refl
+    go false e = rw e
+
 pub number-of-refused : (at n : ℕ) → refusedAt at n .number ≡ n
 number-of-refused at n = go (eqb n 0) refl
   where
