@@ -27,12 +27,12 @@ module _ (s ss c x w : List ℕ) where
   ps = cutList (problemOf s) ss
 
   -- refused before the search
-  pub unchanged-cut : (n at : ℕ) → n ≡ cutRefusal s ss w .number → at ≡ cutRefusal s ss w .place → (n ≡ 0 → ⊥) → CutSays (cutOutcome s ss c x w) c x w (uncut n at)
+  pub unchanged-cut : (n at : ℕ) → n ≡ cutRefusal s ss (length w) .number → at ≡ cutRefusal s ss (length w) .place → (n ≡ 0 → ⊥) → CutSays (cutOutcome s ss c x w) c x w (uncut n at)
   unfolding cutOutcome workAfter
   unchanged-cut n at e f h =
-      let v = cutRefusal s ss w in
+      let v = cutRefusal s ss (length w) in
       let refuses : eqb (v .number) 0 ≡ false = ne-eqb (v .number) 0 (λ z. h (e ∙ z)) in
-      let other : eqb (v .number) full ≡ false = ne-eqb (v .number) full (λ z. omega (arith, cut-early s ss w .0)) in
+      let other : eqb (v .number) full ≡ false = ne-eqb (v .number) full (λ z. omega (arith, cut-early s ss (length w) .0)) in
       let is : told ≡ v = cut-verdict s ss w (roomOf (problemOf s) c x) ∙ rw refuses in
       record {
         number = rw is e;

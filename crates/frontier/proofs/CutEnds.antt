@@ -45,7 +45,7 @@ none-longer true b c h = absurd (false≢true h)
 none-longer false true c h = absurd (false≢true h)
 none-longer false false c h = (refl, refl, sym h)
 
-module _ (s : List ℕ) (r : DG.Reading) (a : AcceptedReading s r) (ss w : List ℕ) (none : cutRefusal s ss w .number ≡ 0) where
+module _ (s : List ℕ) (r : DG.Reading) (a : AcceptedReading s r) (ss w : List ℕ) (none : cutRefusal s ss (length w) .number ≡ 0) where
   abbrev n : ℕ
   n = r .head .variables
 
@@ -57,7 +57,7 @@ module _ (s : List ℕ) (r : DG.Reading) (a : AcceptedReading s r) (ss w : List 
 
   pub cut-asked : ((i : ℕ) → getD s i 0 < 256) → (room : ℕ) → room ≤ maxPoints → Accepted p (r .head .tables) (6 + 4 * p + 3 * n) room (r .head .ceilings) (take n (r .sizes)) s w × (sidesOk searched ss ≡ true) × (uncrossed ss (searched .tables) ≡ true)
   cut-asked bytes room small =
-      let free = cut-open s ss w none in
+      let free = cut-open s ss (length w) none in
       (asked s r a bytes room w small (free .1), subst (λ (q : Problem). sidesOk q ss ≡ true) (sym (same-problem s r a)) (free .2), subst (λ (q : Problem). uncrossed ss (q .tables) ≡ true) (sym (same-problem s r a)) (free .3))
 
   pub cut-found : (room : ℕ) (w1 : List ℕ) (l : DL.Lists) → CutFound searched ss room w w1 l → CutFound (problemOf s) ss room w w1 l
@@ -68,11 +68,11 @@ module _ (s : List ℕ) (r : DG.Reading) (a : AcceptedReading s r) (ss w : List 
     q = problemOf s
 
     same-list : cutList q ss ≡ frontier q
-    same-list = let free = cut-open s ss w none in cut-frontier q ss (free .2) (free .3)
+    same-list = let free = cut-open s ss (length w) none in cut-frontier q ss (free .2) (free .3)
 
     told : cutVerdict s ss w (roomOf q c x) ≡ pick (l .full) (verdict full 0) accepted
     told =
-        let opened : cutVerdict s ss w room ≡ cutRoomVerdict q ss room = cut-verdict s ss w room ∙ rw (eq-eqb (cutRefusal s ss w .number) 0 none) in
+        let opened : cutVerdict s ss w room ≡ cutRoomVerdict q ss room = cut-verdict s ss w room ∙ rw (eq-eqb (cutRefusal s ss (length w) .number) 0 none) in
         let longest : cutRoomVerdict q ss room ≡ pick (l .full) (verdict full 0) accepted = rw (room-told q ss room, same-list, says .full) in
         ap (cutVerdict s ss w) (sym (room-as ∙ out.room-is s r a c x)) ∙ opened ∙ longest
 
@@ -107,7 +107,7 @@ module _ (s : List ℕ) (r : DG.Reading) (a : AcceptedReading s r) (ss w : List 
       few = omega (arith, room-as, count-is, fits .2)
 
       memory : listEnd ≤ length w1
-      memory = omega (arith, says .long, cut-open s ss w none .1)
+      memory = omega (arith, says .long, cut-open s ss (length w) none .1)
 
       pub costs-asked : (listEnd ≤ length w1) × (l .count ≤ maxPoints) × (p ≤ maxObjectives) × (l .count * p ≤ length c)
       costs-asked = out.costs-asked s r a c x w1 (l .count) memory few

@@ -6,20 +6,20 @@ use Prim.Native.Nat.{ℕ, _+_, _*_, _≤_, _<_}
 use native.Mathlib.Omega.{arith}
 use lib.Dec.{eqb, ltb}
 use lib.ListN.{length, getD, take, drop}
-use borrow.Author.Tests.{ne-eqb, lt-ltb, le-ltb}
-use Rattle.model.specs.Basics.{All}
+use borrow.Author.Tests.{ltb-false, ne-eqb, lt-ltb, le-ltb}
+use Rattle.model.specs.Basics.{pick, All}
 use Rattle.model.specs.Limits.{maxBytes, workNeed}
-use Rattle.model.specs.Refusals.{workShort, badSides, full, Verdict, first}
+use Rattle.model.specs.Refusals.{workShort, badSides, full, Verdict, verdict, accepted, first}
 use Rattle.model.specs.Problems.{Table}
 use Rattle.model.specs.Reading.{headTables, domainsOf, tablesStart, tablesAt, placesAt, verdictOf, problemOf, placesOf}
 use Rattle.model.specs.Cuts.{allSides, sidesOk, crosses, linkedVerdict, uncrossed}
 use Rattle.model.specs.Calls.{workVerdict, sidesVerdict, cutRoomVerdict, cutVerdict}
 use Rattle.model.proofs.Bits.{pick-both}
 use Rattle.model.proofs.Elements.{all-map, all-drop}
-use Rattle.model.proofs.Verdicts.{first-has, first-assoc, first-accepts}
+use Rattle.model.proofs.Verdicts.{first-has, first-assoc, first-accepts, test-accepts}
 use Rattle.model.proofs.Reading.{accepted-place, accepted-parts}
 use Rattle.model.proofs.Places.{refused-number, place-limit}
-use Rattle.model.proofs.Calls.{work-accepts, sides-accept, linked-accepts}
+use Rattle.model.proofs.Calls.{sides-accept, linked-accepts}
 use Rattle.model.proofs.Cut.{sides-long}
 use Rattle.problem.specs.declared.Refusal as DR
 use Rattle.problem.specs.declared.Reading as DG
@@ -50,19 +50,20 @@ places-early s e =
     let short : length s ≤ maxBytes = accepted-parts s e .short in
     all-map (Whole (domainsOf s) s) (λ at. at ≤ maxBytes) (λ at w. omega (arith, w .long)) (placesOf s) (places-whole (domainsOf s) s (headTables s) (tablesStart s) (accepted-whole s e))
 
-module _ (s ss w : List ℕ) where
-  pub cut-early : Early (cutRefusal s ss w)
-  unfolding cutRefusal workVerdict sidesVerdict
+module _ (s ss : List ℕ) (k : ℕ) where
+  pub cut-early : Early (cutRefusal s ss k)
+  unfolding cutRefusal sidesVerdict
   cut-early =
       let q = problemOf s in
       let linked = linkedVerdict ss (q .tables) (placesOf s) in
+      let short = pick (ltb k workNeed) (verdict workShort 0) accepted in
       first-has Early (verdictOf s) _ (omega (arith, refused-number s), place-limit s)
-      (λ e. first-has Early (workVerdict w) _ (pick-both Early (ltb (length w) workNeed) (omega arith) (omega arith))
+      (λ e. first-has Early short _ (pick-both Early (ltb k workNeed) (omega arith) (omega arith))
       (λ _. first-has Early (sidesVerdict q ss) linked (pick-both Early (sidesOk q ss) (omega arith) (omega arith))
       (λ _. linked-early ss (q .tables) (placesOf s) (places-early s e))))
 
   -- the problem is refused
-  pub refused-cut : (n at : ℕ) → n ≡ verdictOf s .number → at ≡ verdictOf s .place → (n ≡ 0 → ⊥) → RefusalSays (cutRefusal s ss w) (record { number = n; place = at })
+  pub refused-cut : (n at : ℕ) → n ≡ verdictOf s .number → at ≡ verdictOf s .place → (n ≡ 0 → ⊥) → RefusalSays (cutRefusal s ss k) (record { number = n; place = at })
   unfolding cutRefusal
   refused-cut n at e f h =
       let refuses : eqb (verdictOf s .number) 0 ≡ false = ne-eqb (verdictOf s .number) 0 (λ z. h (e ∙ z)) in
@@ -70,44 +71,43 @@ module _ (s ss w : List ℕ) where
 
   module _ (e : verdictOf s .number ≡ 0) where
     -- the work buffer is too short
-    pub short-cut : length w < workNeed → RefusalSays (cutRefusal s ss w) (record { number = workShort; place = 0 })
-    unfolding cutRefusal workVerdict
-    short-cut h = says-verdict workShort 0 (rw (accepted-place s e, lt-ltb (length w) workNeed h) refl)
+    pub short-cut : k < workNeed → RefusalSays (cutRefusal s ss k) (record { number = workShort; place = 0 })
+    unfolding cutRefusal
+    short-cut h = says-verdict workShort 0 (rw (accepted-place s e, lt-ltb k workNeed h) refl)
 
-    module _ (enough : workNeed ≤ length w) where
+    module _ (enough : workNeed ≤ k) where
       -- a side list that is none
-      pub sides-cut : sidesOk (problemOf s) ss ≡ false → RefusalSays (cutRefusal s ss w) (record { number = badSides; place = 0 })
-      unfolding cutRefusal workVerdict sidesVerdict
-      sides-cut h = says-verdict badSides 0 (rw (accepted-place s e, le-ltb (length w) workNeed enough, h) refl)
+      pub sides-cut : sidesOk (problemOf s) ss ≡ false → RefusalSays (cutRefusal s ss k) (record { number = badSides; place = 0 })
+      unfolding cutRefusal sidesVerdict
+      sides-cut h = says-verdict badSides 0 (rw (accepted-place s e, le-ltb k workNeed enough, h) refl)
 
       -- else the linked records decide
-      pub linked-cut : sidesOk (problemOf s) ss ≡ true → (f : DR.Refusal) → RefusalSays (linkedVerdict ss (problemOf s .tables) (placesOf s)) f → RefusalSays (cutRefusal s ss w) f
-      unfolding cutRefusal workVerdict sidesVerdict
-      linked-cut h f says = rw (accepted-place s e, le-ltb (length w) workNeed enough, h) says
+      pub linked-cut : sidesOk (problemOf s) ss ≡ true → (f : DR.Refusal) → RefusalSays (linkedVerdict ss (problemOf s .tables) (placesOf s)) f → RefusalSays (cutRefusal s ss k) f
+      unfolding cutRefusal sidesVerdict
+      linked-cut h f says = rw (accepted-place s e, le-ltb k workNeed enough, h) says
 
   -- what is not refused
-  pub cut-open : cutRefusal s ss w .number ≡ 0 → (verdictOf s .number ≡ 0) × (workNeed ≤ length w) × (sidesOk (problemOf s) ss ≡ true) × (uncrossed ss (problemOf s .tables) ≡ true)
+  pub cut-open : cutRefusal s ss k .number ≡ 0 → (verdictOf s .number ≡ 0) × (workNeed ≤ k) × (sidesOk (problemOf s) ss ≡ true) × (uncrossed ss (problemOf s .tables) ≡ true)
   unfolding cutRefusal
   cut-open h =
       let q = problemOf s in
       let read = first-accepts (verdictOf s) _ h in
-      let work = first-accepts (workVerdict w) _ (read .1) in
+      let work = first-accepts (pick (ltb k workNeed) (verdict workShort 0) accepted) _ (read .1) in
       let both = first-accepts (sidesVerdict q ss) _ (work .1) in
-      (read .0, work-accepts w (work .0), sides-accept q ss (both .0), linked-accepts ss (q .tables) (placesOf s) (both .1))
+      (read .0, ltb-false k workNeed (test-accepts (ltb k workNeed) workShort 0 accepted refl (work .0) .0), sides-accept q ss (both .0), linked-accepts ss (q .tables) (placesOf s) (both .1))
 
-  pub cut-reading : (r : DG.Reading) → ReadSays s r → cutRefusal s ss w .number ≡ 0 → AcceptedReading s r
+  pub cut-reading : (r : DG.Reading) → ReadSays s r → cutRefusal s ss k .number ≡ 0 → AcceptedReading s r
   cut-reading r says h = read-accepted s r says (says .number ∙ cut-open h .0)
 
-  -- the whole verdict: this one, and then the room
-  pub cut-verdict : (room : ℕ) → cutVerdict s ss w room ≡ first (cutRefusal s ss w) (cutRoomVerdict (problemOf s) ss room)
-  unfolding cutVerdict cutRefusal
-  cut-verdict room =
-      let q = problemOf s in
-      let linked = linkedVerdict ss (q .tables) (placesOf s) in
-      let last = cutRoomVerdict q ss room in
-      let sided = first (sidesVerdict q ss) linked in
-      let worked = first (workVerdict w) sided in
-      rw (first-assoc (verdictOf s) worked last, first-assoc (workVerdict w) sided last, first-assoc (sidesVerdict q ss) linked last)
+-- the whole verdict: this one, and then the room
+pub cut-verdict : (s ss w : List ℕ) (room : ℕ) → cutVerdict s ss w room ≡ first (cutRefusal s ss (length w)) (cutRoomVerdict (problemOf s) ss room)
+unfolding cutVerdict cutRefusal workVerdict
+cut-verdict s ss w room =
+    let q = problemOf s in
+    let linked = linkedVerdict ss (q .tables) (placesOf s) in
+    let sided = first (sidesVerdict q ss) linked in
+    let last = cutRoomVerdict q ss room in
+    rw (first-assoc (verdictOf s) (first (workVerdict w) sided) last, first-assoc (workVerdict w) sided last, first-assoc (sidesVerdict q ss) linked last)
 
 -- the tests of the sides and of the linked records, by the fields of what was read
 module _ (s : List ℕ) (r : DG.Reading) (a : AcceptedReading s r) (ss : List ℕ) where

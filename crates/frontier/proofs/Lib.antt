@@ -12,5 +12,6 @@ pub mod ListAnswers
 pub mod CutRefusals
 pub mod CutAnswers
 pub mod CutEnds
+pub mod CutAsSolve
 -- walks by hand
 pub mod Lent

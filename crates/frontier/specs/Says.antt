@@ -2,14 +2,15 @@
 use mathlib.Core.Path.{_≡_}
 use mathlib.Core.List.{List, [], _∷_}
 use Prim.Native.Nat.{ℕ, _≤_, min}
+use lib.Dec.{ltb}
 use lib.ListN.{length, replicate}
 use Rattle.model.specs.Basics.{pick}
-use Rattle.model.specs.Limits.{maxPoints}
-use Rattle.model.specs.Refusals.{Verdict, first}
+use Rattle.model.specs.Limits.{maxPoints, workNeed}
+use Rattle.model.specs.Refusals.{workShort, Verdict, verdict, accepted, first}
 use Rattle.model.specs.Reading.{verdictOf, problemOf, placesOf}
 use Rattle.model.specs.Frontiers.{Point, point, frontier}
 use Rattle.model.specs.Cuts.{linkedVerdict}
-use Rattle.model.specs.Calls.{SolveOutcome, ListOutcome, CutOutcome, answers, workAfter, workVerdict, sidesVerdict, solveVerdict, boundOutcome}
+use Rattle.model.specs.Calls.{SolveOutcome, ListOutcome, CutOutcome, answers, workAfter, sidesVerdict, solveVerdict, boundOutcome}
 use Rattle.model.specs.declared.Point as DP
 use Rattle.rows.specs.Rows.{listIn, RowsHold}
 use Rattle.frontier.specs.declared.Answer as DA
@@ -96,11 +97,12 @@ pub record BoundExports (problem prefix : List ℕ) (result at : ℕ) (bounds : 
   pub place : at ≡ boundOutcome problem prefix .verdict .place
   pub least : bounds ≡ boundOutcome problem prefix .least
 
--- what the cut call refuses before it searches: 1 to 11, 12, 13, and 14 with the place of the first linked record
-unfoldable pub cutRefusal : List ℕ → List ℕ → List ℕ → Verdict
-cutRefusal s sides work =
+-- what the cut call refuses before it searches, with k numbers of work memory: 1 to 11, 12, 13, and 14 with the place of the first linked record
+unfoldable pub cutRefusal : List ℕ → List ℕ → ℕ → Verdict
+cutRefusal s sides k =
     let q = problemOf s in
-    first (verdictOf s) (first (workVerdict work) (first (sidesVerdict q sides) (linkedVerdict sides (q .tables) (placesOf s))))
+    let short = pick (ltb k workNeed) (verdict workShort 0) accepted in
+    first (verdictOf s) (first short (first (sidesVerdict q sides) (linkedVerdict sides (q .tables) (placesOf s))))
 
 -- a refusal as an answer of the cut call
 abbrev pub uncut : ℕ → ℕ → DH.Halves

@@ -278,10 +278,10 @@ fn not_cut(number: u8, place: u32) -> Halves
     }
 }
 
-// What the cut call refuses before it searches, of a problem that was read: number and place, else 0 and 0.
-fn cut_refusal(problem: &[u8], g: problem::Reading, sides: &[u8], work: &[u32]) -> problem::Refusal
+// What the cut call refuses before it searches, of a problem that was read, with `memory` numbers of work memory: number and place, else 0 and 0.
+fn cut_refusal(problem: &[u8], g: problem::Reading, sides: &[u8], memory: usize) -> problem::Refusal
     requires { ⌜ ReadSays (now problem) g ⌝ }
-    ensures { λ f. ⌜ RefusalSays (cutRefusal (now (problem .entry)) (now (sides .entry)) (now (work .entry))) f ⌝ }
+    ensures { λ f. ⌜ RefusalSays (cutRefusal (now (problem .entry)) (now (sides .entry)) memory) f ⌝ }
 {
     if g.number != 0 {
         return problem::Refusal {
@@ -289,7 +289,7 @@ fn cut_refusal(problem: &[u8], g: problem::Reading, sides: &[u8], work: &[u32]) 
             place: g.place,
         };
     }
-    if work.len() < LEAST_WORK {
+    if memory < LEAST_WORK {
         return problem::Refusal {
             number: 12,
             place: 0,
@@ -317,7 +317,7 @@ fn cut_rows(
     room: usize,
     work: &mut [u32],
 ) -> merge::Lists
-    requires { ⌜ ReadSays (now problem) g × (cutRefusal (now problem) (now sides) (now work) .number ≡ 0) × (room ≤ maxPoints) ⌝ }
+    requires { ⌜ ReadSays (now problem) g × (cutRefusal (now problem) (now sides) (length (now work)) .number ≡ 0) × (room ≤ maxPoints) ⌝ }
     ensures { λ f. ⌜ CutFound (problemOf (now (problem .entry))) (now (sides .entry)) room (now (work .entry)) (now (work .exit)) f ⌝ }
 {
     let head = g.head;
@@ -348,26 +348,30 @@ fn cut_accepted(
     choices: &mut [u8],
     work: &mut [u32],
 ) -> Halves
-    requires { ⌜ ReadSays (now problem) g × (cutRefusal (now problem) (now sides) (now work) .number ≡ 0) ⌝ }
+    requires { ⌜ ReadSays (now problem) g × (cutRefusal (now problem) (now sides) (length (now work)) .number ≡ 0) ⌝ }
     ensures { λ r. ⌜ CutSays (cutOutcome (now (problem .entry)) (now (sides .entry)) (now (costs .entry)) (now (choices .entry)) (now (work .entry))) (now (costs .exit)) (now (choices .exit)) (now (work .exit)) r ⌝ }
 {
     let head = g.head;
     let n = head.variables as usize;
     let p = head.objectives as usize;
-    let room = rows::room_of(costs.len(), choices.len(), p, n);
-    let lists = cut_rows(problem, g, sides, room, work);
+    let lists = cut_rows(
+        problem,
+        g,
+        sides,
+        rows::room_of(costs.len(), choices.len(), p, n),
+        work,
+    );
     if lists.full {
         rows::clear(work);
         return not_cut(15, 0);
     }
-    let count = lists.count;
-    rows::copy_costs(work, count, n, p, costs);
-    rows::copy_choices(work, count, n, p, choices);
+    rows::copy_costs(work, lists.count, n, p, costs);
+    rows::copy_choices(work, lists.count, n, p, choices);
     rows::clear(work);
     Halves {
         number: 0,
         place: 0,
-        count: count as u32,
+        count: lists.count as u32,
         first: lists.first as u32,
         second: lists.second as u32,
     }
@@ -384,9 +388,10 @@ pub fn solve_cut(
     ensures { λ r. ⌜ CutSays (cutOutcome (now (problem .entry)) (now (sides .entry)) (now (costs .entry)) (now (choices .entry)) (now (work .entry))) (now (costs .exit)) (now (choices .exit)) (now (work .exit)) r ⌝ }
 {
     let g = problem::read_problem(problem);
-    let refusal = cut_refusal(problem, g, sides, work);
+    let refusal = cut_refusal(problem, g, sides, work.len());
     if refusal.number != 0 {
-        return not_cut(refusal.number, refusal.place as u32);
+        let place = refusal.place as u32;
+        return not_cut(refusal.number, place);
     }
     cut_accepted(problem, g, sides, costs, choices, work)
 }

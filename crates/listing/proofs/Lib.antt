@@ -1,5 +1,4 @@
 -- The laws that the functions' proofs share.
-pub mod RowSteps
 pub mod Kept
 pub mod Made
 pub mod Passing

@@ -63,8 +63,8 @@ fn sum_of(work: &[u32], i: usize, j: usize, p: usize, n: usize) -> search::Best
 {
     let a = rows::LIST_AT + rows::ROW_WIDTH * i;
     let b = rows::LIST_AT + rows::ROW_WIDTH * j;
-    let x = search::costs_at(work, a);
-    let y = search::costs_at(work, b);
+    let x = rows::costs_at(work, a);
+    let y = rows::costs_at(work, b);
     let choice = choice_sum(work, a + 4, b + 4, n);
     search::Best {
         found: true,

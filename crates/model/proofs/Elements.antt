@@ -1,6 +1,7 @@
--- A property of every element: at one place, from each that stands in the list, from another property, of two lists in a row, of a front and of what is left behind it.
-use mathlib.Core.Path.{refl}
-use mathlib.Core.List.{List, [], _∷_, _++_, List·Memᴰ as In, List·Memᴰ·head as here, List·Memᴰ·tail as there}
+-- A property of every element: at one place, from each that stands in the list, from another property, of two lists in a row, of a front and of what is left behind it. Where members stand.
+use mathlib.Core.Path.{_≡_, refl}
+use mathlib.Core.Logic.{⊎-elim}
+use mathlib.Core.List.{List, [], _∷_, _++_, List·Memᴰ as In, List·Memᴰ·head as here, List·Memᴰ·tail as there, List·Memᴰ·not-nil as in-none, List·Memᴰ·cases-cons as in-cases}
 use Prim.Native.Nat.{ℕ, zero, suc, _<_}
 use native.Mathlib.Omega.{arith}
 use lib.ListN.{length, getD, take, drop}
@@ -39,3 +40,14 @@ module _ {A : Type 0} (P : A → Type 0) where
   all-take zero xs h = tt
   all-take (suc n) [] h = tt
   all-take (suc n) (x ∷ xs) h = (h .0, all-take n xs (h .1))
+
+-- what stands at a place is a member, and a member stands at a place
+module _ {A : Type 0} where
+  pub at-in : (xs : List A) (i : ℕ) (d : A) → i < length xs → In (getD xs i d) xs
+  at-in [] i d l = absurd (omega arith)
+  at-in (x ∷ xs) zero d l = here refl
+  at-in (x ∷ xs) (suc i) d l = there (at-in xs i d (omega arith))
+
+  pub in-at : {a : A} (xs : List A) (d : A) → In a xs → (i : ℕ) × (i < length xs) × (a ≡ getD xs i d)
+  in-at [] d m = absurd (in-none m)
+  in-at (x ∷ xs) d m = ⊎-elim (λ e. (0, omega arith, e)) (λ n. let (i, l, e) = in-at xs d n in (suc i, omega arith, e)) (in-cases m)

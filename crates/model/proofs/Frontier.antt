@@ -90,10 +90,13 @@ module _ (q : Problem) where
   pub best-frontier : (ps : List Point) → Best (Reached q) ps → ps ≡ frontier q
   best-frontier ps b = best-unique (Reached q) ps (frontier q) b frontier-best
 
-  -- listed costs are below their ceilings
-  pub listed-under : (p : Point) → In p (frontier q) → under (p .costs) (q .ceilings) ≡ true
+  -- reached costs are below their ceilings, listed ones among them
+  pub reached-under : (p : Point) → Reached q p → under (p .costs) (q .ceilings) ≡ true
   unfolding consistent
-  listed-under p m = let h = frontier-best .listed .sound p m in subst (λ (c : List ℕ). under c (q .ceilings) ≡ true) (sym (h .exact)) (h .allowed)
+  reached-under p h = subst (λ (c : List ℕ). under c (q .ceilings) ≡ true) (sym (h .exact)) (h .allowed)
+
+  pub listed-under : (p : Point) → In p (frontier q) → under (p .costs) (q .ceilings) ≡ true
+  listed-under p m = reached-under p (frontier-best .listed .sound p m)
 
 -- what is below numbers of four bytes has four bytes
 pub under-words : (xs cs : List ℕ) → length xs ≡ length cs → under xs cs ≡ true → All Word cs → All Word xs

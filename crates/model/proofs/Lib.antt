@@ -47,6 +47,13 @@ pub mod Kept
 pub mod Narrowed
 pub mod Suffixes
 pub mod SuffixProblems
+-- the second form of the search
+pub mod Weighted
+pub mod Distinct
+pub mod Archive
+pub mod ArchiveSteps
+pub mod ArchiveEnd
+pub mod Zones
 -- the merge of two halves' lists
 pub mod Merging
 -- the calls and the demands

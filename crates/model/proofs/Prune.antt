@@ -9,13 +9,13 @@ use borrow.Author.Tests.{not-true}
 use Rattle.model.specs.Problems.{Problem}
 use Rattle.model.specs.Vectors.{under, same, earlier}
 use Rattle.model.specs.Costs.{costsOf}
-use Rattle.model.specs.Frontiers.{consistent, Point, point, Reached}
+use Rattle.model.specs.Frontiers.{Point, point, Reached}
 use Rattle.model.specs.Bounds.{boundOf}
 use Rattle.model.specs.Search.{Held, nothing, just, matched, late, dead, passes, solved}
 use Rattle.model.proofs.Bits.{test, true-false, or-cases}
 use Rattle.model.proofs.Vectors.{AtMost, Earlier, NotLater, same-eq, same-true, not-earlier, not-later-trans, at-most-trans, at-most-earlier}
 use Rattle.model.proofs.Sums.{under-mono}
-use Rattle.model.proofs.Frontier.{reached-width}
+use Rattle.model.proofs.Frontier.{reached-width, reached-under}
 use Rattle.model.proofs.Passes.{NotAfter, matched-in, Prefix}
 use Rattle.model.proofs.Tree.{From, Completes, completes-agrees, earlier-completes}
 use Rattle.model.proofs.Held.{Beyond}
@@ -36,8 +36,7 @@ module _ (q : Problem) (ps : List Point) (f : Prefix (Reached q) ps) (b : List �
   same-width = wide ∙ sym (reached-width q r (u .0))
 
   over-none : under b (q .ceilings) ≡ false → ⊥
-  unfolding consistent
-  over-none o = true-false (under-mono b (r .costs) (q .ceilings) same-width low (subst (λ (c : List ℕ). under c (q .ceilings) ≡ true) (sym (u .0 .exact)) (u .0 .allowed))) o
+  over-none o = true-false (under-mono b (r .costs) (q .ceilings) same-width low (reached-under q r (u .0))) o
 
   matched-none : matched b ps ≡ true → ⊥
   matched-none m =

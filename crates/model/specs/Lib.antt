@@ -14,5 +14,6 @@ pub mod Search
 pub mod Views
 pub mod Merging
 pub mod Suffixes
+pub mod Archive
 pub mod Calls
 pub mod Demands

@@ -4,21 +4,15 @@ use mathlib.Core.List.{List, [], _∷_, _++_}
 use Prim.Native.Nat.{ℕ, zero, suc, _+_, _≤_, _<_}
 use native.Mathlib.Omega.{arith}
 use native.Mathlib.Nat.{add-zero}
-use lib.ListN.{length, take, drop, length-drop}
+use lib.ListN.{length, drop, length-drop}
 use lib.Seq.{length-take-le}
 use Rattle.model.specs.Basics.{All}
 use Rattle.model.specs.Limits.{maxObjectives, maxVariables}
 use Rattle.model.specs.Frontiers.{Point}
 use Rattle.model.specs.Calls.{flatCosts, flatChoices}
 use Rattle.groups.specs.Layout.{rowWidth}
-use Rattle.rows.specs.Rows.{rowAt, pointIn, listIn}
+use Rattle.rows.specs.Rows.{rowAt, costsIn, valuesIn, pointIn, listIn}
 use Rattle.rows.proofs.RowsOut.{joined}
-
-abbrev pub costsIn : ℕ → List ℕ → ℕ → List ℕ
-costsIn p work row = take p (drop (rowAt row) work)
-
-abbrev pub valuesIn : ℕ → List ℕ → ℕ → List ℕ
-valuesIn n work row = take n (drop (rowAt row + 4) work)
 
 module _ (p n : ℕ) (work : List ℕ) where
   pub flat-costs : (i k : ℕ) → flatCosts (listIn p n work i k) ≡ joined (costsIn p work) i k

@@ -53,6 +53,19 @@ fn store_choice(choice: [u8; 24], at: usize, work: &mut [u32])
     }
 }
 
+// The four costs of the row that starts at `at`.
+pub fn costs_at(work: &[u32], at: usize) -> [u64; 4]
+    requires { ⌜ at + 4 ≤ length (now work) ⌝ }
+    ensures { λ c. ⌜ c ≡ take maxObjectives (drop at (now (work .entry))) ⌝ }
+{
+    [
+        work[at] as u64,
+        work[at + 1] as u64,
+        work[at + 2] as u64,
+        work[at + 3] as u64,
+    ]
+}
+
 // Copies the costs of the first `k` rows out, `p` for each.
 pub fn copy_costs(work: &[u32], k: usize, n: usize, p: usize, costs: &mut [u32])
     requires { ⌜ (listEnd ≤ length (now work)) × (k ≤ maxPoints) × (p ≤ maxObjectives) × (k * p ≤ length (now costs)) ⌝ }

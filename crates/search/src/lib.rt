@@ -2,7 +2,7 @@
 ghost use mathlib.Core.Path.{_≡_};
 ghost use mathlib.Core.List.{_++_, _∷_, []};
 ghost use Prim.Native.Nat.{_+_, _<_, _≤_};
-ghost use lib.ListN.{length, getD, take, drop};
+ghost use lib.ListN.{length, getD, take};
 ghost use Rattle.model.specs.Basics.{All};
 ghost use Rattle.model.specs.Limits.{maxObjectives, maxVariables, maxPoints, sumEnd};
 ghost use Rattle.model.specs.Vectors.{added};
@@ -26,19 +26,6 @@ pub struct Best {
     pub choice: [u8; 24],
 }
 
-// The four costs of the row that starts at `at`.
-pub fn costs_at(work: &[u32], at: usize) -> [u64; 4]
-    requires { ⌜ at + 4 ≤ length (now work) ⌝ }
-    ensures { λ c. ⌜ c ≡ take maxObjectives (drop at (now (work .entry))) ⌝ }
-{
-    [
-        work[at] as u64,
-        work[at + 1] as u64,
-        work[at + 2] as u64,
-        work[at + 3] as u64,
-    ]
-}
-
 // Whether one of the `k` listed points matches or beats the vector.
 pub fn is_matched(c: [u64; 4], n: usize, work: &[u32], k: usize, p: usize) -> bool
     requires { ⌜ (listEnd ≤ length (now work)) × (k ≤ maxPoints) × (p ≤ maxObjectives) ⌝ }
@@ -46,7 +33,11 @@ pub fn is_matched(c: [u64; 4], n: usize, work: &[u32], k: usize, p: usize) -> bo
 {
     let mut i: usize = 0;
     while i < k {
-        if vectors::is_at_most(costs_at(work, rows::LIST_AT + rows::ROW_WIDTH * i), c, p) {
+        if vectors::is_at_most(
+            rows::costs_at(work, rows::LIST_AT + rows::ROW_WIDTH * i),
+            c,
+            p,
+        ) {
             return true;
         }
         i += 1;
@@ -87,7 +78,7 @@ fn sharper_bound(x: Partial, work: &[u32]) -> [u64; 4]
 {
     let len = x.len;
     let bound = x.bound;
-    let gains = costs_at(work, groups::GAINS_AT + 4 * len);
+    let gains = rows::costs_at(work, groups::GAINS_AT + 4 * len);
     vectors::sum(bound, gains)
 }
 

@@ -1,5 +1,6 @@
 -- `cut_accepted` meets its contract: each return hands what the callees ensure to one law of CutEnds.
 use native.Mathlib.Omega.{arith}
+use lib.ListN.{length}
 use denote.Ref.{now}
 use borrow.Author.Needs.{needs}
 use Rattle.frontier.proofs.CutRefusals.{cut-reading}
@@ -16,7 +17,7 @@ cast-p c = search needs
 room-of-requires : tie.Need-room-of-requires
 room-of-requires c κs =
     let s = c .before .before .before .before .before .before .before .before in
-    let a = cut-reading (now (s .args .problem)) (now (s .args .sides)) (now (s .args .work)) (s .args .g) (s .pre .0) (s .pre .1) in
+    let a = cut-reading (now (s .args .problem)) (now (s .args .sides)) (length (now (s .args .work))) (s .args .g) (s .pre .0) (s .pre .1) in
     (a .few-objectives .0, a .few-variables .0)
 
 cut-rows-requires : tie.Need-cut-rows-requires
@@ -34,43 +35,43 @@ same-length c = search needs
 returns : tie.Need-returns
 returns c =
     let s = c .before .before .before .before .before .before .before .before .before .before .before .before .before .before .before .before .before .before .before in
-    let a = cut-reading (now (s .args .problem)) (now (s .args .sides)) (now (s .args .work)) (s .args .g) (s .pre .0) (s .pre .1) in
+    let a = cut-reading (now (s .args .problem)) (now (s .args .sides)) (length (now (s .args .work))) (s .args .g) (s .pre .0) (s .pre .1) in
     rw (c .not-cut .ensures) (full-end _ _ a (now (s .args .sides)) (now (s .args .work)) (s .pre .1) (now (s .args .costs)) (now (s .args .choices)) _ (c .before .before .before .before .before .before .before .before .before .before .room-of .ensures) (c .before .before .before .before .before .before .before .before .cut-rows .result) _ (c .before .before .before .before .before .before .before .before .cut-rows .ensures) _ (c .before .before .before .before .before .if1 .taken) (c .before .before .before .clear .ensures))
 
 copy-costs-requires : tie.Need-copy-costs-requires
 copy-costs-requires c κs =
     let s = c .before .before .before .before .before .before .before .before .before .before .before .before .before .before .before .before in
-    let a = cut-reading (now (s .args .problem)) (now (s .args .sides)) (now (s .args .work)) (s .args .g) (s .pre .0) (s .pre .1) in
+    let a = cut-reading (now (s .args .problem)) (now (s .args .sides)) (length (now (s .args .work))) (s .args .g) (s .pre .0) (s .pre .1) in
     costs-asked _ _ a (now (s .args .sides)) (now (s .args .work)) (s .pre .1) (now (s .args .costs)) (now (s .args .choices)) _ (c .before .before .before .before .before .before .before .room-of .ensures) (c .before .before .before .before .before .cut-rows .result) _ (c .before .before .before .before .before .cut-rows .ensures) (c .before .before .if1 .left)
 
 copy-choices-requires : tie.Need-copy-choices-requires
 copy-choices-requires c κs =
     let s = c .before .before .before .before .before .before .before .before .before .before .before .before .before .before .before .before .before .before .before .before .before in
-    let a = cut-reading (now (s .args .problem)) (now (s .args .sides)) (now (s .args .work)) (s .args .g) (s .pre .0) (s .pre .1) in
+    let a = cut-reading (now (s .args .problem)) (now (s .args .sides)) (length (now (s .args .work))) (s .args .g) (s .pre .0) (s .pre .1) in
     choices-asked _ _ a (now (s .args .sides)) (now (s .args .work)) (s .pre .1) (now (s .args .costs)) (now (s .args .choices)) _ (c .before .before .before .before .before .before .before .before .before .before .before .before .room-of .ensures) (c .before .before .before .before .before .before .before .before .before .before .cut-rows .result) _ (c .before .before .before .before .before .before .before .before .before .before .cut-rows .ensures) (c .before .before .before .before .before .before .before .if1 .left)
 
 clear-requires-2 : tie.Need-clear-requires-2
 clear-requires-2 c κs = search needs
 
+cast-t31 : tie.Need-cast-t31
+cast-t31 c =
+    let s = c .before .before .before .before .before .before .before .before .before .before .before .before .before .before .before .before .before .before .before .before .before .before .before .before .before .before .before .before .before in
+    let a = cut-reading (now (s .args .problem)) (now (s .args .sides)) (length (now (s .args .work))) (s .args .g) (s .pre .0) (s .pre .1) in
+    let k = costs-asked _ _ a (now (s .args .sides)) (now (s .args .work)) (s .pre .1) (now (s .args .costs)) (now (s .args .choices)) _ (c .before .before .before .before .before .before .before .before .before .before .before .before .before .before .before .before .before .before .before .before .room-of .ensures) (c .before .before .before .before .before .before .before .before .before .before .before .before .before .before .before .before .before .before .cut-rows .result) _ (c .before .before .before .before .before .before .before .before .before .before .before .before .before .before .before .before .before .before .cut-rows .ensures) (c .before .before .before .before .before .before .before .before .before .before .before .before .before .before .before .if1 .left) in
+    omega (arith, k .1)
+
 cast-t32 : tie.Need-cast-t32
 cast-t32 c =
-    let s = c .before .before .before .before .before .before .before .before .before .before .before .before .before .before .before .before .before .before .before .before .before .before .before .before .before .before .before .before in
-    let a = cut-reading (now (s .args .problem)) (now (s .args .sides)) (now (s .args .work)) (s .args .g) (s .pre .0) (s .pre .1) in
-    let k = costs-asked _ _ a (now (s .args .sides)) (now (s .args .work)) (s .pre .1) (now (s .args .costs)) (now (s .args .choices)) _ (c .before .before .before .before .before .before .before .before .before .before .before .before .before .before .before .before .before .before .before .room-of .ensures) (c .before .before .before .before .before .before .before .before .before .before .before .before .before .before .before .before .before .cut-rows .result) _ (c .before .before .before .before .before .before .before .before .before .before .before .before .before .before .before .before .before .cut-rows .ensures) (c .before .before .before .before .before .before .before .before .before .before .before .before .before .before .if1 .left) in
-    omega (arith, k .1)
+    let s = c .before .before .before .before .before .before .before .before .before .before .before .before .before .before .before .before .before .before .before .before .before .before .before .before .before .before .before .before .before .before in
+    let a = cut-reading (now (s .args .problem)) (now (s .args .sides)) (length (now (s .args .work))) (s .args .g) (s .pre .0) (s .pre .1) in
+    let k = halves-few _ _ a (now (s .args .sides)) (now (s .args .work)) (s .pre .1) (now (s .args .costs)) (now (s .args .choices)) _ (c .before .before .before .before .before .before .before .before .before .before .before .before .before .before .before .before .before .before .before .before .before .room-of .ensures) (c .before .before .before .before .before .before .before .before .before .before .before .before .before .before .before .before .before .before .before .cut-rows .result) _ (c .before .before .before .before .before .before .before .before .before .before .before .before .before .before .before .before .before .before .before .cut-rows .ensures) (c .before .before .before .before .before .before .before .before .before .before .before .before .before .before .before .before .if1 .left) in
+    omega (arith, k .0)
 
 cast-t33 : tie.Need-cast-t33
 cast-t33 c =
-    let s = c .before .before .before .before .before .before .before .before .before .before .before .before .before .before .before .before .before .before .before .before .before .before .before .before .before .before .before .before .before in
-    let a = cut-reading (now (s .args .problem)) (now (s .args .sides)) (now (s .args .work)) (s .args .g) (s .pre .0) (s .pre .1) in
-    let k = halves-few _ _ a (now (s .args .sides)) (now (s .args .work)) (s .pre .1) (now (s .args .costs)) (now (s .args .choices)) _ (c .before .before .before .before .before .before .before .before .before .before .before .before .before .before .before .before .before .before .before .before .room-of .ensures) (c .before .before .before .before .before .before .before .before .before .before .before .before .before .before .before .before .before .before .cut-rows .result) _ (c .before .before .before .before .before .before .before .before .before .before .before .before .before .before .before .before .before .before .cut-rows .ensures) (c .before .before .before .before .before .before .before .before .before .before .before .before .before .before .before .if1 .left) in
-    omega (arith, k .0)
-
-cast-t34 : tie.Need-cast-t34
-cast-t34 c =
-    let s = c .before .before .before .before .before .before .before .before .before .before .before .before .before .before .before .before .before .before .before .before .before .before .before .before .before .before .before .before .before .before in
-    let a = cut-reading (now (s .args .problem)) (now (s .args .sides)) (now (s .args .work)) (s .args .g) (s .pre .0) (s .pre .1) in
-    let k = halves-few _ _ a (now (s .args .sides)) (now (s .args .work)) (s .pre .1) (now (s .args .costs)) (now (s .args .choices)) _ (c .before .before .before .before .before .before .before .before .before .before .before .before .before .before .before .before .before .before .before .before .before .room-of .ensures) (c .before .before .before .before .before .before .before .before .before .before .before .before .before .before .before .before .before .before .before .cut-rows .result) _ (c .before .before .before .before .before .before .before .before .before .before .before .before .before .before .before .before .before .before .before .cut-rows .ensures) (c .before .before .before .before .before .before .before .before .before .before .before .before .before .before .before .before .if1 .left) in
+    let s = c .before .before .before .before .before .before .before .before .before .before .before .before .before .before .before .before .before .before .before .before .before .before .before .before .before .before .before .before .before .before .before in
+    let a = cut-reading (now (s .args .problem)) (now (s .args .sides)) (length (now (s .args .work))) (s .args .g) (s .pre .0) (s .pre .1) in
+    let k = halves-few _ _ a (now (s .args .sides)) (now (s .args .work)) (s .pre .1) (now (s .args .costs)) (now (s .args .choices)) _ (c .before .before .before .before .before .before .before .before .before .before .before .before .before .before .before .before .before .before .before .before .before .before .room-of .ensures) (c .before .before .before .before .before .before .before .before .before .before .before .before .before .before .before .before .before .before .before .before .cut-rows .result) _ (c .before .before .before .before .before .before .before .before .before .before .before .before .before .before .before .before .before .before .before .before .cut-rows .ensures) (c .before .before .before .before .before .before .before .before .before .before .before .before .before .before .before .before .before .if1 .left) in
     omega (arith, k .1)
 
 same-length-2 : tie.Need-same-length-2
@@ -84,9 +85,9 @@ same-length-4 c = search needs
 
 returns-2 : tie.Need-returns-2
 returns-2 c =
-    let s = c .before .before .before .before .before .before .before .before .before .before .before .before .before .before .before .before .before .before .before .before .before .before .before .before .before .before .before .before .before .before in
-    let a = cut-reading (now (s .args .problem)) (now (s .args .sides)) (now (s .args .work)) (s .args .g) (s .pre .0) (s .pre .1) in
-    list-end _ _ a (now (s .args .sides)) (now (s .args .work)) (s .pre .1) (now (s .args .costs)) (now (s .args .choices)) _ (c .before .before .before .before .before .before .before .before .before .before .before .before .before .before .before .before .before .before .before .before .before .room-of .ensures) (c .before .before .before .before .before .before .before .before .before .before .before .before .before .before .before .before .before .before .before .cut-rows .result) _ (c .before .before .before .before .before .before .before .before .before .before .before .before .before .before .before .before .before .before .before .cut-rows .ensures) (c .before .before .before .before .before .before .before .before .before .before .before .before .before .before .before .before .if1 .left) _ _ _ (c .before .before .before .before .before .before .before .before .before .before .before .before .before .copy-costs .ensures) (c .before .before .before .before .before .before .before .before .copy-choices .ensures) (c .before .before .before .before .clear2 .ensures)
+    let s = c .before .before .before .before .before .before .before .before .before .before .before .before .before .before .before .before .before .before .before .before .before .before .before .before .before .before .before .before .before .before .before in
+    let a = cut-reading (now (s .args .problem)) (now (s .args .sides)) (length (now (s .args .work))) (s .args .g) (s .pre .0) (s .pre .1) in
+    list-end _ _ a (now (s .args .sides)) (now (s .args .work)) (s .pre .1) (now (s .args .costs)) (now (s .args .choices)) _ (c .before .before .before .before .before .before .before .before .before .before .before .before .before .before .before .before .before .before .before .before .before .before .room-of .ensures) (c .before .before .before .before .before .before .before .before .before .before .before .before .before .before .before .before .before .before .before .before .cut-rows .result) _ (c .before .before .before .before .before .before .before .before .before .before .before .before .before .before .before .before .before .before .before .before .cut-rows .ensures) (c .before .before .before .before .before .before .before .before .before .before .before .before .before .before .before .before .before .if1 .left) _ _ _ (c .before .before .before .before .before .before .before .before .before .before .before .before .before .before .copy-costs .ensures) (c .before .before .before .before .before .before .before .before .before .copy-choices .ensures) (c .before .before .before .before .before .clear2 .ensures)
 
 pub cut-accepted-spec : {M : Type 1} → statement M
 cut-accepted-spec =
@@ -103,9 +104,9 @@ cut-accepted-spec =
     copy-costs-requires
     copy-choices-requires
     clear-requires-2
+    cast-t31
     cast-t32
     cast-t33
-    cast-t34
     same-length-2
     same-length-3
     same-length-4

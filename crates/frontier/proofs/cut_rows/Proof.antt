@@ -1,6 +1,7 @@
 -- `cut_rows` meets its contract: what is cut is the problem that was read.
 use mathlib.Core.Path.{sym}
 use native.Mathlib.Omega.{arith}
+use lib.ListN.{length}
 use denote.Ref.{now}
 use borrow.Author.Needs.{needs}
 use Rattle.frontier.proofs.SolveSteps.{sized}
@@ -30,19 +31,19 @@ add-start-2 c = search needs
 array-share-prefix-sizes : tie.Need-array-share-prefix-sizes
 array-share-prefix-sizes c =
     let s = c .before .before .before .before .before .before .before .before in
-    let a = cut-reading (now (s .args .problem)) (now (s .args .sides)) (now (s .args .work)) (s .args .g) (s .pre .0) (s .pre .1) in
+    let a = cut-reading (now (s .args .problem)) (now (s .args .sides)) (length (now (s .args .work))) (s .args .g) (s .pre .0) (s .pre .1) in
     omega (arith, a .room, a .few-variables)
 
 slice-aggregate-cut-lists : tie.Need-slice-aggregate-cut-lists
 slice-aggregate-cut-lists c =
     let s = c .before .before .before .before .before .before .before .before .before in
-    let a = cut-reading (now (s .args .problem)) (now (s .args .sides)) (now (s .args .work)) (s .args .g) (s .pre .0) (s .pre .1) in
+    let a = cut-reading (now (s .args .problem)) (now (s .args .sides)) (length (now (s .args .work))) (s .args .g) (s .pre .0) (s .pre .1) in
     sym (sized _ _ a)
 
 cut-lists-requires : tie.Need-cut-lists-requires
 cut-lists-requires c κs =
     let s = c .before .before .before .before .before .before .before .before .before .before in
-    let a = cut-reading (now (s .args .problem)) (now (s .args .sides)) (now (s .args .work)) (s .args .g) (s .pre .0) (s .pre .1) in
+    let a = cut-reading (now (s .args .problem)) (now (s .args .sides)) (length (now (s .args .work))) (s .args .g) (s .pre .0) (s .pre .1) in
     cut-asked _ _ a (now (s .args .sides)) _ (s .pre .1) (λ i. omega (arith, c .before .before .before .before .before .before .before .before .before .shared-slice-known .given i)) (s .args .room) (s .pre .2)
 
 same-length : tie.Need-same-length
@@ -51,7 +52,7 @@ same-length c = search needs
 returns : tie.Need-returns
 returns c =
     let s = c .before .before .before .before .before .before .before .before .before .before .before .before .before in
-    let a = cut-reading (now (s .args .problem)) (now (s .args .sides)) (now (s .args .work)) (s .args .g) (s .pre .0) (s .pre .1) in
+    let a = cut-reading (now (s .args .problem)) (now (s .args .sides)) (length (now (s .args .work))) (s .args .g) (s .pre .0) (s .pre .1) in
     cut-found _ _ a (now (s .args .sides)) _ (s .pre .1) (s .args .room) _ _ (c .before .before .cut-lists .ensures)
 
 pub cut-rows-spec : {M : Type 1} → statement M

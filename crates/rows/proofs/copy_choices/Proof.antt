@@ -7,8 +7,9 @@ use lib.ListN.{length}
 use denote.Ref.{now}
 use Rattle.model.specs.Basics.{All}
 use Rattle.model.specs.Encoding.{Byte}
+use Rattle.rows.specs.Rows.{valuesIn}
 use Rattle.rows.proofs.RowsOut.{Out, row-room, out-start, out-length, out-next}
-use Rattle.rows.proofs.RowParts.{valuesIn, flat-choices, row-has, values-long}
+use Rattle.rows.proofs.RowParts.{flat-choices, row-has, values-long}
 use Rattle.rows.proofs.copy_choices.Statement.{statement}
 use Rattle.rows.proofs.copy_choices.Tie as tie
 

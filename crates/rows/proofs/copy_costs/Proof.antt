@@ -4,8 +4,9 @@ use Prim.Native.Nat.{_-_, _≤_}
 use native.Mathlib.Omega.{arith}
 use lib.ListN.{length}
 use denote.Ref.{now}
+use Rattle.rows.specs.Rows.{costsIn}
 use Rattle.rows.proofs.RowsOut.{Out, row-room, out-start, out-length, out-next}
-use Rattle.rows.proofs.RowParts.{costsIn, flat-costs, costs-long}
+use Rattle.rows.proofs.RowParts.{flat-costs, costs-long}
 use Rattle.rows.proofs.copy_costs.Statement.{statement}
 use Rattle.rows.proofs.copy_costs.Tie as tie
 

@@ -1,11 +1,11 @@
--- `search::costs_at` meets its contract.
+-- `rows::costs_at` meets its contract.
 use Prim.Native.Nat.{_+_}
 use native.Mathlib.Omega.{arith}
 use denote.Ref.{now}
 use Rattle.vectors.proofs.Fours.{four-from}
 use borrow.Author.Needs.{needs}
-use Rattle.search.proofs.costs_at.Statement.{statement}
-use Rattle.search.proofs.costs_at.Tie as tie
+use Rattle.rows.proofs.costs_at.Statement.{statement}
+use Rattle.rows.proofs.costs_at.Tie as tie
 
 mul-t3 : tie.Need-mul-t3
 mul-t3 c = search needs
