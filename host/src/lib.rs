@@ -10,6 +10,8 @@ pub mod chooser;
 pub mod clock;
 pub mod cut;
 pub mod examples;
+pub mod guard;
+pub mod guarded;
 pub mod hex;
 pub mod limits;
 pub mod mixed;

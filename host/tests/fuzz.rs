@@ -1,0 +1,142 @@
+//! The fuzzing program: what it tells of a run, and that memory between closed pages shows every
+//! byte that is touched beside a buffer.
+
+use std::env;
+use std::hint::black_box;
+use std::os::unix::process::ExitStatusExt;
+use std::process::{Command, Output, Stdio};
+use std::thread;
+use std::time::Duration;
+
+use frontier_host::guard::{End, Pages};
+
+/// SIGSEGV of Linux.
+const VIOLATION: i32 = 11;
+
+fn fuzz(arguments: &[&str]) -> Command {
+    let mut command = Command::new(env!("CARGO_BIN_EXE_fuzz"));
+    command.args(arguments);
+    command
+}
+
+fn run(arguments: &[&str]) -> (Option<i32>, String, String) {
+    let output = fuzz(arguments).output().expect("fuzz starts");
+    let [out, err] = [output.stdout, output.stderr].map(|text| String::from_utf8(text).unwrap());
+    (output.status.code(), out, err)
+}
+
+#[test]
+fn four_thousand_inputs_touch_nothing_outside() {
+    let (status, text, complaint) = run(&["4000"]);
+    assert_eq!((status, complaint.as_str()), (Some(0), ""), "{text}");
+    assert!(text.starts_with("4000 inputs (mixed cases, seeds 0 to 3999), "));
+    assert!(text.contains("\nevery input against the upper pages, 1000 also against the lower, "));
+    // Every number that the plain call can give, but for the rare 1.
+    for number in [2, 3, 4, 5, 6, 7, 8, 9, 10, 11, 12, 15] {
+        assert!(text.contains(&format!(" {number}: ")), "{number}: {text}");
+    }
+    assert!(text.ends_with("every answer as the brute force's\n"));
+}
+
+#[test]
+fn a_seed_starts_the_run_elsewhere() {
+    let (status, text, _) = run(&["--seed", "123456789", "10"]);
+    assert_eq!(status, Some(0));
+    assert!(text.contains("seeds 123456789 to 123456798)"), "{text}");
+}
+
+#[test]
+fn bad_arguments_give_the_usage() {
+    let bad: [&[&str]; 6] = [
+        &["0"],
+        &["many"],
+        &["1", "2"],
+        &["--seed"],
+        &["--seed", "x"],
+        &["--seed", "18446744073709551615", "1"],
+    ];
+    for arguments in bad {
+        let (status, text, complaint) = run(arguments);
+        assert_eq!((status, text.as_str()), (Some(2), ""), "{arguments:?}");
+        assert!(complaint.contains("usage: fuzz"), "{complaint}");
+    }
+}
+
+#[test]
+fn a_signal_is_told_with_the_seed() {
+    let mut process = fuzz(&["--seed", "700", "100000000"])
+        .stderr(Stdio::piped())
+        .stdout(Stdio::null())
+        .spawn()
+        .expect("fuzz starts");
+    thread::sleep(Duration::from_millis(300));
+    let id = process.id().to_string();
+    let sent = Command::new("kill").args(["-SEGV", &id]).status();
+    if !sent.is_ok_and(|status| status.success()) {
+        process.kill().expect("a process that was started");
+        panic!("the signal cannot be sent");
+    }
+    let output = process.wait_with_output().expect("fuzz ends");
+    let complaint = String::from_utf8_lossy(&output.stderr);
+    assert_eq!(output.status.code(), Some(1), "{complaint}");
+    assert!(complaint.contains("fuzz: seed "), "{complaint}");
+    assert!(complaint.contains("ended by signal 11 "), "{complaint}");
+}
+
+#[test]
+fn a_changed_byte_beside_a_buffer_is_found() {
+    for (end, beside) in [(End::Upper, -1), (End::Lower, 3)] {
+        let mut pages = Pages::new(100).expect("pages");
+        let first = pages.lend(&[1_u8, 2, 3], end).as_mut_ptr();
+        let mut back = [0_u8; 3];
+        assert_eq!(pages.take_back(&mut back), Ok(()));
+        assert_eq!(back, [1, 2, 3]);
+        // SAFETY: a byte of the same pages, beside the buffer.
+        unsafe { *first.offset(beside) = 0 };
+        let complaint = pages.take_back(&mut back).expect_err("a complaint");
+        assert_eq!(complaint, "has a changed byte beside it");
+    }
+}
+
+#[test]
+fn a_change_of_what_is_only_read_is_found() {
+    let mut pages = Pages::new(100).expect("pages");
+    pages.lend(&[7_u32; 5], End::Upper);
+    assert_eq!(pages.check_unchanged(&[7_u32; 5]), Ok(()));
+    pages.lend(&[7_u32; 5], End::Lower)[4] = 8;
+    let complaint = pages.check_unchanged(&[7_u32; 5]).expect_err("changed");
+    assert!(complaint.starts_with("was changed"));
+}
+
+/// Set for a process that is to touch a closed page.
+const TOUCH: &str = "FUZZ_TEST_TOUCH";
+
+/// Touches the byte beside a buffer where the environment asks for it, else does nothing.
+#[test]
+fn touch_a_closed_page_if_asked() {
+    let (end, beside) = match env::var(TOUCH).as_deref() {
+        Ok("upper") => (End::Upper, 3),
+        Ok("lower") => (End::Lower, -1),
+        _ => return,
+    };
+    let mut pages = Pages::new(100).expect("pages");
+    let first = pages.lend(&[1_u8, 2, 3], end).as_ptr();
+    // SAFETY: none, since this is what must end the process.
+    black_box(unsafe { first.offset(beside).read_volatile() });
+}
+
+fn touching(end: &str) -> Output {
+    Command::new(env::current_exe().expect("this test has a file"))
+        .args(["--exact", "touch_a_closed_page_if_asked"])
+        .env(TOUCH, end)
+        .output()
+        .expect("this test starts again")
+}
+
+#[test]
+fn a_byte_of_a_closed_page_ends_the_process() {
+    for end in ["upper", "lower"] {
+        assert_eq!(touching(end).status.signal(), Some(VIOLATION), "{end}");
+    }
+    assert_eq!(touching("neither").status.code(), Some(0));
+}
