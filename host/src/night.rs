@@ -26,26 +26,15 @@ const NAME_MARK: &str = "# ";
 /// All problems of a folder in the order of their names. The expected texts of a folder `F` are in
 /// the file `F.expected` beside it; where there is none, nothing is expected.
 pub fn read_night(folder: &Path) -> Result<Vec<NightProblem>, String> {
-    let folder = fs::canonicalize(folder).map_err(|error| {
-        format!(
-            "the folder {} cannot be opened ({error}); name a folder of problem files",
-            folder.display()
-        )
-    })?;
+    let folder = opened(folder)?;
     let beside = expected_beside(&folder);
     let mut expected = match beside.exists() {
         true => read_expected(&beside)?,
         false => BTreeMap::new(),
     };
-    let mut problems = Vec::new();
-    for path in problem_files(&folder)? {
-        let name = stem_of(&path)?;
-        let expected = expected.remove(&name);
-        problems.push(NightProblem {
-            name,
-            path,
-            expected,
-        });
+    let mut problems = list_night(&folder)?;
+    for problem in &mut problems {
+        problem.expected = expected.remove(&problem.name);
     }
     match expected.keys().next() {
         None => Ok(problems),
@@ -56,6 +45,29 @@ pub fn read_night(folder: &Path) -> Result<Vec<NightProblem>, String> {
             folder.display()
         )),
     }
+}
+
+/// All problems of a folder in the order of their names, with nothing expected.
+pub fn list_night(folder: &Path) -> Result<Vec<NightProblem>, String> {
+    let named = |path: PathBuf| {
+        Ok(NightProblem {
+            name: stem_of(&path)?,
+            path,
+            expected: None,
+        })
+    };
+    let files = problem_files(&opened(folder)?)?;
+    files.into_iter().map(named).collect()
+}
+
+/// The folder by its whole name.
+fn opened(folder: &Path) -> Result<PathBuf, String> {
+    fs::canonicalize(folder).map_err(|error| {
+        format!(
+            "the folder {} cannot be opened ({error}); name a folder of problem files",
+            folder.display()
+        )
+    })
 }
 
 /// The file with the expected texts of a folder.

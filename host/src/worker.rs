@@ -36,12 +36,17 @@ pub struct Worker {
 
 impl Worker {
     pub fn start() -> Result<Worker, String> {
-        Worker::spawn().map_err(|error| format!("a second process cannot start: {error}"))
+        Worker::start_with(&[WORKER])
     }
 
-    fn spawn() -> io::Result<Worker> {
+    /// Starts the program with these words, which must make it a worker.
+    pub fn start_with(words: &[&str]) -> Result<Worker, String> {
+        Worker::spawn(words).map_err(|error| format!("a second process cannot start: {error}"))
+    }
+
+    fn spawn(words: &[&str]) -> io::Result<Worker> {
         let mut process = Command::new(env::current_exe()?)
-            .arg(WORKER)
+            .args(words)
             .stdin(Stdio::piped())
             .stdout(Stdio::piped())
             .spawn()?;
@@ -117,7 +122,11 @@ pub fn serve(mut answer: impl FnMut(&str) -> Result<String, String>) -> Result<(
 
 /// The time limit in an argument.
 pub fn asked_limit(argument: Option<&String>) -> Result<Duration, String> {
-    let text = argument.ok_or("--limit takes a number of seconds")?;
+    parse_limit(argument.ok_or("--limit takes a number of seconds")?)
+}
+
+/// The time limit in a text.
+pub fn parse_limit(text: &str) -> Result<Duration, String> {
     let seconds = text.parse().ok().filter(|&seconds: &f64| seconds > 0.0);
     let limit = seconds.and_then(|seconds| Duration::try_from_secs_f64(seconds).ok());
     limit.ok_or(format!("'{text}' is no number of seconds above 0"))

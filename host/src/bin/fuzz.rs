@@ -3,7 +3,7 @@
 
 use std::cell::RefCell;
 use std::env;
-use std::io::{self, IsTerminal, Write};
+use std::io::{self, IsTerminal};
 use std::process::ExitCode;
 use std::sync::atomic::{AtomicU64, Ordering};
 use std::time::{Duration, Instant};
@@ -11,6 +11,7 @@ use std::time::{Duration, Instant};
 use frontier_host::guard::End;
 use frontier_host::guarded::Guarded;
 use frontier_host::mixed::Mixed;
+use frontier_host::progress::show_progress;
 
 const USAGE: &str = "usage: fuzz [--seed S] [N]
 Runs the N mixed inputs (default 10000) with seeds S (default 0), S + 1, and so on. Each goes through
@@ -179,18 +180,10 @@ impl Progress {
         self.last = Instant::now();
         let rate = done as f64 / self.start.elapsed().as_secs_f64();
         let left = (all - done) as f64 / rate;
-        let (before, behind) = if self.terminal {
-            ("\r\x1b[K", "")
-        } else {
-            ("", "\n")
-        };
-        eprint!("{before}{done} of {all} inputs, {rate:.0} a second, {left:.0} s left{behind}");
-        let _ = io::stderr().flush(); // nothing is lost where it cannot be shown
-    }
-
-    fn clear(&self) {
-        if self.terminal {
-            eprint!("\r\x1b[K");
+        let line = format!("{done} of {all} inputs, {rate:.0} a second, {left:.0} s left");
+        match self.terminal {
+            true => show_progress(&line),
+            false => eprintln!("{line}"),
         }
     }
 }
@@ -203,7 +196,7 @@ fn run_all(run: &Run, guarded: Guarded) -> Result<String, String> {
         run_input(run.seed + done, &guarded, &mut tally)?;
         progress.show(done + 1, run.inputs);
     }
-    progress.clear();
+    show_progress("");
     Ok(summary(run, &tally, progress.start.elapsed()))
 }
 

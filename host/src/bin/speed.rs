@@ -2,12 +2,12 @@
 //! prints a table. See `docs/PERFORMANCE.md`.
 
 use std::env;
-use std::io::{self, IsTerminal, Write};
 use std::path::Path;
 use std::process::ExitCode;
 use std::time::Duration;
 
 use frontier_host::plain::{Settings, SETTINGS};
+use frontier_host::progress::show_progress;
 use frontier_host::reading::read_problem;
 use frontier_host::speed::cases::{only_family, read_cases, Case};
 use frontier_host::speed::growth::growth_cases;
@@ -128,15 +128,6 @@ impl Sides {
         let problem = read_problem(&case.bytes).ok()?.problem;
         let asked = self.toulbar2 && problem.objectives() == 1;
         asked.then(|| toulbar2::run(&problem, self.limit))
-    }
-}
-
-/// Says on a terminal which problem is under way; an empty line takes it back.
-fn show_progress(line: &str) {
-    let mut output = io::stderr();
-    if output.is_terminal() {
-        // Nothing is lost where it cannot be shown.
-        let _ = write!(output, "\r\x1b[K{line}").and_then(|()| output.flush());
     }
 }
 

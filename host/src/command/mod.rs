@@ -5,6 +5,7 @@ use std::process::ExitCode;
 
 mod files;
 mod help;
+mod night;
 mod words;
 
 pub use files::{print_bytes, print_error, print_out, read_file, write_file, STANDARD_STREAM};
@@ -50,12 +51,20 @@ struct Subcommand {
 }
 
 /// All subcommands, in the order in which the help tells them.
-const SUBCOMMANDS: &[Subcommand] = &[Subcommand {
-    name: "help",
-    summary: "tell what the command or a subcommand does",
-    help: help::HELP,
-    run: help::run,
-}];
+const SUBCOMMANDS: &[Subcommand] = &[
+    Subcommand {
+        name: "night",
+        summary: "run every problem of a folder, and compare with an earlier run",
+        help: night::HELP,
+        run: night::run,
+    },
+    Subcommand {
+        name: "help",
+        summary: "tell what the command or a subcommand does",
+        help: help::HELP,
+        run: help::run,
+    },
+];
 
 /// Runs the command on the words after its name.
 pub fn run(words: &[OsString]) -> ExitCode {

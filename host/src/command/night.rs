@@ -1,0 +1,405 @@
+//! `chooser night`: all problems of a folder, their times and answers, and the comparison with an
+//! earlier run.
+
+use std::collections::BTreeMap;
+use std::ffi::{OsStr, OsString};
+use std::fs::{self, File};
+use std::io::Read;
+use std::path::Path;
+use std::sync::atomic::{AtomicUsize, Ordering};
+use std::sync::mpsc::{self, Receiver, RecvTimeoutError, Sender};
+use std::thread;
+use std::time::{Duration, Instant};
+
+use super::{print_out, read_file, sort_words, write_file, Asked, Failure, Known, Outcome};
+use crate::limits::MAX_BYTES;
+use crate::night::{list_night, NightProblem};
+use crate::night_csv::{compare_rows, parse_rows, write_rows, Comparison, Row, Told};
+use crate::night_worker::{parse_answer, question, serve_night, TWICE};
+use crate::progress::show_progress;
+use crate::worker::{parse_limit, Ending, Worker, WORKER};
+
+pub const HELP: &str = "\
+usage: chooser night DIR [--jobs N] [--limit SECONDS] [--csv OUT]
+                     [--compare FILE] [--twice]
+
+Runs every problem of the folder DIR (files NAME.bin, in the order of their
+names) and tells the slowest ten, the refusals by number, and the total. Each
+worker takes all its problems through one set of buffers.
+
+    --jobs N         so many workers side by side (default: one a processor)
+    --limit SECONDS  give a problem up after so much processor time (default 60)
+    --csv OUT        write name, bytes, number, place, count, microseconds of
+                     processor time and digest (FNV-1a of the listed costs and
+                     choices) of every problem to the file OUT
+    --compare FILE   name every difference from an earlier run's CSV
+    --twice          call again from other junk in all buffers, and compare
+
+The status is 0 if every problem was answered or refused, and 1 if one was given
+up, differs in the second call, or is missing, new or different in --compare.
+
+Example:
+    chooser night examples --twice
+";
+
+const OPTIONS: &[Known] = &[
+    (JOBS, "N"),
+    (LIMIT, "SECONDS"),
+    (CSV, "OUT"),
+    (COMPARE, "FILE"),
+    (TWICE, ""),
+];
+const JOBS: &str = "--jobs";
+const LIMIT: &str = "--limit";
+const CSV: &str = "--csv";
+const COMPARE: &str = "--compare";
+
+const MOST_JOBS: usize = 256;
+const DEFAULT_LIMIT: Duration = Duration::from_secs(60);
+
+/// So many of the slowest problems are told.
+const SLOWEST: usize = 10;
+
+/// An earlier run's table may have so many bytes.
+const MOST_TABLE: usize = 1 << 28;
+
+/// The progress line is renewed so often.
+const PROGRESS: Duration = Duration::from_millis(200);
+
+pub fn run(words: &[OsString]) -> Result<Outcome, Failure> {
+    if let Some((first, rest)) = words.split_first() {
+        if first == WORKER {
+            let served = serve_night(rest == [TWICE]);
+            return served.map(|()| Outcome::Answered).map_err(Failure::misuse);
+        }
+    }
+    let asked = sort_words(words, OPTIONS)?;
+    let plan = Plan::new(&asked)?;
+    let problems = read_problems(asked.operands(["DIR"])?[0])?;
+    let start = Instant::now();
+    let mut night = Night::default();
+    plan.run_all(&problems, &mut night)?;
+    let rows = night.rows(&problems);
+    if let Some(out) = asked.value(CSV) {
+        write_file(out, write_rows(&rows).as_bytes())?;
+    }
+    let compared = plan.earlier.map(|earlier| compare_rows(&rows, earlier));
+    let is_right = night.faults.is_empty()
+        && compared
+            .as_ref()
+            .is_none_or(|found| found.differences.is_empty());
+    let text = summary(&rows, &night, compared.as_ref(), start.elapsed());
+    print_out(&text)?;
+    Ok(match is_right {
+        true => Outcome::Answered,
+        false => Outcome::Refused,
+    })
+}
+
+/// What is asked for.
+struct Plan {
+    jobs: usize,
+    limit: Duration,
+    twice: bool,
+    earlier: Option<BTreeMap<String, Row>>,
+}
+
+impl Plan {
+    /// Looks at all options before anything runs, since a run can take hours.
+    fn new(asked: &Asked) -> Result<Plan, Failure> {
+        let processors = || thread::available_parallelism().map_or(1, |number| number.get());
+        let limit = match asked.value(LIMIT) {
+            None => DEFAULT_LIMIT,
+            Some(text) => parse_limit(&text.to_string_lossy()).map_err(Failure::misuse)?,
+        };
+        if let Some(out) = asked.value(CSV) {
+            check_target(out, asked.value(COMPARE))?;
+        }
+        Ok(Plan {
+            jobs: asked
+                .number(JOBS, 1..=MOST_JOBS)?
+                .unwrap_or_else(processors),
+            limit,
+            twice: asked.has(TWICE),
+            earlier: asked.value(COMPARE).map(read_earlier).transpose()?,
+        })
+    }
+
+    /// Runs the problems on all workers and takes up how each ends.
+    fn run_all(&self, problems: &[Loaded], night: &mut Night) -> Result<(), Failure> {
+        let (sender, endings) = mpsc::channel();
+        let next = AtomicUsize::new(0);
+        thread::scope(|scope| {
+            for _ in 0..self.jobs.min(problems.len()) {
+                let (sender, next) = (sender.clone(), &next);
+                scope.spawn(move || self.work(problems, next, &sender));
+            }
+            drop(sender);
+            night.take_all(problems, &endings)
+        })
+        .map_err(Failure::misuse)
+    }
+
+    /// What one worker's thread does: the next problem, until there are no more.
+    fn work(&self, problems: &[Loaded], next: &AtomicUsize, sender: &Sender<Sent>) {
+        let mut worker = None;
+        loop {
+            let index = next.fetch_add(1, Ordering::Relaxed);
+            let Some(problem) = problems.get(index) else {
+                return;
+            };
+            let sent = self.ask(&mut worker, problem).map(|ending| (index, ending));
+            if sent.is_err() {
+                next.store(problems.len(), Ordering::Relaxed); // no other thread goes on either
+            }
+            if sender.send(sent).is_err() {
+                return;
+            }
+        }
+    }
+
+    /// Asks a worker about a problem; one that does not answer is replaced by the next question.
+    fn ask(&self, kept: &mut Option<Worker>, problem: &Loaded) -> Result<End, String> {
+        let words = ["night", WORKER, TWICE];
+        let (words, limit) = match self.twice {
+            true => (&words[..], self.limit.saturating_mul(2)),
+            false => (&words[..2], self.limit),
+        };
+        let mut worker = match kept.take() {
+            Some(worker) => worker,
+            None => Worker::start_with(words)?,
+        };
+        Ok(match worker.ask(&question(&problem.bytes), limit) {
+            Ending::TooSlow => End::GivenUp(self.limit),
+            Ending::Died => End::Died,
+            Ending::Answered { text, .. } => {
+                *kept = Some(worker);
+                let answer = parse_answer(&text);
+                let (told, fault) = answer.ok_or("a worker's answer cannot be understood")?;
+                End::Told(told, fault)
+            }
+        })
+    }
+}
+
+/// How a problem ended.
+enum End {
+    /// What the call told, and what was wrong with the buffers or the second call, if anything.
+    Told(Told, Option<String>),
+    GivenUp(Duration),
+    Died,
+}
+
+/// What a worker's thread sends: the problem's index and how it ended, or why there is no worker.
+type Sent = Result<(usize, End), String>;
+
+/// A problem with its bytes, which are the first 60,001 of a longer file.
+struct Loaded {
+    name: String,
+    length: u64,
+    bytes: Vec<u8>,
+}
+
+/// All problems of a folder. A file that cannot be read is told before the run and not in it.
+fn read_problems(folder: &OsStr) -> Result<Vec<Loaded>, Failure> {
+    let problems = list_night(Path::new(folder)).map_err(Failure::misuse)?;
+    problems.iter().map(load).collect()
+}
+
+fn load(problem: &NightProblem) -> Result<Loaded, Failure> {
+    let read = File::open(&problem.path).and_then(|file| {
+        let length = file.metadata()?.len();
+        let mut bytes = Vec::new();
+        file.take(MAX_BYTES as u64 + 1).read_to_end(&mut bytes)?;
+        Ok(Loaded {
+            name: problem.name.clone(),
+            length,
+            bytes,
+        })
+    });
+    read.map_err(|error| {
+        Failure::misuse(format!(
+            "the problem file {} cannot be read: {error}; mend it, or move it elsewhere",
+            problem.path.display()
+        ))
+    })
+}
+
+/// The table of an earlier run.
+fn read_earlier(file: &OsStr) -> Result<BTreeMap<String, Row>, Failure> {
+    let shown = Path::new(file).display();
+    let bytes = read_file(file, |_| MOST_TABLE)?;
+    let text = String::from_utf8(bytes).map_err(|_| "it is no text".to_string());
+    let rows = text.and_then(|text| parse_rows(&text));
+    rows.map_err(|complaint| {
+        Failure::file(format!(
+            "{shown}: {complaint}; name a file that 'chooser night --csv' has written"
+        ))
+    })
+}
+
+/// Asks, before a run that may take hours, that its table can be written afterwards.
+fn check_target(out: &OsStr, earlier: Option<&OsStr>) -> Result<(), Failure> {
+    let path = Path::new(out);
+    let folder = path
+        .parent()
+        .filter(|folder| !folder.as_os_str().is_empty());
+    if path.is_dir() || !folder.unwrap_or(Path::new(".")).is_dir() {
+        return Err(Failure::misuse(format!(
+            "{} cannot be written: it is a folder, or its folder is missing; name a file in a \
+             folder",
+            path.display()
+        )));
+    }
+    let whole = |word: &OsStr| fs::canonicalize(word).ok();
+    if earlier.is_some_and(|earlier| whole(earlier).is_some() && whole(earlier) == whole(out)) {
+        return Err(Failure::misuse(format!(
+            "{CSV} and {COMPARE} name the same file, so the earlier run would be lost; name \
+             another file behind {CSV}"
+        )));
+    }
+    Ok(())
+}
+
+/// What has come of the problems.
+#[derive(Default)]
+struct Night {
+    /// What each problem's call has told, by the problem's index.
+    told: BTreeMap<usize, Told>,
+    /// A line for each problem that was given up, whose worker died, or whose calls differ.
+    faults: BTreeMap<usize, String>,
+    slowest: Option<(u64, usize)>,
+}
+
+impl Night {
+    /// Takes up the endings of all problems, as they come.
+    fn take_all(&mut self, problems: &[Loaded], endings: &Receiver<Sent>) -> Result<(), String> {
+        let start = Instant::now();
+        loop {
+            match endings.recv_timeout(PROGRESS) {
+                Ok(sent) => {
+                    let (index, end) = sent?;
+                    self.take(&problems[index].name, index, end);
+                }
+                Err(RecvTimeoutError::Timeout) => {}
+                Err(RecvTimeoutError::Disconnected) => break,
+            }
+            show_progress(&self.progress(problems, start.elapsed()));
+        }
+        show_progress("");
+        Ok(())
+    }
+
+    fn take(&mut self, name: &str, index: usize, end: End) {
+        let fault = match end {
+            End::GivenUp(limit) => Some(format!("given up after {} s", limit.as_secs_f64())),
+            End::Died => Some("the process ended without an answer".into()),
+            End::Told(told, fault) => {
+                self.told.insert(index, told);
+                self.slowest = self.slowest.max(Some((told.microseconds, index)));
+                fault
+            }
+        };
+        if let Some(fault) = fault {
+            self.faults.insert(index, format!("{name}: {fault}"));
+        }
+    }
+
+    /// How far the run is.
+    fn progress(&self, problems: &[Loaded], time: Duration) -> String {
+        let without = self
+            .faults
+            .keys()
+            .filter(|index| !self.told.contains_key(index));
+        let done = self.told.len() + without.count();
+        let rate = done as f64 / time.as_secs_f64();
+        let mut line = format!("{done} of {}, {rate:.1} a second", problems.len());
+        if let Some((microseconds, index)) = self.slowest {
+            let (time, name) = (seconds(microseconds), &problems[index].name);
+            line.push_str(&format!(", slowest {time} s {name}"));
+        }
+        line
+    }
+
+    /// A row for each problem, in order.
+    fn rows(&self, problems: &[Loaded]) -> Vec<Row> {
+        let row = |(index, problem): (usize, &Loaded)| Row {
+            name: problem.name.clone(),
+            bytes: problem.length,
+            told: self.told.get(&index).copied(),
+        };
+        problems.iter().enumerate().map(row).collect()
+    }
+}
+
+fn seconds(microseconds: u64) -> String {
+    format!("{:.6}", Duration::from_micros(microseconds).as_secs_f64())
+}
+
+/// What is told at the end.
+fn summary(rows: &[Row], night: &Night, compared: Option<&Comparison>, time: Duration) -> String {
+    let mut text = slowest_lines(rows);
+    text.push_str(&refusal_lines(rows));
+    for fault in night.faults.values() {
+        text.push_str(&format!("{fault}\n"));
+    }
+    if let Some(found) = compared {
+        text.push_str(&comparison_lines(found));
+    }
+    let told: Vec<Told> = rows.iter().filter_map(|row| row.told).collect();
+    let answered = told.iter().filter(|told| told.number == 0).count();
+    let sum = told.iter().map(|told| told.microseconds).sum();
+    text.push_str(&format!(
+        "{} in all: {answered} answered, {} refused, {} without an answer; {} s of processor \
+         time, {:.1} s passed\n",
+        rows.len(),
+        told.len() - answered,
+        rows.len() - told.len(),
+        seconds(sum),
+        time.as_secs_f64()
+    ));
+    text
+}
+
+fn slowest_lines(rows: &[Row]) -> String {
+    let mut times: Vec<(u64, &str)> = rows
+        .iter()
+        .filter_map(|row| Some((row.told?.microseconds, row.name.as_str())))
+        .collect();
+    times.sort_by(|one, other| other.0.cmp(&one.0).then(one.1.cmp(other.1)));
+    times.truncate(SLOWEST);
+    let line = |&(time, name): &(u64, &str)| format!("{:>12} s  {name}\n", seconds(time));
+    let lines: String = times.iter().map(line).collect();
+    match lines.is_empty() {
+        true => lines,
+        false => format!("slowest:\n{lines}"),
+    }
+}
+
+fn refusal_lines(rows: &[Row]) -> String {
+    let mut numbers: BTreeMap<u8, usize> = BTreeMap::new();
+    for told in rows.iter().filter_map(|row| row.told) {
+        if told.number != 0 {
+            *numbers.entry(told.number).or_default() += 1;
+        }
+    }
+    let line = |(number, times): (&u8, &usize)| format!("{times:>12}    refused {number}\n");
+    numbers.iter().map(line).collect()
+}
+
+fn comparison_lines(found: &Comparison) -> String {
+    let mut text = String::new();
+    for difference in &found.differences {
+        text.push_str(&format!("{difference}\n"));
+    }
+    text.push_str(&format!(
+        "compared: {} the same, {} different",
+        found.same,
+        found.differences.len()
+    ));
+    if found.unknown > 0 {
+        let unknown = format!(", {} without an answer in one of the runs", found.unknown);
+        text.push_str(&unknown);
+    }
+    text + "\n"
+}
