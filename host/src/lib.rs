@@ -23,6 +23,7 @@ pub mod night_csv;
 pub mod night_worker;
 pub mod owned;
 pub mod plain;
+pub mod plot;
 pub mod point_records;
 pub mod problem;
 pub mod progress;
