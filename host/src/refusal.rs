@@ -46,3 +46,30 @@ impl Refusal {
         Refusal { number, place: 0 }
     }
 }
+
+/// Document 01's word for a number of refusal, from 1 on.
+const WORDS: [&str; 16] = [
+    "oversize",
+    "cut short",
+    "stray mark",
+    "variables",
+    "objectives",
+    "tables",
+    "domain",
+    "owner",
+    "arity",
+    "scope",
+    "leftover",
+    "work",
+    "sides",
+    "linked",
+    "full",
+    "prefix",
+];
+
+/// Document 01's word for a number of refusal.
+pub fn word_of(number: u8) -> &'static str {
+    let place = usize::from(number).checked_sub(1);
+    let word = place.and_then(|place| WORDS.get(place));
+    word.copied().unwrap_or("unknown")
+}

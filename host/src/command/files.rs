@@ -76,6 +76,21 @@ pub fn write_file(word: &OsStr, bytes: &[u8]) -> Result<(), Failure> {
     })
 }
 
+/// Asks, before a run that may take long, that a file can be written after it.
+pub fn check_target(word: &OsStr) -> Result<(), Failure> {
+    let path = Path::new(word);
+    let folder = path
+        .parent()
+        .filter(|folder| !folder.as_os_str().is_empty());
+    if path.file_name().is_some() && !path.is_dir() && folder.is_none_or(Path::is_dir) {
+        return Ok(());
+    }
+    Err(Failure::misuse(format!(
+        "'{}' cannot be written: it is a folder, or its folder is missing; name a file in a folder",
+        path.display()
+    )))
+}
+
 /// Puts a file with these bytes in the place of another.
 fn replace(target: &Path, bytes: &[u8], permissions: Option<fs::Permissions>) -> io::Result<()> {
     let beside = name_beside(target);

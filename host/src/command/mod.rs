@@ -3,12 +3,24 @@
 use std::ffi::{OsStr, OsString};
 use std::process::ExitCode;
 
+mod answers;
+mod bound;
+mod cut;
 mod files;
 mod help;
 mod night;
+mod pack;
+mod plot;
+mod refused;
+mod solve;
+mod source;
+mod unpack;
+mod waiting;
 mod words;
 
-pub use files::{print_bytes, print_error, print_out, read_file, write_file, STANDARD_STREAM};
+pub use files::STANDARD_STREAM;
+pub use files::{check_target, print_bytes, print_error, print_out, read_file, write_file};
+pub use source::Source;
 pub use words::{sort_words, Asked, Known};
 
 use crate::nearest::or_nearest;
@@ -52,6 +64,42 @@ struct Subcommand {
 
 /// All subcommands, in the order in which the help tells them.
 const SUBCOMMANDS: &[Subcommand] = &[
+    Subcommand {
+        name: "solve",
+        summary: "list the frontier of a problem",
+        help: solve::HELP,
+        run: solve::run,
+    },
+    Subcommand {
+        name: "cut",
+        summary: "list the frontier by way of two halves",
+        help: cut::HELP,
+        run: cut::run,
+    },
+    Subcommand {
+        name: "bound",
+        summary: "tell what a partial choice costs at least",
+        help: bound::HELP,
+        run: bound::run,
+    },
+    Subcommand {
+        name: "pack",
+        summary: "make a binary problem of a text problem",
+        help: pack::HELP,
+        run: pack::run,
+    },
+    Subcommand {
+        name: "unpack",
+        summary: "make a text problem of a binary problem",
+        help: unpack::HELP,
+        run: unpack::run,
+    },
+    Subcommand {
+        name: "plot",
+        summary: "draw the frontier of a problem as a picture",
+        help: plot::HELP,
+        run: plot::run,
+    },
     Subcommand {
         name: "night",
         summary: "run every problem of a folder, and compare with an earlier run",

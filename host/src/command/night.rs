@@ -11,12 +11,15 @@ use std::sync::mpsc::{self, Receiver, RecvTimeoutError, Sender};
 use std::thread;
 use std::time::{Duration, Instant};
 
-use super::{print_out, read_file, sort_words, write_file, Asked, Failure, Known, Outcome};
+use super::{
+    check_target, print_out, read_file, sort_words, write_file, Asked, Failure, Known, Outcome,
+};
 use crate::limits::MAX_BYTES;
 use crate::night::{list_night, NightProblem};
 use crate::night_csv::{compare_rows, parse_rows, write_rows, Comparison, Row, Told};
 use crate::night_worker::{parse_answer, question, serve_night, TWICE};
 use crate::progress::show_progress;
+use crate::refusal::word_of;
 use crate::worker::{parse_limit, Ending, Worker, WORKER};
 
 pub const HELP: &str = "\
@@ -113,7 +116,7 @@ impl Plan {
             Some(text) => parse_limit(&text.to_string_lossy()).map_err(Failure::misuse)?,
         };
         if let Some(out) = asked.value(CSV) {
-            check_target(out, asked.value(COMPARE))?;
+            check_csv(out, asked.value(COMPARE))?;
         }
         Ok(Plan {
             jobs: asked
@@ -238,19 +241,10 @@ fn read_earlier(file: &OsStr) -> Result<BTreeMap<String, Row>, Failure> {
     })
 }
 
-/// Asks, before a run that may take hours, that its table can be written afterwards.
-fn check_target(out: &OsStr, earlier: Option<&OsStr>) -> Result<(), Failure> {
-    let path = Path::new(out);
-    let folder = path
-        .parent()
-        .filter(|folder| !folder.as_os_str().is_empty());
-    if path.is_dir() || !folder.unwrap_or(Path::new(".")).is_dir() {
-        return Err(Failure::misuse(format!(
-            "{} cannot be written: it is a folder, or its folder is missing; name a file in a \
-             folder",
-            path.display()
-        )));
-    }
+/// Asks, before a run that may take hours, that its table can be written afterwards and does not
+/// replace the one that it is compared with.
+fn check_csv(out: &OsStr, earlier: Option<&OsStr>) -> Result<(), Failure> {
+    check_target(out)?;
     let whole = |word: &OsStr| fs::canonicalize(word).ok();
     if earlier.is_some_and(|earlier| whole(earlier).is_some() && whole(earlier) == whole(out)) {
         return Err(Failure::misuse(format!(
@@ -383,7 +377,9 @@ fn refusal_lines(rows: &[Row]) -> String {
             *numbers.entry(told.number).or_default() += 1;
         }
     }
-    let line = |(number, times): (&u8, &usize)| format!("{times:>12}    refused {number}\n");
+    let line = |(number, times): (&u8, &usize)| {
+        format!("{times:>12} x  refused {number} ({})\n", word_of(*number))
+    };
     numbers.iter().map(line).collect()
 }
 
