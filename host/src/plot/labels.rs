@@ -53,10 +53,10 @@ const SIDE: Tenths = 25;
 
 /// Where a label may stand beside its point: above, below, and how far to which side.
 const BESIDE: [([Tenths; 2], Anchor); 6] = [
-    ([60, -60], Anchor::Start),
-    ([-60, 140], Anchor::End),
-    ([60, 140], Anchor::Start),
-    ([-60, -60], Anchor::End),
+    ([80, -50], Anchor::Start),
+    ([-80, 130], Anchor::End),
+    ([80, 130], Anchor::Start),
+    ([-80, -50], Anchor::End),
     ([85, 35], Anchor::Start),
     ([-85, 35], Anchor::End),
 ];
