@@ -8,7 +8,7 @@ use crate::digest::answer_digest;
 use crate::hex::{from_hex, to_hex};
 use crate::night::night_buffers;
 use crate::night_csv::Told;
-use crate::owned::Buffers;
+use crate::owned::{Buffers, SolveCall};
 use crate::random::{junk, Rng};
 use crate::refusal::FULL;
 use crate::worker::serve;
@@ -41,10 +41,10 @@ pub fn serve_night(twice: bool) -> Result<(), String> {
     let (mut lent, mut rng) = (night_buffers(), Rng::new(0));
     serve(|line| {
         let bytes = from_hex(line).ok_or("a problem in hexadecimal digits is due")?;
-        let (told, mut checked) = call_once(&mut lent, &bytes);
-        if twice && checked.is_ok() {
-            checked = call_again(&lent, &mut rng, &bytes, told);
-        }
+        let (told, checked) = match twice {
+            true => call_twice(solve_problem, &mut lent, &mut rng, &bytes),
+            false => call_once(solve_problem, &mut lent, &bytes),
+        };
         let fault = checked.err().unwrap_or_default();
         Ok(format!(
             "{} {} {} {} {};{fault}\n",
@@ -61,11 +61,11 @@ fn sizes(bytes: &[u8], answer: Answer) -> [usize; 2] {
     }
 }
 
-/// The plain call once, and whether the buffers are as they must be.
-fn call_once(lent: &mut Buffers, bytes: &[u8]) -> (Told, Result<(), String>) {
+/// A flat call once, and whether the buffers are as they must be.
+pub fn call_once(call: SolveCall, lent: &mut Buffers, bytes: &[u8]) -> (Told, Result<(), String>) {
     let before = lent.clone();
     let start = thread_time();
-    let answer = lent.lend(solve_problem, bytes);
+    let answer = lent.lend(call, bytes);
     let time = thread_time().saturating_sub(start);
     let sizes = sizes(bytes, answer);
     let told = Told {
@@ -103,12 +103,30 @@ fn check_left(
     }
 }
 
-/// The call again, from other junk in all buffers: the same answer, and the same points byte by
-/// byte.
-fn call_again(first: &Buffers, rng: &mut Rng, bytes: &[u8], told: Told) -> Result<(), String> {
+/// A flat call, and again from other junk in all buffers: the same answer, and the same points byte
+/// by byte.
+pub fn call_twice(
+    call: SolveCall,
+    lent: &mut Buffers,
+    rng: &mut Rng,
+    bytes: &[u8],
+) -> (Told, Result<(), String>) {
+    let (told, checked) = call_once(call, lent, bytes);
+    let compared = checked.and_then(|()| compare_again(call, lent, rng, bytes, told));
+    (told, compared)
+}
+
+/// Calls again and compares with what the first call has told and listed.
+fn compare_again(
+    call: SolveCall,
+    first: &Buffers,
+    rng: &mut Rng,
+    bytes: &[u8],
+    told: Told,
+) -> Result<(), String> {
     let [costs, choices, work] = [first.costs.len(), first.choices.len(), first.work.len()];
     let mut second = junk(rng, costs, choices, work);
-    let (again, checked) = call_once(&mut second, bytes);
+    let (again, checked) = call_once(call, &mut second, bytes);
     checked?;
     let answer = |told: Told| Answer {
         number: told.number,
