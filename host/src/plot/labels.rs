@@ -51,8 +51,11 @@ const BELOW: Tenths = 25;
 /// What stays free at the sides of a label, so that two do not read as one.
 const SIDE: Tenths = 25;
 
-/// Where a label may stand beside its point: above, below, and how far to which side.
-const BESIDE: [([Tenths; 2], Anchor); 6] = [
+/// A place beside a point: how far across and down, and which end of the label stands there.
+type Beside = ([Tenths; 2], Anchor);
+
+/// Where a label may stand beside its point.
+pub const NEAR: [Beside; 6] = [
     ([80, -50], Anchor::Start),
     ([-80, 130], Anchor::End),
     ([80, 130], Anchor::Start),
@@ -61,9 +64,27 @@ const BESIDE: [([Tenths; 2], Anchor); 6] = [
     ([-85, 35], Anchor::End),
 ];
 
+/// Where a label may stand that tells by itself which point it belongs to.
+pub const NEAR_OR_FAR: [Beside; 9] = [
+    NEAR[0],
+    NEAR[1],
+    NEAR[2],
+    NEAR[3],
+    NEAR[4],
+    NEAR[5],
+    ([-10, 240], Anchor::End),
+    ([10, -160], Anchor::Start),
+    ([10, 240], Anchor::Start),
+];
+
 /// Labels for the places with their texts, each within the space, none over a taken area or over
 /// another label. One for which there is no place is left out.
-pub fn place_labels(space: Area, taken: &[Area], wanted: &[([Tenths; 2], String)]) -> Vec<Label> {
+pub fn place_labels(
+    space: Area,
+    taken: &[Area],
+    wanted: &[([Tenths; 2], String)],
+    places: &[Beside],
+) -> Vec<Label> {
     let mut labels: Vec<Label> = Vec::new();
     for (point, text) in wanted {
         let free = |label: &Label| {
@@ -71,7 +92,7 @@ pub fn place_labels(space: Area, taken: &[Area], wanted: &[([Tenths; 2], String)
             let mut others = others.filter(|area| area.overlaps(&label.area));
             space.contains(&label.area) && others.next().is_none()
         };
-        let beside = BESIDE.iter().map(|(offset, anchor)| {
+        let beside = places.iter().map(|(offset, anchor)| {
             let place = [point[0] + offset[0], point[1] + offset[1]];
             label_at(place, *anchor, text)
         });

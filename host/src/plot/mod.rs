@@ -8,7 +8,7 @@ mod scale;
 mod svg;
 
 use axis::{grouped, Direction};
-use panel::Panel;
+use panel::{Panel, INSET};
 use svg::{fitted, text_width, Anchor, Canvas, Tenths};
 
 /// A point to draw: its costs, and for each module the name and the chosen variant.
@@ -109,15 +109,17 @@ fn draw_matrix(picture: &Picture, size: [Tenths; 2]) -> String {
     let up = |k| Panel::axis(picture, k, size[1], Direction::Up);
     let width = (1..=last).map(|k| up(k).label_width()).max().unwrap_or(0);
     let left = EDGE + BESIDE + width;
+    let (gap, edge) = space_beside((0..last).map(|k| across(k).label_width()).max());
     let place = |column: usize, row: usize| {
         let (column, row) = (column as Tenths, row as Tenths);
         [
-            left + column * (size[0] + GAP),
+            left + column * (size[0] + gap),
             HEAD + row * (size[1] + GAP),
         ]
     };
-    let [right, bottom] = place(last, last).map(|end| end - GAP);
-    let (whole, labels, mut canvas) = (right + EDGE, picture.labels(), Canvas::default());
+    let [right, bottom] = place(last, last);
+    let [right, bottom] = [right - gap, bottom - GAP];
+    let (whole, labels, mut canvas) = (right + edge, picture.labels(), Canvas::default());
     picture.draw_head(&mut canvas, whole);
     for row in 1..=last {
         for column in 0..row {
@@ -142,6 +144,13 @@ fn draw_matrix(picture: &Picture, size: [Tenths; 2]) -> String {
         draw_list(picture, &mut canvas, [x, y], [right - x, size[1]]);
     }
     canvas.finish(whole, bottom + BELOW + EDGE, &shows(picture))
+}
+
+/// The space between panels and right of the last one, so that the labels of the first and last ticks
+/// below them, of which the widest has this width, stay apart and in the picture.
+fn space_beside(widest: Option<Tenths>) -> (Tenths, Tenths) {
+    let over = widest.unwrap_or(0) - 2 * INSET;
+    (GAP.max(over + 80), EDGE.max(over / 2 + 40))
 }
 
 /// What the picture shows, for those who cannot see it.

@@ -1,12 +1,12 @@
 //! One panel: points by two of their costs between two axes.
 
 use super::axis::{grouped, Axis, Direction};
-use super::labels::{place_labels, Area};
+use super::labels::{place_labels, Area, NEAR, NEAR_OR_FAR};
 use super::svg::{fitted, Anchor, Canvas, Tenths};
 use super::Picture;
 
 /// The marks of points keep this distance from the frame.
-const INSET: Tenths = 140;
+pub const INSET: Tenths = 140;
 
 /// The radius of a mark, and the part around it that labels leave free.
 const RADIUS: Tenths = 40;
@@ -115,8 +115,9 @@ impl Panel {
             taken.extend(corners.windows(2).map(|pair| line_area(pair[0], pair[1])));
         }
         let [least, greatest] = self.corners();
+        let beside = if stairs { &NEAR_OR_FAR[..] } else { &NEAR };
         let wanted: Vec<_> = places.iter().copied().zip(labels.iter().cloned()).collect();
-        for label in place_labels(Area { least, greatest }, &taken, &wanted) {
+        for label in place_labels(Area { least, greatest }, &taken, &wanted, beside) {
             canvas.text("label", label.place, label.anchor, &label.text);
         }
         for (number, place) in places.iter().enumerate() {

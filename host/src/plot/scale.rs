@@ -37,19 +37,25 @@ pub fn draw(picture: &Picture) -> String {
     if near {
         let x = at(ceiling.into());
         canvas.line("ceiling", [x, y - 400], [x, y]);
-        canvas.text("quiet", [x - 60, y - 330], Anchor::End, "ceiling");
+        let (beside, anchor) = beside(x, left, "ceiling");
+        canvas.text("quiet", [beside, y - 330], anchor, "ceiling");
     }
     if let Some(cost) = cost {
         let x = at(cost.into());
         canvas.line("stairs", [left, y], [x, y]);
         let label = grouped(cost.into());
         // A ceiling is to the right, so that is the side to keep away from.
-        let (beside, anchor) = match x - left > text_width(&label) {
-            true => (x - 60, Anchor::End),
-            false => (x + 60, Anchor::Start),
-        };
+        let (beside, anchor) = beside(x, left, &label);
         canvas.text("label", [beside, y - 80], anchor, &label);
         canvas.mark([x, y], 50, &picture.told(0));
     }
     canvas.finish(width, y + BELOW + EDGE, &shows(picture))
+}
+
+/// Where a text stands beside a place: left of it if there is space from the scale's left end on.
+fn beside(x: Tenths, left: Tenths, text: &str) -> (Tenths, Anchor) {
+    match x - left > text_width(text) {
+        true => (x - 60, Anchor::End),
+        false => (x + 60, Anchor::Start),
+    }
 }
