@@ -179,7 +179,7 @@ impl<'a> Grid<'a> {
         }
         if self.lines[row] > 0 {
             let message = format!(
-                "the row for {} stands in line {} already; leave one out",
+                "the {} stands in line {} already; leave one out",
                 self.row_name(row),
                 self.lines[row]
             );
@@ -195,16 +195,16 @@ impl<'a> Grid<'a> {
         cursor.end("the row has a cost for each column")
     }
 
-    /// The variants of a row, for a message.
+    /// What to call a row in a message.
     fn row_name(&self, row: usize) -> String {
         match self.labels.is_empty() {
-            true => "the costs".into(),
-            false => format!("'{}'", row_variants(&self.labels, row).join(" ")),
+            true => "row of costs".into(),
+            false => format!("row for '{}'", row_variants(&self.labels, row).join(" ")),
         }
     }
 
     fn lacking(&self, row: usize) -> String {
-        format!("this table has no row for {}; add it", self.row_name(row))
+        format!("this table has no {}; add it", self.row_name(row))
     }
 }
 
