@@ -53,8 +53,20 @@ impl Question<'_> {
         let byte = |place: usize| record.byte(place).unwrap_or_default();
         let (what, found, least, most, place) = match refusal.number {
             number::STRAY_MARK => return stray_mark(record),
-            number::VARIABLES => ("n, the number of modules,", byte(2), 1, MAX_VARIABLES, "2"),
-            number::OBJECTIVES => ("p, the number of costs,", byte(3), 1, MAX_OBJECTIVES, "3"),
+            number::VARIABLES => (
+                "n, the number of modules,",
+                byte(2),
+                1,
+                MAX_VARIABLES,
+                "byte 2",
+            ),
+            number::OBJECTIVES => (
+                "p, the number of costs,",
+                byte(3),
+                1,
+                MAX_OBJECTIVES,
+                "byte 3",
+            ),
             number::TABLES => {
                 let tables = byte(4) + 256 * byte(5);
                 (
@@ -62,17 +74,17 @@ impl Question<'_> {
                     tables,
                     0,
                     MAX_TABLES,
-                    "4 and 5",
+                    "bytes 4 and 5",
                 )
             }
-            number::DOMAIN => ("the domain size", byte(2), 1, MAX_DOMAIN, "2"),
-            number::OWNER => ("the objective", byte(2), 0, self.last_number(3), "2"),
-            number::ARITY => ("the arity", byte(3), 0, MAX_ARITY, "3"),
+            number::DOMAIN => ("the domain size", byte(2), 1, MAX_DOMAIN, "byte 2"),
+            number::OWNER => ("the objective", byte(2), 0, self.last_number(3), "byte 2"),
+            number::ARITY => ("the arity", byte(3), 0, MAX_ARITY, "byte 3"),
             number::SCOPE => return self.scope(record),
             _ => return unknown(refusal),
         };
         let wrong = format!("{what} is {found}, and may be {least} to {most}");
-        let mend = format!("put the right number into byte {place} of this record (from 0)");
+        let mend = format!("put the right number into {place} of this record, counted from 0");
         (wrong, mend)
     }
 
