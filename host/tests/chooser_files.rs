@@ -145,6 +145,25 @@ fn an_output_file_is_replaced_whole_or_not_at_all() {
 }
 
 #[test]
+fn a_disk_that_is_full_leaves_the_old_file() {
+    let folder = folder("full");
+    let packed = folder.join("packed.bin");
+    fs::write(&packed, "old").expect("the file is written");
+    // No file may grow in this shell, and what tries is told so instead of being killed.
+    let script = "trap '' XFSZ; ulimit -f 0; exec \"$0\" pack examples/firmware.txt -o \"$1\"";
+    let ended = Command::new("sh")
+        .args(["-c", script, CHOOSER, word(&packed)])
+        .current_dir(root())
+        .output()
+        .expect("a shell runs");
+    let told = String::from_utf8_lossy(&ended.stderr);
+    assert_eq!(ended.status.code(), Some(2), "{told}");
+    assert!(told.contains("nothing in it has changed"), "{told}");
+    assert_eq!(fs::read(&packed).expect("it is still there"), b"old");
+    assert_eq!(fs::read_dir(&folder).expect("it is there").count(), 1);
+}
+
+#[test]
 fn an_output_file_keeps_its_permissions_and_its_links() {
     let folder = folder("links");
     let [target, link] = ["target.bin", "link.bin"].map(|name| folder.join(name));
@@ -174,6 +193,7 @@ fn an_output_that_cannot_be_written_is_told() {
         .tells(&["none/packed.bin cannot be written: "]);
     pack("").with(2).tells(&["cannot be written"]);
     pack("/dev/null").with(0);
+    assert_eq!(pack("-").with(0).out.len(), 187);
     let full = OpenOptions::new().write(true).open("/dev/full");
     if let Ok(full) = full {
         let ended = Command::new(CHOOSER)
