@@ -23,7 +23,10 @@ pub fn nearest<'a>(word: &str, known: impl IntoIterator<Item = &'a str>) -> Opti
     if word.len() > LONGEST {
         return None;
     }
-    let near = |known: &&str| distance(word, known) <= known.chars().count().div_ceil(3);
+    let near = |known: &&str| {
+        let length = known.chars().count();
+        distance(word, known) <= length.div_ceil(3).min(length.saturating_sub(1))
+    };
     let known = known.into_iter().filter(near);
     known.min_by_key(|known| distance(word, known))
 }
@@ -58,5 +61,6 @@ mod tests {
         for word in ["frobnicate", "", "night"] {
             assert_eq!(nearest(word, known), None);
         }
+        assert_eq!(nearest("b", ["a"]), None);
     }
 }

@@ -121,8 +121,9 @@ mod tests {
         let bytes = every_arity().encode();
         for length in 0..bytes.len() {
             for place in 0..=length {
-                let found = record_at(&bytes[..length], place);
-                assert!(found.is_none_or(|record| record.bytes.len() <= length - place));
+                if let Some(record) = record_at(&bytes[..length], place) {
+                    assert!(record.bytes.len() <= length - place);
+                }
             }
         }
     }

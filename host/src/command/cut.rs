@@ -41,8 +41,8 @@ pub fn run(words: &[OsString]) -> Result<Outcome, Failure> {
     let sizes = [halves.first, halves.second];
     match listed_reply(&source, lent.listed(&source.bytes, halves.answer)) {
         Ok(mut reply) => {
-            let told = format!("half 0: {} points, half 1: {}", sizes[0], sizes[1]);
-            reply.text.push_str(&format!("\n{told}\n"));
+            let told = format!("\nhalf sizes: {} and {}\n", sizes[0], sizes[1]);
+            reply.text.push_str(&told);
             reply.json.push(("halves", Json::numbers(&sizes)));
             reply.print(json)
         }

@@ -9,7 +9,7 @@ use std::process;
 
 use super::Failure;
 
-/// The word for standard input in place of a file.
+/// The word for standard input, or standard output, in place of a file.
 pub const STANDARD_STREAM: &str = "-";
 
 /// Reads a file, or standard input for `-`; of one that is longer than the limit that `limit` gives
@@ -52,9 +52,12 @@ fn unreadable(path: &Path, error: &io::Error) -> Failure {
     })
 }
 
-/// Writes a file so that an error leaves the old one: all bytes go to a file with another name
-/// beside it, which then takes its name.
+/// Writes a file, or standard output for `-`, so that an error leaves the old file: all bytes go to a
+/// file with another name beside it, which then takes its name.
 pub fn write_file(word: &OsStr, bytes: &[u8]) -> Result<(), Failure> {
+    if word == STANDARD_STREAM {
+        return print_bytes(bytes);
+    }
     let path = Path::new(word);
     // A link stays a link: what it leads to is replaced.
     let target = fs::canonicalize(path).unwrap_or_else(|_| path.to_owned());

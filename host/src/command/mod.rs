@@ -3,6 +3,7 @@
 use std::ffi::{OsStr, OsString};
 use std::process::ExitCode;
 
+mod advice;
 mod answers;
 mod bound;
 mod cut;

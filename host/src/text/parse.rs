@@ -80,7 +80,9 @@ fn check_start(line: &Line, first: Word) -> Result<(), String> {
     if STATEMENTS.contains(&first.text) {
         return Ok(());
     }
-    let advice = "a line starts with 'costs', 'module' or 'table', and a table's rows are indented";
+    let advice =
+        "a line starts with 'costs', 'module' or 'table', and a table's rows are indented \
+                  (a binary problem starts with the letters HD)";
     let nearest = or_nearest(first.text, STATEMENTS, advice);
     Err(format!("{} starts no line; {nearest}", quoted(first.text)))
 }

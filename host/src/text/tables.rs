@@ -30,7 +30,8 @@ pub fn take_table<'a>(
     rest: &'a [Line<'a>],
 ) -> Result<&'a [Line<'a>], Fault> {
     let names = &named.names;
-    let objective = take_known(cursor, "a cost", names.costs.iter().map(String::as_str))?;
+    let known = names.costs.iter().map(String::as_str);
+    let (_, objective) = take_known(cursor, "a cost", known)?;
     let scope = take_scope(cursor, names)?;
     cursor.expect(":", "behind the first line of a table")?;
     let modules: Vec<&Module> = scope.iter().map(|&v| &names.modules[v]).collect();
@@ -61,30 +62,28 @@ fn take_scope(cursor: &mut Cursor, names: &Names) -> Result<Vec<usize>, Fault> {
         return Ok(scope);
     }
     while scope.is_empty() || cursor.next().is_some_and(|word| word.text != ":") {
-        let word = cursor.next();
         let known = names.modules.iter().map(|module| module.name.as_str());
-        let module = take_known(cursor, "a module", known)?;
-        let message = match scope.last() {
-            _ if scope.len() == MAX_ARITY => {
-                format!("a table is over at most {MAX_ARITY} modules; leave this one out")
-            }
-            Some(&before) if before == module => "this module stands twice; leave one out".into(),
-            Some(&before) if before > module => format!(
-                "modules stand here in the order of their lines; put {} before {}",
-                quoted(&names.modules[module].name),
-                quoted(&names.modules[before].name)
-            ),
-            _ => {
-                scope.push(module);
-                continue;
-            }
-        };
-        return Err(match word {
-            Some(word) => cursor.fault_at(word, message),
-            None => cursor.fault(message),
-        });
+        let (word, module) = take_known(cursor, "a module", known)?;
+        check_scope(&scope, module, names).map_err(|message| cursor.fault_at(word, message))?;
+        scope.push(module);
     }
     Ok(scope)
+}
+
+/// One more module of a scope stands in a later line than those before it.
+fn check_scope(scope: &[usize], module: usize, names: &Names) -> Result<(), String> {
+    match scope.last() {
+        _ if scope.len() == MAX_ARITY => Err(format!(
+            "a table is over at most {MAX_ARITY} modules; leave this one out"
+        )),
+        Some(&before) if before == module => Err("this module stands twice; leave one out".into()),
+        Some(&before) if before > module => Err(format!(
+            "modules stand here in the order of their lines; put {} before {}",
+            quoted(&names.modules[module].name),
+            quoted(&names.modules[before].name)
+        )),
+        _ => Ok(()),
+    }
 }
 
 /// The problem with one more table over these modules must not have too many bytes.
@@ -100,21 +99,26 @@ fn check_size(named: &Named, modules: &[&Module]) -> Result<(), String> {
     ))
 }
 
-/// Takes a name that must be one of the known ones; its number among them.
-fn take_known<'k>(
-    cursor: &mut Cursor,
+/// Takes a name that must be one of the known ones; the word, and its number among them.
+fn take_known<'a, 'k>(
+    cursor: &mut Cursor<'a>,
     what: &str,
     known: impl Iterator<Item = &'k str> + Clone,
-) -> Result<usize, Fault> {
+) -> Result<(Word<'a>, usize), Fault> {
     let name = cursor.name(what)?;
-    let place = known.clone().position(|known| known == name.text);
-    place.ok_or_else(|| {
-        let all = known.clone().collect::<Vec<_>>().join(", ");
-        let advice = format!("there are: {all}");
-        let nearest = or_nearest(name.text, known, &advice);
-        let message = format!("{} is not the name of {what}; {nearest}", quoted(name.text));
-        cursor.fault_at(name, message)
-    })
+    if let Some(number) = known.clone().position(|known| known == name.text) {
+        return Ok((name, number));
+    }
+    let all = known.clone().collect::<Vec<_>>().join(", ");
+    let nearest = or_nearest(name.text, known, &format!("there are: {all}"));
+    let message = format!("{} is not the name of {what}; {nearest}", quoted(name.text));
+    Err(cursor.fault_at(name, message))
+}
+
+/// Takes the name of a variant of a module; the word, and its value.
+fn take_variant<'a>(cursor: &mut Cursor<'a>, module: &Module) -> Result<(Word<'a>, usize), Fault> {
+    let what = format!("a variant of {}", module.name);
+    take_known(cursor, &what, module.variants.iter().map(String::as_str))
 }
 
 impl<'a> Grid<'a> {
@@ -144,15 +148,18 @@ impl<'a> Grid<'a> {
         }
         match self.lines.iter().position(|&line| line == 0) {
             None => Ok(self.costs),
-            Some(missing) => Err(cursor.fault_at(first, self.lacking(missing))),
+            Some(missing) => {
+                let message = format!("this table has no {}; add it", self.row_name(missing));
+                Err(cursor.fault_at(first, message))
+            }
         }
     }
 
     /// The first line of a table's lines: which variant each column is for, each variant once.
     fn columns(&self, cursor: &mut Cursor) -> Result<Vec<usize>, Fault> {
         let mut columns = Vec::new();
-        while let Some(word) = cursor.next() {
-            let variant = take_variant(cursor, self.across)?;
+        while cursor.next().is_some() {
+            let (word, variant) = take_variant(cursor, self.across)?;
             if columns.contains(&variant) {
                 let message = format!("{} has a column already", quoted(word.text));
                 return Err(cursor.fault_at(word, message));
@@ -172,20 +179,17 @@ impl<'a> Grid<'a> {
     /// A row: a variant of each module but the last, then the costs.
     fn row(&mut self, line: &Line, columns: &[usize]) -> Result<(), Fault> {
         let mut cursor = Cursor::new(line);
-        let start = cursor.next();
         let mut row = 0;
         for module in &self.labels {
-            row = row * module.variants.len() + take_variant(&mut cursor, module)?;
+            let (_, value) = take_variant(&mut cursor, module)?;
+            row = row * module.variants.len() + value;
         }
         if self.lines[row] > 0 {
-            let message = format!(
-                "the row for {} stands in line {} already; leave one out",
+            return Err(Cursor::new(line).fault(format!(
+                "the {} stands in line {} already; leave one out",
                 self.row_name(row),
                 self.lines[row]
-            );
-            return Err(start.map_or(cursor.fault(&message), |word| {
-                cursor.fault_at(word, &message)
-            }));
+            )));
         }
         self.lines[row] = line.number;
         for &column in columns {
@@ -195,21 +199,11 @@ impl<'a> Grid<'a> {
         cursor.end("the row has a cost for each column")
     }
 
-    /// The variants of a row, for a message.
+    /// What to call a row in a message.
     fn row_name(&self, row: usize) -> String {
         match self.labels.is_empty() {
-            true => "the costs".into(),
-            false => format!("'{}'", row_variants(&self.labels, row).join(" ")),
+            true => "row of costs".into(),
+            false => format!("row for '{}'", row_variants(&self.labels, row).join(" ")),
         }
     }
-
-    fn lacking(&self, row: usize) -> String {
-        format!("this table has no row for {}; add it", self.row_name(row))
-    }
-}
-
-/// Takes the name of a variant of a module; its value.
-fn take_variant(cursor: &mut Cursor, module: &Module) -> Result<usize, Fault> {
-    let what = format!("a variant of {}", module.name);
-    take_known(cursor, &what, module.variants.iter().map(String::as_str))
 }
