@@ -32,7 +32,9 @@ fn helps() -> Vec<String> {
 #[test]
 fn all_subcommands_are_listed() {
     let listed = subcommands();
-    for name in ["solve", "cut", "bound", "pack", "unpack", "help"] {
+    for name in [
+        "solve", "cut", "bound", "pack", "unpack", "plot", "night", "help",
+    ] {
         assert!(
             listed.iter().any(|listed| listed == name),
             "{name}: {listed:?}"

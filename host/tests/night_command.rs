@@ -1,9 +1,11 @@
 //! `chooser night`: its table, the comparison of runs, the second call, and every way to fail.
 
+mod chooser_run;
+
 use std::fs;
 use std::path::{Path, PathBuf};
-use std::process::{Command, Output};
 
+use chooser_run::{folder, run_in, Ended};
 use frontier_host::brute::{solve_problem, Answer};
 use frontier_host::digest::fnv_1a;
 use frontier_host::examples::{colours, objects, staircase, three};
@@ -11,14 +13,6 @@ use frontier_host::night_csv::{parse_rows, write_rows, Row, COLUMNS};
 use frontier_host::night_worker::call_twice;
 use frontier_host::owned::{frontier_of, Buffers, SolveCall};
 use frontier_host::random::Rng;
-
-/// An empty folder of its own for a test.
-fn empty_folder(name: &str) -> PathBuf {
-    let folder = Path::new(env!("CARGO_TARGET_TMPDIR")).join(format!("night_command_{name}"));
-    let _ = fs::remove_dir_all(&folder); // of an earlier run, if any
-    fs::create_dir_all(&folder).expect("a folder can be made");
-    folder
-}
 
 /// Problems of every kind: answered, refused 2, 1 and 15; one whose name has a comma and quotes.
 fn problems() -> Vec<(&'static str, Vec<u8>)> {
@@ -34,7 +28,7 @@ fn problems() -> Vec<(&'static str, Vec<u8>)> {
 
 /// A folder with these problems, in a folder of its own in which tables can stand.
 fn night_folder(name: &str) -> PathBuf {
-    let folder = empty_folder(name);
+    let folder = folder(&format!("night_{name}"));
     fs::create_dir(folder.join("in")).expect("a folder can be made");
     for (problem, bytes) in problems() {
         let file = folder.join(format!("in/{problem}.bin"));
@@ -44,31 +38,21 @@ fn night_folder(name: &str) -> PathBuf {
 }
 
 /// Runs the command in a folder.
-fn night(folder: &Path, words: &[&str]) -> Output {
-    Command::new(env!("CARGO_BIN_EXE_chooser"))
-        .arg("night")
-        .args(words)
-        .current_dir(folder)
-        .output()
-        .expect("chooser starts")
+fn night(folder: &Path, words: &[&str]) -> Ended {
+    run_in(folder, &[&["night"], words].concat(), &[])
 }
 
 /// Asserts how a run ends and that it is quiet on standard error; what it prints.
 fn printed(folder: &Path, words: &[&str], status: i32) -> String {
-    let output = night(folder, words);
-    let [text, complaint] = [output.stdout, output.stderr].map(|t| String::from_utf8(t).unwrap());
-    assert_eq!(output.status.code(), Some(status), "{text}{complaint}");
-    assert_eq!(complaint, "");
-    text
+    let ended = night(folder, words).with(status);
+    assert_eq!(ended.err, "");
+    ended.text().into()
 }
 
 /// Asserts the status and the words of a run that cannot be made.
 fn assert_complaint(folder: &Path, words: &[&str], status: i32, complaint: &str) {
-    let output = night(folder, words);
-    let text = String::from_utf8_lossy(&output.stderr);
-    assert_eq!(output.status.code(), Some(status), "{words:?} {text}");
-    assert!(text.contains(complaint), "{words:?} {text}");
-    assert!(output.stdout.is_empty(), "{words:?}");
+    let ended = night(folder, words).with(status).tells(&[complaint]);
+    assert_eq!(ended.text(), "", "{words:?}");
 }
 
 /// The rows of a table with all times 0.

@@ -1,42 +1,34 @@
 //! `chooser plot`: well-formed pictures with every point, labels that do not overlap, round ticks, and
 //! every way to fail.
 
+mod chooser_run;
+mod xml;
+
 use std::fs;
 use std::path::{Path, PathBuf};
-use std::process::{Command, Output};
+use std::process::Command;
 
+use chooser_run::{run, Ended};
 use frontier_host::chooser::solve_problem;
 use frontier_host::examples::{colours, every_arity, lone, objects, staircase, three};
 use frontier_host::owned::{frontier_by, Listed};
 use frontier_host::problem::{Problem, Table};
 use frontier_host::random::{random_problem, Rng, Shape};
 
-mod xml;
 use xml::{parse, Element};
-
-/// The folder of the repository.
-const ROOT: &str = concat!(env!("CARGO_MANIFEST_DIR"), "/..");
 
 /// A file of its own for a test.
 fn scratch(name: &str) -> PathBuf {
     Path::new(env!("CARGO_TARGET_TMPDIR")).join(format!("plot_{name}"))
 }
 
-fn plot(words: &[&str]) -> Output {
-    Command::new(env!("CARGO_BIN_EXE_chooser"))
-        .arg("plot")
-        .args(words)
-        .current_dir(ROOT)
-        .output()
-        .expect("chooser starts")
+fn plot(words: &[&str]) -> Ended {
+    run(&[&["plot"], words].concat())
 }
 
 /// The picture of a problem file, on standard output.
 fn picture_of(file: &str) -> String {
-    let output = plot(&[file, "-o", "-"]);
-    let complaint = String::from_utf8_lossy(&output.stderr);
-    assert_eq!(output.status.code(), Some(0), "{complaint}");
-    String::from_utf8(output.stdout).expect("a picture is text")
+    plot(&[file, "-o", "-"]).with(0).text().into()
 }
 
 /// The picture of a problem, by way of a file with this name.
@@ -236,21 +228,16 @@ fn a_picture_is_written_to_its_file() {
     let out = scratch("out.svg");
     let _ = fs::remove_file(&out); // of an earlier run, if any
     let out = out.to_str().expect("a path that is text");
-    let output = plot(&["examples/colours.bin", "-o", out]);
-    assert_eq!(output.status.code(), Some(0));
-    let printed = String::from_utf8_lossy(&output.stdout);
-    assert_eq!(printed, format!("{out}: 2 points\n"));
+    let ended = plot(&["examples/colours.bin", "-o", out]).with(0);
+    assert_eq!(ended.text(), format!("{out}: 2 points\n"));
     let written = fs::read_to_string(out).expect("a picture");
     assert_eq!(written, picture_of("examples/colours.bin"));
 }
 
 /// Asserts the status and the words of a run without a picture.
 fn assert_complaint(words: &[&str], status: i32, complaint: &str) {
-    let output = plot(words);
-    let text = String::from_utf8_lossy(&output.stderr);
-    assert_eq!(output.status.code(), Some(status), "{words:?} {text}");
-    assert!(text.contains(complaint), "{words:?} {text}");
-    assert!(output.stdout.is_empty(), "{words:?}");
+    let ended = plot(words).with(status).tells(&[complaint]);
+    assert_eq!(ended.text(), "", "{words:?}");
 }
 
 #[test]

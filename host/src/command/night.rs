@@ -33,13 +33,14 @@ worker takes all its problems through one set of buffers.
     --jobs N         so many workers side by side (default: one a processor)
     --limit SECONDS  give a problem up after so much processor time (default 60)
     --csv OUT        write name, bytes, number, place, count, microseconds of
-                     processor time and digest (FNV-1a of the listed costs and
-                     choices) of every problem to the file OUT
+                     processor time and digest (64-bit FNV-1a of the listed
+                     costs and choices) of every problem to the file OUT
     --compare FILE   name every difference from an earlier run's CSV
     --twice          call again from other junk in all buffers, and compare
 
-The status is 0 if every problem was answered or refused, and 1 if one was given
-up, differs in the second call, or is missing, new or different in --compare.
+The exit status is 0 if every problem was answered or refused; 1 if one was
+given up, differs in the second call, or is missing, new or different in
+--compare; 2 if the words are wrong or a file cannot be read or written.
 
 Example:
     chooser night examples --twice

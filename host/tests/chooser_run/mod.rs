@@ -44,9 +44,14 @@ impl Ended {
 
 /// Runs the command in the repository's root with these bytes as standard input.
 pub fn run_with<S: AsRef<OsStr>>(words: &[S], input: &[u8]) -> Ended {
+    run_in(&root(), words, input)
+}
+
+/// Runs the command in a folder with these bytes as standard input.
+pub fn run_in<S: AsRef<OsStr>>(folder: &Path, words: &[S], input: &[u8]) -> Ended {
     let mut process = Command::new(CHOOSER)
         .args(words)
-        .current_dir(root())
+        .current_dir(folder)
         .stdin(Stdio::piped())
         .stdout(Stdio::piped())
         .stderr(Stdio::piped())
