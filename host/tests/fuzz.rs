@@ -63,6 +63,17 @@ fn bad_arguments_give_the_usage() {
 }
 
 #[test]
+fn libfuzzer_finds_nothing_in_two_seconds() {
+    let script = concat!(env!("CARGO_MANIFEST_DIR"), "/../.ci/libfuzzer");
+    let output = Command::new("bash").args([script, "2"]).output();
+    let output = output.expect("bash starts");
+    let text = String::from_utf8_lossy(&output.stdout);
+    assert_eq!(output.status.code(), Some(0), "{text}");
+    let ended = ["nothing found in 2 s\n", "SKIPPED"];
+    assert!(ended.iter().any(|end| text.contains(end)), "{text}");
+}
+
+#[test]
 fn a_signal_is_told_with_the_seed() {
     let mut process = fuzz(&["--seed", "700", "100000000"])
         .stderr(Stdio::piped())

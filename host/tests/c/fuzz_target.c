@@ -1,0 +1,113 @@
+/* The calls as libFuzzer runs them; see .ci/libfuzzer. The library is not instrumented, so what guides the fuzzer is what
+ * the calls tell: number, place and count go into counters of its own, and an input that reaches a new one is kept. */
+#define _GNU_SOURCE
+#include "frontier.h"
+
+#include <stdlib.h>
+#include <string.h>
+#include <sys/mman.h>
+
+#define PAGE 4096
+#define PLACES 2048
+
+/* A counter for each number with each place (by 8 bytes), and for each count. */
+__attribute__((used, section("__libfuzzer_extra_counters"))) static uint8_t reached[17 * PLACES + 65];
+
+/* Memory that ends at a page which may not be touched. */
+static uint8_t *end_of(size_t most) {
+    size_t length = (most + PAGE - 1) / PAGE * PAGE;
+    uint8_t *start = mmap(NULL, length + PAGE, PROT_READ | PROT_WRITE, MAP_PRIVATE | MAP_ANONYMOUS, -1, 0);
+    if (start == MAP_FAILED || mprotect(start + length, PAGE, PROT_NONE))
+        abort();
+    return start + length;
+}
+
+static uint8_t *problem_end, *costs_end, *choices_end, *work_end;
+
+/* Whether an accepted problem has so few complete choices that it may be searched. */
+static int is_small(const uint8_t *problem) {
+    size_t choices = 1, domain = 6 + 4 * (size_t)problem[3] + 2;
+    for (size_t v = 0; v < problem[2] && choices <= 1000; v++)
+        choices *= problem[domain + 3 * v];
+    return choices <= 1000;
+}
+
+static void note(uint8_t number, uint32_t place, uint32_t count) {
+    if (number > 16 || count > 64)
+        abort();
+    reached[number * PLACES + place / 8 % PLACES] = 1;
+    reached[17 * PLACES + count] = 1;
+}
+
+/* A call must clear the work buffer after 0 and 15, and leave it alone after any other number. */
+static void check_work(uint8_t number, const uint32_t *work, size_t work_len, uint32_t junk) {
+    uint32_t due = number == 0 || number == FRONTIER_FULL ? 0 : junk;
+    for (size_t i = 0; i < work_len; i++)
+        if (work[i] != due)
+            abort();
+}
+
+/* What is lent for an input: the problem, n and p, and the work buffer with junk. */
+struct lent {
+    const uint8_t *problem;
+    size_t size, n, p, work_len;
+};
+
+/* The plain call, or with sides the cut call, with room for so many points and no element more; the count. */
+static uint32_t list(const struct lent *lent, const uint8_t *sides, size_t room) {
+    size_t costs_len = room * lent->p, choices_len = room * lent->n;
+    uint32_t *costs = (uint32_t *)costs_end - costs_len, *work = (uint32_t *)work_end - lent->work_len;
+    uint8_t *choices = choices_end - choices_len, number;
+    uint32_t place, count, first, second, junk = sides ? 0x5c5c5c5c : 0xa5a5a5a5;
+    for (size_t i = 0; i < lent->work_len; i++)
+        work[i] = junk;
+    if (sides)
+        number = frontier_cut(lent->problem, lent->size, sides, lent->n, costs, costs_len, choices, choices_len, work,
+                              lent->work_len, &place, &count, &first, &second);
+    else
+        number = frontier_solve(lent->problem, lent->size, costs, costs_len, choices, choices_len, work, lent->work_len,
+                                &place, &count);
+    note(number, place, count);
+    check_work(number, work, lent->work_len, junk);
+    return count;
+}
+
+/* Both calls, with room for all points, for exactly as many as there are, and for one less. */
+static void list_all(const struct lent *lent) {
+    uint8_t sides[FRONTIER_MAX_VARIABLES];
+    for (size_t v = 0; v < sizeof sides; v++)
+        sides[v] = lent->size % 2 && v * 2 >= lent->n; /* every second input has all variables on one side */
+    uint32_t count = list(lent, NULL, FRONTIER_MAX_POINTS);
+    if (list(lent, NULL, count) != count || (count && list(lent, NULL, count - 1)))
+        abort();
+    uint32_t cut = list(lent, sides, FRONTIER_MAX_POINTS);
+    if (list(lent, sides, cut) != cut || (cut && cut != count))
+        abort();
+}
+
+int LLVMFuzzerTestOneInput(const uint8_t *data, size_t size) {
+    if (size > FRONTIER_MAX_BYTES + 8)
+        return 0;
+    if (!problem_end) {
+        problem_end = end_of(FRONTIER_MAX_BYTES + 8);
+        costs_end = end_of(4 * FRONTIER_MAX_POINTS * FRONTIER_MAX_OBJECTIVES);
+        choices_end = end_of(FRONTIER_MAX_POINTS * FRONTIER_MAX_VARIABLES);
+        work_end = end_of(4 * FRONTIER_LEAST_WORK);
+    }
+    uint8_t *problem = problem_end - size;
+    memcpy(problem, data, size);
+    uint64_t least[FRONTIER_MAX_OBJECTIVES];
+    uint32_t place;
+    uint8_t number = frontier_bound(problem, size, problem, size < 3 ? size : 3, least, &place);
+    note(number, place, 0);
+    struct lent lent = {problem, size, FRONTIER_MAX_VARIABLES, FRONTIER_MAX_OBJECTIVES, FRONTIER_LEAST_WORK};
+    if (number == 0 || number == FRONTIER_PREFIX) {
+        lent.n = problem[2];
+        lent.p = problem[3];
+        lent.work_len -= !is_small(problem); /* too short, so that a large problem is not searched */
+    }
+    list_all(&lent);
+    if (memcmp(problem, data, size))
+        abort();
+    return 0;
+}
