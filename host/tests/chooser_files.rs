@@ -20,7 +20,7 @@ fn word(path: &Path) -> &str {
 }
 
 /// Every subcommand that reads a file, with words for all that it needs besides.
-fn reading<'a>(file: &'a str) -> Vec<Vec<&'a str>> {
+fn reading(file: &str) -> Vec<Vec<&str>> {
     vec![
         vec!["solve", file],
         vec!["cut", file, "01"],
@@ -61,7 +61,7 @@ fn a_file_that_cannot_be_read_is_told() {
     }
     let file = folder("unreadable").join("problem.bin");
     fs::write(&file, colours([100, 100]).encode()).expect("the file is written");
-    fs::set_permissions(&file, fs::Permissions::from_mode(0)).expect("it is mine");
+    fs::set_permissions(&file, fs::Permissions::from_mode(0o000)).expect("it is mine");
     // Root may read it all the same.
     if File::open(&file).is_err() {
         run(&["solve", word(&file)])

@@ -42,10 +42,7 @@ fn the_text_is_the_problem_that_it_looks_like() {
         ],
     };
     assert_eq!(
-        read_problem(&packed.out)
-            .ok()
-            .expect("it is accepted")
-            .problem,
+        read_problem(&packed.out).expect("it is accepted").problem,
         due
     );
 }

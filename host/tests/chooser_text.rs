@@ -54,7 +54,7 @@ fn the_example_is_packed_as_it_says() {
     let packed = run(&["pack", "examples/firmware.txt"]).with(0);
     let bytes = fs::read(root().join("examples/firmware.bin")).expect("it is there");
     assert_eq!(packed.out, bytes);
-    let problem = read_problem(&bytes).ok().expect("it is accepted").problem;
+    let problem = read_problem(&bytes).expect("it is accepted").problem;
     assert_eq!(problem.ceilings, [2400, 9000]);
     assert_eq!(problem.domains, [3, 3, 2, 3]);
     let two = [FORBIDDEN, 2300, 1100, 3900, 2300, 1100, 3600, 1950, 800];
@@ -425,9 +425,7 @@ fn changed_texts_are_read_or_told_and_what_is_read_is_accepted() {
             Ok(named) => {
                 read += 1;
                 let bytes = named.problem.encode();
-                let again = read_problem(&bytes)
-                    .ok()
-                    .expect("what is packed is accepted");
+                let again = read_problem(&bytes).expect("what is packed is accepted");
                 assert_eq!(again.problem, named.problem);
                 assert_eq!(parse(write(&named).as_bytes()), Ok(named));
             }

@@ -56,12 +56,12 @@ pub fn asked_room(asked: &Asked) -> Result<usize, Failure> {
     Ok(room.unwrap_or(MAX_POINTS))
 }
 
-/// Buffers with exactly this room. For bytes that are refused their lengths do not matter.
+/// Buffers with exactly this room, which the cost buffer's length gives alone. For bytes that are
+/// refused it does not matter.
 pub fn buffers_for(bytes: &[u8], room: usize) -> Buffers {
     let mut lent = Buffers::full();
     if let Ok(reading) = read_problem(bytes) {
         lent.costs.truncate(room * reading.problem.objectives());
-        lent.choices.truncate(room * reading.problem.variables());
     }
     lent
 }
