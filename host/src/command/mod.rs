@@ -10,6 +10,7 @@ mod cut;
 mod files;
 mod help;
 mod night;
+mod night_summary;
 mod pack;
 mod plot;
 mod refused;

@@ -5,21 +5,21 @@ use std::collections::BTreeMap;
 use std::ffi::{OsStr, OsString};
 use std::fs::{self, File};
 use std::io::Read;
-use std::path::Path;
+use std::path::{Path, PathBuf};
 use std::sync::atomic::{AtomicUsize, Ordering};
 use std::sync::mpsc::{self, Receiver, RecvTimeoutError, Sender};
 use std::thread;
 use std::time::{Duration, Instant};
 
+use super::night_summary::{seconds, summary};
 use super::{
     check_target, print_out, read_file, sort_words, write_file, Asked, Failure, Known, Outcome,
 };
 use crate::limits::MAX_BYTES;
-use crate::night::{list_night, NightProblem};
-use crate::night_csv::{compare_rows, parse_rows, write_rows, Comparison, Row, Told};
+use crate::night::list_night;
+use crate::night_csv::{compare_rows, parse_rows, write_rows, Row, Told};
 use crate::night_worker::{parse_answer, question, serve_night, TWICE};
 use crate::progress::show_progress;
-use crate::refusal::word_of;
 use crate::worker::{parse_limit, Ending, Worker, WORKER};
 
 pub const HELP: &str = "\
@@ -61,9 +61,6 @@ const COMPARE: &str = "--compare";
 const MOST_JOBS: usize = 256;
 const DEFAULT_LIMIT: Duration = Duration::from_secs(60);
 
-/// So many of the slowest problems are told.
-const SLOWEST: usize = 10;
-
 /// An earlier run's table may have so many bytes.
 const MOST_TABLE: usize = 1 << 28;
 
@@ -79,21 +76,26 @@ pub fn run(words: &[OsString]) -> Result<Outcome, Failure> {
     }
     let asked = sort_words(words, OPTIONS)?;
     let plan = Plan::new(&asked)?;
-    let problems = read_problems(asked.operands(["DIR"])?[0])?;
+    let problems = list_problems(asked.operands(["DIR"])?[0])?;
     let start = Instant::now();
     let mut night = Night::default();
     plan.run_all(&problems, &mut night)?;
     let rows = night.rows(&problems);
-    if let Some(out) = asked.value(CSV) {
-        write_file(out, write_rows(&rows).as_bytes())?;
-    }
     let compared = plan.earlier.map(|earlier| compare_rows(&rows, earlier));
     let is_right = night.faults.is_empty()
         && compared
             .as_ref()
             .is_none_or(|found| found.differences.is_empty());
-    let text = summary(&rows, &night, compared.as_ref(), start.elapsed());
+    let text = summary(
+        &rows,
+        night.faults.values(),
+        compared.as_ref(),
+        start.elapsed(),
+    );
     print_out(&text)?;
+    if let Some(out) = asked.value(CSV) {
+        write_file(out, write_rows(&rows).as_bytes())?;
+    }
     Ok(match is_right {
         true => Outcome::Answered,
         false => Outcome::Refused,
@@ -130,7 +132,7 @@ impl Plan {
     }
 
     /// Runs the problems on all workers and takes up how each ends.
-    fn run_all(&self, problems: &[Loaded], night: &mut Night) -> Result<(), Failure> {
+    fn run_all(&self, problems: &[Listed], night: &mut Night) -> Result<(), Failure> {
         let (sender, endings) = mpsc::channel();
         let next = AtomicUsize::new(0);
         thread::scope(|scope| {
@@ -145,7 +147,7 @@ impl Plan {
     }
 
     /// What one worker's thread does: the next problem, until there are no more.
-    fn work(&self, problems: &[Loaded], next: &AtomicUsize, sender: &Sender<Sent>) {
+    fn work(&self, problems: &[Listed], next: &AtomicUsize, sender: &Sender<Sent>) {
         let mut worker = None;
         loop {
             let index = next.fetch_add(1, Ordering::Relaxed);
@@ -163,7 +165,11 @@ impl Plan {
     }
 
     /// Asks a worker about a problem; one that does not answer is replaced by the next question.
-    fn ask(&self, kept: &mut Option<Worker>, problem: &Loaded) -> Result<End, String> {
+    fn ask(&self, kept: &mut Option<Worker>, problem: &Listed) -> Result<End, String> {
+        let bytes = match read_problem(&problem.path) {
+            Ok((bytes, _)) => bytes,
+            Err(complaint) => return Ok(End::Unreadable(complaint)),
+        };
         let words = ["night", WORKER, TWICE];
         let (words, limit) = match self.twice {
             true => (&words[..], self.limit.saturating_mul(2)),
@@ -173,7 +179,7 @@ impl Plan {
             Some(worker) => worker,
             None => Worker::start_with(words)?,
         };
-        Ok(match worker.ask(&question(&problem.bytes), limit) {
+        Ok(match worker.ask(&question(&bytes), limit) {
             Ending::TooSlow => End::GivenUp(self.limit),
             Ending::Died => End::Died,
             Ending::Answered { text, .. } => {
@@ -192,40 +198,48 @@ enum End {
     Told(Told, Option<String>),
     GivenUp(Duration),
     Died,
+    /// The file has changed since the run began, so that it cannot be read.
+    Unreadable(String),
 }
 
 /// What a worker's thread sends: the problem's index and how it ended, or why there is no worker.
 type Sent = Result<(usize, End), String>;
 
-/// A problem with its bytes, which are the first 60,001 of a longer file.
-struct Loaded {
+/// A problem's name, its file, and how long that is.
+struct Listed {
     name: String,
+    path: PathBuf,
     length: u64,
-    bytes: Vec<u8>,
 }
 
 /// All problems of a folder. A file that cannot be read is told before the run and not in it.
-fn read_problems(folder: &OsStr) -> Result<Vec<Loaded>, Failure> {
+fn list_problems(folder: &OsStr) -> Result<Vec<Listed>, Failure> {
     let problems = list_night(Path::new(folder)).map_err(Failure::misuse)?;
-    problems.iter().map(load).collect()
+    let listed = problems.into_iter().map(|problem| {
+        // The bytes are read again when they are due, so that a folder may be larger than memory.
+        let (_, length) = read_problem(&problem.path).map_err(Failure::misuse)?;
+        Ok(Listed {
+            name: problem.name,
+            path: problem.path,
+            length,
+        })
+    });
+    listed.collect()
 }
 
-fn load(problem: &NightProblem) -> Result<Loaded, Failure> {
-    let read = File::open(&problem.path).and_then(|file| {
+/// The bytes of a file, of a longer one the first 60,001, and its length.
+fn read_problem(path: &Path) -> Result<(Vec<u8>, u64), String> {
+    let read = File::open(path).and_then(|file| {
         let length = file.metadata()?.len();
         let mut bytes = Vec::new();
         file.take(MAX_BYTES as u64 + 1).read_to_end(&mut bytes)?;
-        Ok(Loaded {
-            name: problem.name.clone(),
-            length,
-            bytes,
-        })
+        Ok((bytes, length))
     });
     read.map_err(|error| {
-        Failure::misuse(format!(
+        format!(
             "the problem file {} cannot be read: {error}; mend it, or move it elsewhere",
-            problem.path.display()
-        ))
+            path.display()
+        )
     })
 }
 
@@ -268,7 +282,7 @@ struct Night {
 
 impl Night {
     /// Takes up the endings of all problems, as they come.
-    fn take_all(&mut self, problems: &[Loaded], endings: &Receiver<Sent>) -> Result<(), String> {
+    fn take_all(&mut self, problems: &[Listed], endings: &Receiver<Sent>) -> Result<(), String> {
         let start = Instant::now();
         loop {
             match endings.recv_timeout(PROGRESS) {
@@ -289,6 +303,7 @@ impl Night {
         let fault = match end {
             End::GivenUp(limit) => Some(format!("given up after {} s", limit.as_secs_f64())),
             End::Died => Some("the process ended without an answer".into()),
+            End::Unreadable(complaint) => Some(complaint),
             End::Told(told, fault) => {
                 self.told.insert(index, told);
                 self.slowest = self.slowest.max(Some((told.microseconds, index)));
@@ -301,7 +316,7 @@ impl Night {
     }
 
     /// How far the run is.
-    fn progress(&self, problems: &[Loaded], time: Duration) -> String {
+    fn progress(&self, problems: &[Listed], time: Duration) -> String {
         let without = self
             .faults
             .keys()
@@ -317,86 +332,12 @@ impl Night {
     }
 
     /// A row for each problem, in order.
-    fn rows(&self, problems: &[Loaded]) -> Vec<Row> {
-        let row = |(index, problem): (usize, &Loaded)| Row {
+    fn rows(&self, problems: &[Listed]) -> Vec<Row> {
+        let row = |(index, problem): (usize, &Listed)| Row {
             name: problem.name.clone(),
             bytes: problem.length,
             told: self.told.get(&index).copied(),
         };
         problems.iter().enumerate().map(row).collect()
     }
-}
-
-fn seconds(microseconds: u64) -> String {
-    format!("{:.6}", Duration::from_micros(microseconds).as_secs_f64())
-}
-
-/// What is told at the end.
-fn summary(rows: &[Row], night: &Night, compared: Option<&Comparison>, time: Duration) -> String {
-    let mut text = slowest_lines(rows);
-    text.push_str(&refusal_lines(rows));
-    for fault in night.faults.values() {
-        text.push_str(&format!("{fault}\n"));
-    }
-    if let Some(found) = compared {
-        text.push_str(&comparison_lines(found));
-    }
-    let told: Vec<Told> = rows.iter().filter_map(|row| row.told).collect();
-    let answered = told.iter().filter(|told| told.number == 0).count();
-    let sum = told.iter().map(|told| told.microseconds).sum();
-    text.push_str(&format!(
-        "{} in all: {answered} answered, {} refused, {} without an answer; {} s of processor \
-         time, {:.1} s passed\n",
-        rows.len(),
-        told.len() - answered,
-        rows.len() - told.len(),
-        seconds(sum),
-        time.as_secs_f64()
-    ));
-    text
-}
-
-fn slowest_lines(rows: &[Row]) -> String {
-    let mut times: Vec<(u64, &str)> = rows
-        .iter()
-        .filter_map(|row| Some((row.told?.microseconds, row.name.as_str())))
-        .collect();
-    times.sort_by(|one, other| other.0.cmp(&one.0).then(one.1.cmp(other.1)));
-    times.truncate(SLOWEST);
-    let line = |&(time, name): &(u64, &str)| format!("{:>12} s  {name}\n", seconds(time));
-    let lines: String = times.iter().map(line).collect();
-    match lines.is_empty() {
-        true => lines,
-        false => format!("slowest:\n{lines}"),
-    }
-}
-
-fn refusal_lines(rows: &[Row]) -> String {
-    let mut numbers: BTreeMap<u8, usize> = BTreeMap::new();
-    for told in rows.iter().filter_map(|row| row.told) {
-        if told.number != 0 {
-            *numbers.entry(told.number).or_default() += 1;
-        }
-    }
-    let line = |(number, times): (&u8, &usize)| {
-        format!("{times:>12} x  refused {number} ({})\n", word_of(*number))
-    };
-    numbers.iter().map(line).collect()
-}
-
-fn comparison_lines(found: &Comparison) -> String {
-    let mut text = String::new();
-    for difference in &found.differences {
-        text.push_str(&format!("{difference}\n"));
-    }
-    text.push_str(&format!(
-        "compared: {} the same, {} different",
-        found.same,
-        found.differences.len()
-    ));
-    if found.unknown > 0 {
-        let unknown = format!(", {} without an answer in one of the runs", found.unknown);
-        text.push_str(&unknown);
-    }
-    text + "\n"
 }
