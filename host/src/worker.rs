@@ -1,7 +1,6 @@
 //! A worker: a second process of the same program, for calls that cannot be interrupted. It keeps
 //! its buffers from question to question; one that is too slow is killed.
 
-use std::env;
 use std::io::{self, BufRead, BufReader, Write};
 use std::process::{Child, ChildStdin, ChildStdout, Command, Stdio};
 use std::sync::mpsc::{self, Receiver, RecvTimeoutError, Sender};
@@ -12,6 +11,9 @@ use crate::clock::process_time;
 
 /// The argument that makes a process of a program a worker.
 pub const WORKER: &str = "--worker";
+
+/// The program that runs, also where its file was replaced meanwhile by a new build.
+const THIS_PROGRAM: &str = "/proc/self/exe";
 
 /// The worker's clock is looked at so often while its answer is awaited.
 const LOOK: Duration = Duration::from_millis(5);
@@ -45,7 +47,7 @@ impl Worker {
     }
 
     fn spawn(words: &[&str]) -> io::Result<Worker> {
-        let mut process = Command::new(env::current_exe()?)
+        let mut process = Command::new(THIS_PROGRAM)
             .args(words)
             .stdin(Stdio::piped())
             .stdout(Stdio::piped())

@@ -20,7 +20,11 @@ fn fuzz(arguments: &[&str]) -> Command {
 }
 
 fn run(arguments: &[&str]) -> (Option<i32>, String, String) {
-    let output = fuzz(arguments).output().expect("fuzz starts");
+    ended(fuzz(arguments).output().expect("fuzz starts"))
+}
+
+/// The status, and what was printed.
+fn ended(output: Output) -> (Option<i32>, String, String) {
     let [out, err] = [output.stdout, output.stderr].map(|text| String::from_utf8(text).unwrap());
     (output.status.code(), out, err)
 }
@@ -29,7 +33,7 @@ fn run(arguments: &[&str]) -> (Option<i32>, String, String) {
 fn four_thousand_inputs_touch_nothing_outside() {
     let (status, text, complaint) = run(&["4000"]);
     assert_eq!((status, complaint.as_str()), (Some(0), ""), "{text}");
-    assert!(text.starts_with("4000 inputs (mixed cases, seeds 0 to 3999), "));
+    assert!(text.starts_with("4000 inputs (mixed cases, from seed 0 on), "));
     assert!(text.contains("\nevery input against the upper pages, 1000 also against the lower, "));
     // Every number that the plain call can give, but for the rare 1.
     for number in [2, 3, 4, 5, 6, 7, 8, 9, 10, 11, 12, 15] {
@@ -42,7 +46,10 @@ fn four_thousand_inputs_touch_nothing_outside() {
 fn a_seed_starts_the_run_elsewhere() {
     let (status, text, _) = run(&["--seed", "123456789", "10"]);
     assert_eq!(status, Some(0));
-    assert!(text.contains("seeds 123456789 to 123456798)"), "{text}");
+    assert!(
+        text.starts_with("10 inputs (mixed cases, from seed 123456789 on)"),
+        "{text}"
+    );
 }
 
 #[test]
@@ -73,25 +80,38 @@ fn libfuzzer_finds_nothing_in_two_seconds() {
     assert!(ended.iter().any(|end| text.contains(end)), "{text}");
 }
 
-#[test]
-fn a_signal_is_told_with_the_seed() {
+/// Starts a run that would take hours, sends it a signal, and tells how it ends.
+fn signalled(signal: &str) -> (Option<i32>, String, String) {
     let mut process = fuzz(&["--seed", "700", "100000000"])
         .stderr(Stdio::piped())
-        .stdout(Stdio::null())
+        .stdout(Stdio::piped())
         .spawn()
         .expect("fuzz starts");
-    thread::sleep(Duration::from_millis(300));
+    thread::sleep(Duration::from_millis(500));
     let id = process.id().to_string();
-    let sent = Command::new("kill").args(["-SEGV", &id]).status();
+    let sent = Command::new("kill").args([signal, &id]).status();
     if !sent.is_ok_and(|status| status.success()) {
         process.kill().expect("a process that was started");
         panic!("the signal cannot be sent");
     }
-    let output = process.wait_with_output().expect("fuzz ends");
-    let complaint = String::from_utf8_lossy(&output.stderr);
-    assert_eq!(output.status.code(), Some(1), "{complaint}");
+    ended(process.wait_with_output().expect("fuzz ends"))
+}
+
+#[test]
+fn a_signal_is_told_with_the_seed() {
+    let (status, _, complaint) = signalled("-SEGV");
+    assert_eq!(status, Some(1), "{complaint}");
     assert!(complaint.contains("fuzz: seed "), "{complaint}");
     assert!(complaint.contains("ended by signal 11 "), "{complaint}");
+}
+
+#[test]
+fn a_run_that_is_stopped_says_what_it_ran() {
+    let (status, text, complaint) = signalled("-INT");
+    assert_eq!(status, Some(2), "{complaint}");
+    let (inputs, _) = text.split_once(" inputs (").expect("a summary");
+    let told = format!("fuzz: stopped after {inputs} of 100000000 inputs\n");
+    assert_eq!(complaint, told);
 }
 
 #[test]

@@ -5,7 +5,7 @@ use std::cell::RefCell;
 use std::env;
 use std::io::{self, IsTerminal};
 use std::process::ExitCode;
-use std::sync::atomic::{AtomicU64, Ordering};
+use std::sync::atomic::{AtomicBool, AtomicU64, Ordering};
 use std::time::{Duration, Instant};
 
 use frontier_host::guard::End;
@@ -17,7 +17,8 @@ const USAGE: &str = "usage: fuzz [--seed S] [N]
 Runs the N mixed inputs (default 10000) with seeds S (default 0), S + 1, and so on. Each goes through
 all four calls with every buffer against a closed page above it, every fourth one again with every
 buffer against a closed page below. The status is 0 if no call has touched a byte that it was not
-lent and every answer is the brute force's, else 1, and 2 if the run could not be made.";
+lent and every answer is the brute force's, else 1, and 2 if the run could not be made or was
+stopped (Ctrl-C), after which it says what it ran.";
 
 const DEFAULT_INPUTS: u64 = 10_000;
 
@@ -39,6 +40,16 @@ extern "C" {
 
 /// SIGILL, SIGABRT, SIGBUS, SIGFPE and SIGSEGV of Linux.
 const SIGNALS: [i32; 5] = [4, 6, 7, 8, 11];
+
+/// SIGINT and SIGTERM of Linux.
+const STOPS: [i32; 2] = [2, 15];
+
+/// Whether the run is to end with the input under way.
+static STOPPED: AtomicBool = AtomicBool::new(false);
+
+extern "C" fn stop(_number: i32) {
+    STOPPED.store(true, Ordering::Relaxed);
+}
 
 /// Says on standard error which input has ended the process. It may use nothing but `write`.
 extern "C" fn tell_seed(number: i32) {
@@ -188,20 +199,22 @@ impl Progress {
     }
 }
 
-/// Runs all inputs; the first fault ends the run.
-fn run_all(run: &Run, guarded: Guarded) -> Result<String, String> {
-    let (guarded, mut tally, mut progress) =
-        (RefCell::new(guarded), Tally::default(), Progress::new());
-    for done in 0..run.inputs {
+/// Runs the inputs until they end or a signal asks for the end; the first fault ends the run too.
+/// How many ran, and what to say of them.
+fn run_all(run: &Run, guarded: Guarded) -> Result<(u64, String), String> {
+    let (guarded, mut tally) = (RefCell::new(guarded), Tally::default());
+    let (mut progress, mut done) = (Progress::new(), 0);
+    while done < run.inputs && !STOPPED.load(Ordering::Relaxed) {
         run_input(run.seed + done, &guarded, &mut tally)?;
-        progress.show(done + 1, run.inputs);
+        done += 1;
+        progress.show(done, run.inputs);
     }
     show_progress("");
-    Ok(summary(run, &tally, progress.start.elapsed()))
+    let time = progress.start.elapsed();
+    Ok((done, summary(run.seed, done, &tally, time)))
 }
 
-fn summary(run: &Run, tally: &Tally, time: Duration) -> String {
-    let (first, last) = (run.seed, run.seed + (run.inputs - 1));
+fn summary(seed: u64, done: u64, tally: &Tally, time: Duration) -> String {
     let refused = (1..)
         .zip(&tally.numbers[1..])
         .filter(|(_, &times)| times > 0);
@@ -209,11 +222,10 @@ fn summary(run: &Run, tally: &Tally, time: Duration) -> String {
         .map(|(number, times)| format!("{number}: {times}"))
         .collect();
     format!(
-        "{} inputs (mixed cases, seeds {first} to {last}), {} bytes, {:.0} s\n\
+        "{done} inputs (mixed cases, from seed {seed} on), {} bytes, {:.0} s\n\
          every input against the upper pages, {} also against the lower, {} calls\n\
          the plain call answered {} times and refused by number {}\n\
          no crash, no byte outside of a lent buffer touched, every answer as the brute force's",
-        run.inputs,
         tally.bytes,
         time.as_secs_f64(),
         tally.lower,
@@ -247,10 +259,19 @@ fn main() -> ExitCode {
         // SAFETY: the handler calls nothing that a handler may not call.
         unsafe { signal(number, tell_seed) };
     }
+    for number in STOPS {
+        // SAFETY: the handler does nothing but set a flag.
+        unsafe { signal(number, stop) };
+    }
     match run_all(&run, guarded) {
-        Ok(summary) => {
+        Ok((done, summary)) if done == run.inputs => {
             println!("{summary}");
             ExitCode::SUCCESS
+        }
+        Ok((done, summary)) => {
+            println!("{summary}");
+            eprintln!("fuzz: stopped after {done} of {} inputs", run.inputs);
+            ExitCode::from(2)
         }
         Err(fault) => {
             eprintln!("\nfuzz: {fault}");

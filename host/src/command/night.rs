@@ -79,7 +79,7 @@ pub fn run(words: &[OsString]) -> Result<Outcome, Failure> {
     let problems = list_problems(asked.operands(["DIR"])?[0])?;
     let start = Instant::now();
     let mut night = Night::default();
-    plan.run_all(&problems, &mut night)?;
+    plan.run_all(&problems, &mut night);
     let rows = night.rows(&problems);
     let compared = plan.earlier.map(|earlier| compare_rows(&rows, earlier));
     let is_right = night.faults.is_empty()
@@ -132,7 +132,7 @@ impl Plan {
     }
 
     /// Runs the problems on all workers and takes up how each ends.
-    fn run_all(&self, problems: &[Listed], night: &mut Night) -> Result<(), Failure> {
+    fn run_all(&self, problems: &[Listed], night: &mut Night) {
         let (sender, endings) = mpsc::channel();
         let next = AtomicUsize::new(0);
         thread::scope(|scope| {
@@ -141,9 +141,8 @@ impl Plan {
                 scope.spawn(move || self.work(problems, next, &sender));
             }
             drop(sender);
-            night.take_all(problems, &endings)
-        })
-        .map_err(Failure::misuse)
+            night.take_all(problems, &endings);
+        });
     }
 
     /// What one worker's thread does: the next problem, until there are no more.
@@ -154,11 +153,9 @@ impl Plan {
             let Some(problem) = problems.get(index) else {
                 return;
             };
-            let sent = self.ask(&mut worker, problem).map(|ending| (index, ending));
-            if sent.is_err() {
-                next.store(problems.len(), Ordering::Relaxed); // no other thread goes on either
-            }
-            if sender.send(sent).is_err() {
+            let end = self.ask(&mut worker, problem);
+            let end = end.unwrap_or_else(End::Failed);
+            if sender.send((index, end)).is_err() {
                 return;
             }
         }
@@ -166,10 +163,7 @@ impl Plan {
 
     /// Asks a worker about a problem; one that does not answer is replaced by the next question.
     fn ask(&self, kept: &mut Option<Worker>, problem: &Listed) -> Result<End, String> {
-        let bytes = match read_problem(&problem.path) {
-            Ok((bytes, _)) => bytes,
-            Err(complaint) => return Ok(End::Unreadable(complaint)),
-        };
+        let (bytes, _) = read_problem(&problem.path)?;
         let words = ["night", WORKER, TWICE];
         let (words, limit) = match self.twice {
             true => (&words[..], self.limit.saturating_mul(2)),
@@ -198,12 +192,12 @@ enum End {
     Told(Told, Option<String>),
     GivenUp(Duration),
     Died,
-    /// The file has changed since the run began, so that it cannot be read.
-    Unreadable(String),
+    /// The file can no longer be read, or a worker cannot start. The other problems still run.
+    Failed(String),
 }
 
-/// What a worker's thread sends: the problem's index and how it ended, or why there is no worker.
-type Sent = Result<(usize, End), String>;
+/// What a worker's thread sends: the problem's index and how it ended.
+type Sent = (usize, End);
 
 /// A problem's name, its file, and how long that is.
 struct Listed {
@@ -282,28 +276,24 @@ struct Night {
 
 impl Night {
     /// Takes up the endings of all problems, as they come.
-    fn take_all(&mut self, problems: &[Listed], endings: &Receiver<Sent>) -> Result<(), String> {
+    fn take_all(&mut self, problems: &[Listed], endings: &Receiver<Sent>) {
         let start = Instant::now();
         loop {
             match endings.recv_timeout(PROGRESS) {
-                Ok(sent) => {
-                    let (index, end) = sent?;
-                    self.take(&problems[index].name, index, end);
-                }
+                Ok((index, end)) => self.take(&problems[index].name, index, end),
                 Err(RecvTimeoutError::Timeout) => {}
                 Err(RecvTimeoutError::Disconnected) => break,
             }
             show_progress(&self.progress(problems, start.elapsed()));
         }
         show_progress("");
-        Ok(())
     }
 
     fn take(&mut self, name: &str, index: usize, end: End) {
         let fault = match end {
             End::GivenUp(limit) => Some(format!("given up after {} s", limit.as_secs_f64())),
             End::Died => Some("the process ended without an answer".into()),
-            End::Unreadable(complaint) => Some(complaint),
+            End::Failed(complaint) => Some(complaint),
             End::Told(told, fault) => {
                 self.told.insert(index, told);
                 self.slowest = self.slowest.max(Some((told.microseconds, index)));
