@@ -109,7 +109,7 @@ fn a_huge_file_is_told_without_reading_it() {
         .iter()
         .filter(|words| words[0] != "unpack")
     {
-        run(words).with(1).tells(&["has more than 4000000 bytes"]);
+        run(words).with(1).tells(&["has more than 8000000 bytes"]);
     }
     assert!(start.elapsed() < Duration::from_secs(20));
 }

@@ -11,7 +11,7 @@ use frontier_host::night::read_night;
 use frontier_host::problem::{Problem, Table, FORBIDDEN};
 use frontier_host::random::{random_problem, Rng, Shape};
 use frontier_host::reading::read_problem;
-use frontier_host::text::{parse, write};
+use frontier_host::text::{parse, write, Module, Named, Names};
 
 /// Asserts that these bytes, unpacked and packed again, are the same.
 fn assert_round_trip(bytes: &[u8]) {
@@ -401,6 +401,43 @@ fn a_text_for_more_than_60000_bytes_is_told_at_the_table_that_is_too_much() {
         1,
         "has 60008 bytes in records, and at most 60000",
     );
+}
+
+/// A problem of nearly 60,000 bytes with as many rows as there can be, since its last module has one
+/// variant, and with names of 40 letters of four bytes each.
+fn largest_text() -> Named {
+    let name = |number: usize| "\u{10400}".repeat(38) + &format!("{number:02}");
+    let table = Table::new(0, &[0, 1, 2], &[FORBIDDEN - 1; 64]);
+    let problem = Problem {
+        ceilings: vec![1],
+        domains: vec![8, 8, 1],
+        tables: vec![table; 228],
+    };
+    let modules = problem
+        .domains
+        .iter()
+        .enumerate()
+        .map(|(number, &size)| Module {
+            name: name(number),
+            variants: (0..size.into()).map(name).collect(),
+        });
+    let names = Names {
+        costs: vec![name(0)],
+        modules: modules.collect(),
+    };
+    Named { problem, names }
+}
+
+#[test]
+fn the_largest_problem_with_the_longest_names_is_read() {
+    let named = largest_text();
+    let bytes = named.problem.encode();
+    assert!((59_900..=60_000).contains(&bytes.len()), "{}", bytes.len());
+    let text = write(&named);
+    assert!(text.len() > 5_000_000, "{}", text.len());
+    let packed = run_with(&["pack", "-"], text.as_bytes());
+    assert_eq!(packed.err, "");
+    assert_eq!(packed.out, bytes);
 }
 
 #[test]

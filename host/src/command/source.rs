@@ -8,9 +8,9 @@ use crate::limits::MAX_BYTES;
 use crate::problem::Problem;
 use crate::text::{parse, Fault, Named, Names};
 
-/// A text problem has at most this many bytes: more than the longest that `unpack` writes, with the
-/// longest names.
-pub const MAX_TEXT: usize = 4_000_000;
+/// A text problem has at most this many bytes: more than the largest problem takes with the longest
+/// names, in letters of four bytes each.
+pub const MAX_TEXT: usize = 8_000_000;
 
 /// The first two bytes of a binary problem.
 pub const BINARY: &[u8] = b"HD";
