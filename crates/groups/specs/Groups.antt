@@ -10,7 +10,7 @@ use Rattle.model.specs.Limits.{maxTables, maxVariables}
 use Rattle.model.specs.Problems.{Table, DomainSize}
 use Rattle.model.specs.Reading.{tableScope, tableOf}
 use Rattle.problem.specs.Records.{Whole}
-use Rattle.groups.specs.Layout.{groupsAt, recordsAt, rowsEnd}
+use Rattle.groups.specs.Layout.{groupsAt, recordsAt, searchEnd}
 
 unfoldable pub hasVariable : ℕ → List ℕ → Bool
 hasVariable v [] = false
@@ -35,7 +35,7 @@ pub record Placed (ds s work : List ℕ) (r : ℕ) : Type 0 where
   pub few : r ≤ maxTables
   pub small : All DomainSize ds
   pub variables : length ds ≤ maxVariables
-  pub long : rowsEnd ≤ length work
+  pub long : searchEnd ≤ length work
   pub whole : All (Whole ds s) (placesIn work r)
 
 -- the groups of the variables are in work memory

@@ -17,7 +17,7 @@ gainsAt = 1049
 abbrev pub sourceAt : ℕ
 sourceAt = 1149
 
--- points, 28 numbers each (four costs, 24 values): 65 of the list that is made, and behind it 65 of each half's
+-- points, 28 numbers each (four costs, 24 values): 65 of the list that is made
 abbrev pub listAt : ℕ
 listAt = 1405
 
@@ -27,5 +27,6 @@ rowWidth = 28
 abbrev pub listEnd : ℕ
 listEnd = 3225
 
-abbrev pub rowsEnd : ℕ
-rowsEnd = 6865
+-- a search may change all up to here; behind it the cut call keeps the first half's list
+abbrev pub searchEnd : ℕ
+searchEnd = 6361

@@ -2,28 +2,30 @@
 use mathlib.Core.Path.{_≡_, refl, sym, ap, _∙_}
 use mathlib.Core.Bool.{true, false, _||_}
 use mathlib.Core.List.{List}
-use Prim.Native.Nat.{ℕ}
+use Prim.Native.Nat.{ℕ, _≤_}
 use native.Mathlib.Omega.{arith}
 use lib.Dec.{ltb}
 use lib.ListN.{length, take}
 use Rattle.model.specs.Basics.{All}
-use Rattle.model.specs.Limits.{maxPoints}
+use Rattle.model.specs.Limits.{maxPoints, workNeed}
 use Rattle.model.specs.Problems.{Problem, Word}
 use Rattle.model.specs.Frontiers.{Point, best, frontier}
 use Rattle.model.specs.Cuts.{sidesOk, uncrossed, halfSize}
 use Rattle.model.specs.Views.{view}
+use Rattle.groups.specs.Layout.{searchEnd}
 use Rattle.model.proofs.Bits.{true-false}
 use Rattle.model.proofs.Elements.{all-take}
 use Rattle.model.proofs.Views.{view-size}
 use Rattle.model.proofs.Merging.{sums-best, sums-bytes}
-use Rattle.listing.specs.declared.Found as DF
-use Rattle.listing.specs.Says.{problemAt, Accepted, FoundSays}
+use Rattle.passes.specs.declared.Found as DF
+use Rattle.listing.specs.Says.{problemAt, Accepted}
+use Rattle.passes.specs.Says.{FoundSays}
 use Rattle.merge.specs.Sums.{firstRow, secondRow, firstIn, secondIn, sumsIn, Halved}
 use Rattle.merge.specs.Says.{KeptSays, noLists, CutFound}
 use Rattle.merge.proofs.Keeping.{kept-few, first-same}
 
--- a half's list may have as many points as a list may, in memory as long as before
-pub half-accepted : {p r at room : ℕ} {ceilings ds s work : List ℕ} → Accepted p r at room ceilings ds s work → (work′ : List ℕ) → length work′ ≡ length work → Accepted p r at maxPoints ceilings ds s work′
+-- a half's list may have as many points as a list may, in memory that is long enough
+pub half-accepted : {p r at room : ℕ} {ceilings ds s work : List ℕ} → Accepted p r at room ceilings ds s work → (work′ : List ℕ) → searchEnd ≤ length work′ → Accepted p r at maxPoints ceilings ds s work′
 half-accepted a work′ long =
     record {
       whole = a .whole;
@@ -34,14 +36,14 @@ half-accepted a work′ long =
       bytes = a .bytes;
       words = a .words;
       room-small = omega arith;
-      memory = omega (arith, a .memory);
+      memory = long;
     }
 
 -- a list on the way is too long
 pub cut-full : (q : Problem) (ss : List ℕ) (room : ℕ) (work work′ : List ℕ) → (ltb maxPoints (halfSize 0 q ss) || (ltb maxPoints (halfSize 1 q ss) || ltb room (length (frontier q)))) ≡ true → length work′ ≡ length work → CutFound q ss room work work′ noLists
 cut-full q ss room work work′ h long = record { full = sym h; count = refl; first = refl; second = refl; list = λ e. absurd (true-false refl e); long = long }
 
-module _ {p r at room : ℕ} {ceilings ds s was : List ℕ} (ss : List ℕ) (a : Accepted p r at room ceilings ds s was) (sides : sidesOk (problemAt p ceilings ds s at r) ss ≡ true) (free : uncrossed ss (problemAt p ceilings ds s at r .tables) ≡ true) where
+module _ {p r at room : ℕ} {ceilings ds s was : List ℕ} (ss : List ℕ) (a : Accepted p r at room ceilings ds s was) (sides : sidesOk (problemAt p ceilings ds s at r) ss ≡ true) (free : uncrossed ss (problemAt p ceilings ds s at r .tables) ≡ true) (memory : workNeed ≤ length was) where
   abbrev q : Problem
   q = problemAt p ceilings ds s at r
 
@@ -66,7 +68,7 @@ module _ {p r at room : ℕ} {ceilings ds s was : List ℕ} (ss : List ℕ) (a :
 
       module _ (u : g .full ≡ false) where
         first-is : firstIn p (length ds) two (f .count) ≡ listOf 0
-        first-is = first-same p (length ds) (a .objectives) (a .variables) one two (second .between) (f .count) (kept-few first) ∙ first .list t
+        first-is = first-same p (length ds) (a .objectives) (a .variables) one two (second .behind (omega arith)) (f .count) ∙ first .list t
 
         second-is : secondIn p (length ds) two (g .count) ≡ listOf 1
         second-is = second .list u
@@ -75,7 +77,7 @@ module _ {p r at room : ℕ} {ceilings ds s was : List ℕ} (ss : List ℕ) (a :
         pub cut-halved : Halved p (length ds) 0 (f .count) (g .count) two
         cut-halved =
             record {
-              long = omega (arith, kept-long, a .memory);
+              long = omega (arith, kept-long, memory);
               objectives = a .objectives;
               variables = a .variables;
               count = omega arith;

@@ -2,22 +2,22 @@
 use mathlib.Core.Path.{_≡_, refl, sym, ap, _∙_}
 use mathlib.Core.Logic.{_⊎_, inl}
 use mathlib.Core.Bool.{Bool, true, false, not}
-use mathlib.Core.List.{List}
+use mathlib.Core.List.{List, _++_}
 use Prim.Native.Nat.{ℕ, zero, suc, _+_, _-_, _*_, _≤_}
 use native.Mathlib.Omega.{arith}
 use native.Mathlib.Nat.{add-zero}
 use lib.Dec.{ltb}
-use lib.ListN.{length, take, drop, length-drop}
-use lib.Seq.{length-take-le, take-take, drop-drop}
+use lib.ListN.{length, take, drop, length-drop, length-append}
+use lib.Seq.{length-take-le, take-take, take-append-le, drop-drop, drop-at}
 use borrow.Author.Tests.{ltb-false}
 use Rattle.model.specs.Basics.{when}
-use Rattle.model.specs.Limits.{maxObjectives, maxVariables, maxPoints}
+use Rattle.model.specs.Limits.{maxObjectives, maxVariables, maxPoints, workNeed}
 use Rattle.model.specs.Frontiers.{Point}
-use Rattle.groups.specs.Layout.{listAt, listEnd, rowsEnd, rowWidth}
-use Rattle.groups.proofs.Overwritten.{over, take-drop, over-length, over-part, over-here}
+use Rattle.groups.specs.Layout.{listAt, searchEnd, rowWidth}
+use Rattle.groups.proofs.Overwritten.{over, take-drop, over-length, over-behind, over-here}
 use Rattle.rows.specs.Rows.{rowAt, listIn}
-use Rattle.listing.specs.declared.Found as DF
-use Rattle.listing.specs.Says.{FoundSays}
+use Rattle.passes.specs.declared.Found as DF
+use Rattle.passes.specs.Says.{FoundSays}
 use Rattle.merge.specs.Sums.{firstRow, secondRow, firstIn}
 use Rattle.merge.specs.Says.{KeptSays}
 
@@ -49,12 +49,21 @@ module _ (p n : ℕ) (few : p ≤ maxObjectives) (values : n ≤ maxVariables) (
       let rest : take (rowWidth * k) (drop (rowAt (i + 1)) x) ≡ take (rowWidth * k) (drop (rowAt (j + 1)) y) = rw (next i, next j) at (part rowWidth (rowWidth * k) (omega arith)) in
       rw (costs, part 4 n (omega arith), rows-same (i + 1) (j + 1) k rest)
 
--- the rows of the first half, where nothing before the second half's row changed
-pub first-same : (p n : ℕ) → p ≤ maxObjectives → n ≤ maxVariables → (was work : List ℕ) → take (rowAt secondRow - listEnd) (drop listEnd work) ≡ take (rowAt secondRow - listEnd) (drop listEnd was) → (a : ℕ) → a ≤ maxPoints → firstIn p n work a ≡ firstIn p n was a
-first-same p n few values was work e a h = rows-same p n few values work was firstRow firstRow a (part-same (rowAt secondRow - listEnd) (rowWidth * a) 0 (drop listEnd work) (drop listEnd was) (omega arith) e)
+-- the rows of the first half, where nothing from them on changed
+pub first-same : (p n : ℕ) → p ≤ maxObjectives → n ≤ maxVariables → (was work : List ℕ) → drop (rowAt firstRow) work ≡ drop (rowAt firstRow) was → (a : ℕ) → firstIn p n work a ≡ firstIn p n was a
+first-same p n few values was work e a = rows-same p n few values work was firstRow firstRow a (ap (take (rowWidth * a)) e)
 
--- the list that was found is copied to a row behind it
-module _ {p n : ℕ} {fs : List Point} {was work : List ℕ} {f : DF.Found} (says : FoundSays p n fs maxPoints was work f) (long : rowsEnd ≤ length was) (row : ℕ) (low : firstRow ≤ row) (high : row ≤ secondRow) where
+-- the list that was found in the front part of memory is copied to a row behind it
+module _ {p n : ℕ} {fs : List Point} (was : List ℕ) {front : List ℕ} {f : DF.Found} (says : FoundSays p n fs maxPoints (take searchEnd was) front f) (long : workNeed ≤ length was) (row : ℕ) (low : secondRow ≤ row) (high : row ≤ firstRow) where
+  abbrev work : List ℕ
+  work = front ++ drop searchEnd was
+
+  front-length : length front ≡ searchEnd
+  front-length = says .long ∙ length-take-le searchEnd was (omega arith)
+
+  work-length : length work ≡ length was
+  work-length = length-append front (drop searchEnd was) ∙ omega (arith, front-length, length-drop searchEnd was)
+
   abbrev size : ℕ
   size = rowWidth * f .count
 
@@ -62,26 +71,32 @@ module _ {p n : ℕ} {fs : List Point} {was work : List ℕ} {f : DF.Found} (say
   copied-count = few-points (f .full) maxPoints (f .count) (length fs) (says .full) (says .count)
 
   pub copied-asked : (listAt + size ≤ length work) × (rowAt row + size ≤ length work) × ((listAt + size ≤ rowAt row) ⊎ (rowAt row + size ≤ listAt))
-  copied-asked = (omega (arith, copied-count, says .long), omega (arith, copied-count, says .long), inl (omega (arith, copied-count)))
+  copied-asked = (omega (arith, copied-count, work-length), omega (arith, copied-count, work-length), inl (omega (arith, copied-count)))
 
   module _ (few : p ≤ maxObjectives) (values : n ≤ maxVariables) (copied : List ℕ) (is : copied ≡ over work (rowAt row) (take size (drop listAt work)) (rowAt row + size)) where
-    part : length (take size (drop listAt work)) ≡ size
-    part = length-take-le size (drop listAt work) (omega (arith, copied-asked .0, length-drop listAt work))
+    part-size : length (take size (drop listAt work)) ≡ size
+    part-size = length-take-le size (drop listAt work) (omega (arith, copied-asked .0, length-drop listAt work))
 
     ends : rowAt row + size ≡ rowAt row + length (take size (drop listAt work))
-    ends = omega (arith, part)
+    ends = omega (arith, part-size)
+
+    -- the list lies in the front part
+    front-rows : listIn p n work 0 (f .count) ≡ listIn p n front 0 (f .count)
+    front-rows =
+        rows-same p n few values work front 0 0 (f .count)
+        (part-same searchEnd size listAt work front (omega (arith, copied-count)) (take-append-le searchEnd front (drop searchEnd was) (omega (arith, front-length))))
 
     same-rows : listIn p n copied row (f .count) ≡ listIn p n work 0 (f .count)
     same-rows =
         rows-same p n few values copied work row 0 (f .count)
-        (rw is (rw part at (over-here work (rowAt row) (take size (drop listAt work)) (rowAt row + size) ends (copied-asked .1))))
+        (rw is (rw part-size at (over-here work (rowAt row) (take size (drop listAt work)) (rowAt row + size) ends (copied-asked .1))))
 
     pub copied-says : KeptSays p n fs row was copied f
     copied-says =
         record {
           full = says .full;
           count = says .count;
-          list = λ t. same-rows ∙ says .list t;
-          long = rw is (over-length work (rowAt row) (take size (drop listAt work)) (rowAt row + size) ends (copied-asked .1) ∙ says .long);
-          between = rw is (over-part work (rowAt row) (take size (drop listAt work)) (rowAt row + size) ends (copied-asked .1) (rowAt row - listEnd) listEnd (omega arith) ∙ ap (take (rowAt row - listEnd)) (says .behind));
+          list = λ t. same-rows ∙ front-rows ∙ says .list t;
+          long = rw is (over-length work (rowAt row) (take size (drop listAt work)) (rowAt row + size) ends (copied-asked .1) ∙ work-length);
+          behind = λ before. rw is (over-behind work (rowAt row) (take size (drop listAt work)) (rowAt row + size) ends (copied-asked .1) searchEnd (omega (arith, copied-count)) ∙ drop-at front (drop searchEnd was) searchEnd front-length);
         }

@@ -22,8 +22,8 @@ use Rattle.model.proofs.Merging.{merge-some, merge-none, merge-count}
 use Rattle.rows.specs.Rows.{rowAt, listIn}
 use Rattle.search.specs.States.{heldOf}
 use Rattle.search.specs.declared.Best as DB
-use Rattle.listing.specs.Says.{FoundSays}
-use Rattle.listing.proofs.Made.{Made, made-done, made-full, made-next}
+use Rattle.passes.specs.Says.{FoundSays}
+use Rattle.passes.proofs.Made.{Made, made-done, made-full, made-next}
 use Rattle.merge.specs.Sums.{firstRow, secondRow, sumsIn, pointOf, Halved}
 use Rattle.merge.proofs.Sums.{sums-good, rows-kept, sums-kept}
 

@@ -16,7 +16,7 @@ use Rattle.model.proofs.Sums.{added-length}
 use Rattle.groups.specs.Layout.{listEnd}
 use Rattle.rows.specs.Rows.{rowAt, pointIn, listIn}
 use Rattle.rows.proofs.RowParts.{costs-long, values-long}
-use Rattle.listing.proofs.Since.{drop-more}
+use Rattle.passes.proofs.Since.{drop-more}
 use Rattle.merge.specs.Sums.{firstRow, secondRow, firstIn, secondIn, sumsIn, Halved}
 
 -- what the sums of all pairs under the ceilings have
@@ -66,7 +66,7 @@ sums-good {p} {n} {k} {a} {b} {work} h ceilings =
 
 -- rows behind the listed points
 module _ (p n : ℕ) (was work : List ℕ) (behind : drop listEnd work ≡ drop listEnd was) where
-  pub rows-kept : (i k : ℕ) → firstRow ≤ i → listIn p n work i k ≡ listIn p n was i k
+  pub rows-kept : (i k : ℕ) → secondRow ≤ i → listIn p n work i k ≡ listIn p n was i k
   unfolding listIn
   rows-kept i zero l = refl
   rows-kept i (suc k) l = rw (drop-more listEnd (rowAt i) work was (omega arith) behind, drop-more listEnd (rowAt i + 4) work was (omega arith) behind, rows-kept (i + 1) k (omega arith))

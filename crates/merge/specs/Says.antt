@@ -2,26 +2,26 @@
 use mathlib.Core.Path.{_≡_}
 use mathlib.Core.Bool.{true, false, not, _||_}
 use mathlib.Core.List.{List}
-use Prim.Native.Nat.{ℕ, _-_}
+use Prim.Native.Nat.{ℕ, _+_, _≤_}
 use lib.Dec.{ltb}
-use lib.ListN.{length, take, drop}
+use lib.ListN.{length, drop}
 use Rattle.model.specs.Basics.{when}
 use Rattle.model.specs.Limits.{maxPoints}
 use Rattle.model.specs.Problems.{Problem}
 use Rattle.model.specs.Frontiers.{Point, frontier}
 use Rattle.model.specs.Cuts.{halfSize}
-use Rattle.groups.specs.Layout.{listEnd}
 use Rattle.rows.specs.Rows.{rowAt, listIn}
-use Rattle.listing.specs.declared.Found as DF
+use Rattle.passes.specs.declared.Found as DF
+use Rattle.merge.specs.Sums.{firstRow}
 use Rattle.merge.specs.declared.Lists as DL
 
--- a half's list fs stands from the row on, or it is longer than a list may be; what stands between the list that is made and the row stays
+-- a half's list fs stands from the row on, or it is longer than a list may be; where the rows end before it, the first half's list stays
 pub record KeptSays (p n : ℕ) (fs : List Point) (row : ℕ) (work work′ : List ℕ) (f : DF.Found) : Type 0 where
   pub full : f .full ≡ ltb maxPoints (length fs)
   pub count : f .count ≡ when (not (f .full)) (length fs)
   pub list : f .full ≡ false → listIn p n work′ row (f .count) ≡ fs
   pub long : length work′ ≡ length work
-  pub between : take (rowAt row - listEnd) (drop listEnd work′) ≡ take (rowAt row - listEnd) (drop listEnd work)
+  pub behind : row + maxPoints ≤ firstRow → drop (rowAt firstRow) work′ ≡ drop (rowAt firstRow) work
 
 -- one of the lists is longer than its room
 abbrev pub noLists : DL.Lists

@@ -1,22 +1,25 @@
 -- The sums of two lists of points in work memory: what the merge's functions rely on and ensure.
 use mathlib.Core.List.{List, List·Memᴰ as In}
-use Prim.Native.Nat.{ℕ, _≤_, _<_}
+use Prim.Native.Nat.{ℕ, _+_, _≤_, _<_}
 use lib.ListN.{length, take}
 use Rattle.model.specs.Basics.{All}
 use Rattle.model.specs.Limits.{maxObjectives, maxVariables, maxPoints, maxDomain}
 use Rattle.model.specs.Vectors.{added}
 use Rattle.model.specs.Frontiers.{Point, point}
 use Rattle.model.specs.Merging.{allSums}
-use Rattle.groups.specs.Layout.{rowsEnd}
 use Rattle.rows.specs.Rows.{pointIn, listIn}
 use Rattle.search.specs.declared.Best as DB
 
--- the rows where the two halves' lists start
+-- the rows where the two halves' lists start: the first behind all that a search may change, the second behind the list that is made
 abbrev pub firstRow : ℕ
-firstRow = 65
+firstRow = 177
 
 abbrev pub secondRow : ℕ
-secondRow = 130
+secondRow = 65
+
+-- and where the first one ends
+abbrev pub halvesEnd : ℕ
+halvesEnd = 8181
 
 -- the halves' lists, of a and b points, and their sums under the ceilings
 abbrev pub firstIn : ℕ → ℕ → List ℕ → ℕ → List Point
@@ -38,17 +41,17 @@ Values xs = All (λ v. v < maxDomain) xs
 
 -- memory in which the point in row i may be added to each of the second half's: k listed points, and added choices that are values of domains
 pub record Paired (p n k i b : ℕ) (work : List ℕ) : Type 0 where
-  pub long : rowsEnd ≤ length work
+  pub long : halvesEnd ≤ length work
   pub objectives : p ≤ maxObjectives
   pub variables : n ≤ maxVariables
   pub count : k ≤ maxPoints
-  pub row : i < secondRow
+  pub row : i < firstRow + maxPoints
   pub second-count : b ≤ maxPoints
   pub values : (y : Point) → In y (secondIn p n work b) → Values (added (pointIn p n work i .choice) (y .choice))
 
 -- memory in which a merge may run: k listed points, and two lists whose added choices are values of domains
 pub record Halved (p n k a b : ℕ) (work : List ℕ) : Type 0 where
-  pub long : rowsEnd ≤ length work
+  pub long : halvesEnd ≤ length work
   pub objectives : p ≤ maxObjectives
   pub variables : n ≤ maxVariables
   pub count : k ≤ maxPoints

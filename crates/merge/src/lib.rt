@@ -5,7 +5,7 @@ ghost use mathlib.Core.List.{[]};
 ghost use Prim.Native.Nat.{_+_, _≤_};
 ghost use lib.ListN.{length, take, drop};
 ghost use Rattle.model.specs.Basics.{All, keepIf};
-ghost use Rattle.model.specs.Limits.{maxObjectives, maxVariables, maxPoints};
+ghost use Rattle.model.specs.Limits.{maxObjectives, maxVariables, maxPoints, workNeed};
 ghost use Rattle.model.specs.Problems.{Word};
 ghost use Rattle.model.specs.Vectors.{under, earlier, added};
 ghost use Rattle.model.specs.Frontiers.{best, frontier};
@@ -16,13 +16,14 @@ ghost use Rattle.model.specs.Merging.{ahead, sumOf, sumsWith, leastLeft};
 ghost use Rattle.groups.specs.Layout.{listEnd, rowWidth};
 ghost use Rattle.rows.specs.Rows.{rowAt, pointIn, listIn};
 ghost use Rattle.search.specs.States.{heldOf};
-ghost use Rattle.listing.specs.Says.{problemAt, Accepted, FoundSays};
+ghost use Rattle.listing.specs.Says.{problemAt, Accepted};
+ghost use Rattle.passes.specs.Says.{FoundSays};
 ghost use Rattle.merge.specs.Sums.{firstRow, secondRow, pointOf, secondIn, sumsIn, Values, Paired, Halved};
 ghost use Rattle.merge.specs.Says.{KeptSays, noLists, CutFound};
 
-pub const FIRST_ROW: usize = 65;
+pub const FIRST_ROW: usize = 177;
 
-pub const SECOND_ROW: usize = 130;
+pub const SECOND_ROW: usize = 65;
 
 // Whether the first of two choices is earlier in its first `n` values.
 fn is_earlier_choice(x: [u8; 24], y: [u8; 24], n: usize) -> bool
@@ -178,7 +179,7 @@ pub fn merge_points(
     ceilings: [u64; 4],
     room: usize,
     work: &mut [u32],
-) -> listing::Found
+) -> passes::Found
     requires { ⌜ Halved p n 0 a b (now work) × All Word (take p ceilings) × (room ≤ maxPoints) ⌝ }
     ensures { λ f. ⌜ FoundSays p n (best (sumsIn p n ceilings (now (work .entry)) a b)) room (now (work .entry)) (now (work .exit)) f ⌝ }
 {
@@ -186,7 +187,7 @@ pub fn merge_points(
     while k < room {
         let next = next_sum(a, b, n, work, k, p, ceilings);
         if !next.found {
-            return listing::Found {
+            return passes::Found {
                 full: false,
                 count: k,
             };
@@ -198,12 +199,12 @@ pub fn merge_points(
     }
     let last = next_sum(a, b, n, work, k, p, ceilings);
     if last.found {
-        return listing::Found {
+        return passes::Found {
             full: true,
             count: 0,
         };
     }
-    listing::Found {
+    passes::Found {
         full: false,
         count: k,
     }
@@ -221,11 +222,21 @@ fn keep_half(
     ceilings: [u32; 4],
     row: usize,
     work: &mut [u32],
-) -> listing::Found
-    requires { ⌜ Accepted p r at maxPoints ceilings (now sizes) (now s) (now work) × (length (now sides) ≡ length (now sizes)) × (firstRow ≤ row) × (row ≤ secondRow) ⌝ }
+) -> passes::Found
+    requires { ⌜ Accepted p r at maxPoints ceilings (now sizes) (now s) (now work) × (length (now sides) ≡ length (now sizes)) × (secondRow ≤ row) × (row ≤ firstRow) × (workNeed ≤ length (now work)) ⌝ }
     ensures { λ f. ⌜ KeptSays p (length (now (sizes .entry))) (frontier (view side (problemAt p ceilings (now (sizes .entry)) (now (s .entry)) at r) (now (sides .entry)))) row (now (work .entry)) (now (work .exit)) f ⌝ }
 {
-    let found = listing::find_half(s, at, r, sizes, sides, side, p, ceilings, work);
+    let found = listing::find_half(
+        s,
+        at,
+        r,
+        sizes,
+        sides,
+        side,
+        p,
+        ceilings,
+        &mut work[..listing::SEARCH_END],
+    );
     let to = rows::LIST_AT + rows::ROW_WIDTH * row;
     groups::copy_numbers(rows::LIST_AT, to, rows::ROW_WIDTH * found.count, work);
     found
@@ -262,7 +273,7 @@ pub fn cut_lists(
     room: usize,
     work: &mut [u32],
 ) -> Lists
-    requires { ⌜ Accepted p r at room ceilings (now sizes) (now s) (now work) × (sidesOk (problemAt p ceilings (now sizes) (now s) at r) (now sides) ≡ true) × (uncrossed (now sides) (problemAt p ceilings (now sizes) (now s) at r .tables) ≡ true) ⌝ }
+    requires { ⌜ Accepted p r at room ceilings (now sizes) (now s) (now work) × (sidesOk (problemAt p ceilings (now sizes) (now s) at r) (now sides) ≡ true) × (uncrossed (now sides) (problemAt p ceilings (now sizes) (now s) at r .tables) ≡ true) × (workNeed ≤ length (now work)) ⌝ }
     ensures { λ f. ⌜ CutFound (problemAt p ceilings (now (sizes .entry)) (now (s .entry)) at r) (now (sides .entry)) room (now (work .entry)) (now (work .exit)) f ⌝ }
 {
     let first = keep_half(s, at, r, sizes, sides, 0, p, ceilings, FIRST_ROW, work);

@@ -7,7 +7,7 @@ ghost use Rattle.model.specs.Basics.{All};
 ghost use Rattle.model.specs.Limits.{maxObjectives, maxVariables, maxPoints, sumEnd};
 ghost use Rattle.model.specs.Vectors.{added};
 ghost use Rattle.model.specs.Search.{matched, pass};
-ghost use Rattle.groups.specs.Layout.{listEnd, rowsEnd};
+ghost use Rattle.groups.specs.Layout.{listEnd, searchEnd};
 ghost use Rattle.groups.specs.Groups.{Placed, Grouped};
 ghost use Rattle.rows.specs.Rows.{listIn};
 ghost use Rattle.search.specs.States.{heldOf, problemIn, prefixOf, deadIn, gainsIn, ruleOf, Setting, Stands, Rest, opensFrom, triesFrom};
@@ -73,7 +73,7 @@ fn is_dead(
 
 // The bound with what the variables after the prefix add to it.
 fn sharper_bound(x: Partial, work: &[u32]) -> [u64; 4]
-    requires { ⌜ (rowsEnd ≤ length (now work)) × (x .len ≤ maxVariables) × All (λ b. b ≤ sumEnd) (x .bound) ⌝ }
+    requires { ⌜ (searchEnd ≤ length (now work)) × (x .len ≤ maxVariables) × All (λ b. b ≤ sumEnd) (x .bound) ⌝ }
     ensures { λ b. ⌜ b ≡ added (x .bound) (gainsIn maxObjectives (now (work .entry)) (x .len)) ⌝ }
 {
     let len = x.len;

@@ -8,7 +8,7 @@ use lib.Seq.{drop-set-lt}
 use Rattle.model.specs.Limits.{maxObjectives}
 use Rattle.model.specs.Problems.{Problem}
 use Rattle.model.specs.Suffixes.{Gain, Gains}
-use Rattle.groups.specs.Layout.{gainsAt, sourceAt, rowsEnd}
+use Rattle.groups.specs.Layout.{gainsAt, sourceAt, searchEnd}
 use Rattle.groups.proofs.Overwritten.{over}
 use Rattle.search.specs.States.{gainsIn}
 use Rattle.suffixes.specs.Gained.{sourceProblem, Source, Found-from, Left}
@@ -56,7 +56,7 @@ module _ {p r : ℕ} {ceilings ds s was : List ℕ} (source : Source p r ceiling
 
     pub objectives-end : (o k : ℕ) → Found-from q o k work → Gains q (gainsIn p work) × (gainsIn maxObjectives work (length ds) ≡ replicate maxObjectives 0) × Left was work
     objectives-end o k u =
-        let long : rowsEnd ≤ length work = omega (arith, left .1, source .long) in
+        let long : searchEnd ≤ length work = omega (arith, left .1, source .long) in
         (found-gains work (source .variables) long u (source .objectives), found-last work (source .variables) long u, left)
 
   -- no gain is found yet

@@ -15,7 +15,7 @@ use Rattle.model.specs.Problems.{Problem}
 use Rattle.model.specs.Suffixes.{Gain, Gains}
 use Rattle.model.proofs.Bits.{test}
 use Rattle.model.proofs.Suffixes.{gain-none}
-use Rattle.groups.specs.Layout.{gainsAt, sourceAt, rowsEnd}
+use Rattle.groups.specs.Layout.{gainsAt, sourceAt, searchEnd}
 use Rattle.groups.proofs.Overwritten.{over, over-length, over-behind, over-here}
 use Rattle.search.specs.States.{gainsIn}
 use Rattle.suffixes.specs.Gained.{gainIn, Found-from, Left}
@@ -28,7 +28,7 @@ gainsCount = sourceAt - gainsAt
 pub row-at : (p : ℕ) (work : List ℕ) (j i : ℕ) → i < p → getD (gainsIn p work j) i 0 ≡ gainIn work j i
 row-at p work j i l = getD-take p (drop (gainsAt + 4 * j) work) i 0 l ∙ getD-drop (gainsAt + 4 * j) work i 0
 
-pub row-width : (p : ℕ) (work : List ℕ) (j : ℕ) → rowsEnd ≤ length work → p ≤ maxObjectives → j ≤ maxVariables → length (gainsIn p work j) ≡ p
+pub row-width : (p : ℕ) (work : List ℕ) (j : ℕ) → searchEnd ≤ length work → p ≤ maxObjectives → j ≤ maxVariables → length (gainsIn p work j) ≡ p
 row-width p work j long few h = length-take-le p (drop (gainsAt + 4 * j) work) (omega (arith, length-drop (gainsAt + 4 * j) work))
 
 gain-from : (work : List ℕ) (j i : ℕ) → gainIn work j i ≡ getD (drop gainsAt work) (4 * j + i) 0
@@ -82,7 +82,7 @@ found-next work i l u =
     record { sound = u .sound; before = λ a j h. u .before a j (omega arith); above = λ j. u .before i j l; last = u .last }
 
 -- one more gain, of objective o and the variables from k on
-module _ {q : Problem} {o k : ℕ} (work : List ℕ) (u : Found-from q o k work) (few : q .objectives ≤ maxObjectives) (own : o < q .objectives) (more : k < length (q .domains)) (short : length (q .domains) ≤ maxVariables) (long : rowsEnd ≤ length work) (g : ℕ) where
+module _ {q : Problem} {o k : ℕ} (work : List ℕ) (u : Found-from q o k work) (few : q .objectives ≤ maxObjectives) (own : o < q .objectives) (more : k < length (q .domains)) (short : length (q .domains) ≤ maxVariables) (long : searchEnd ≤ length work) (g : ℕ) where
   abbrev after : List ℕ
   after = set work (gainsAt + 4 * k + o) g
 
@@ -107,7 +107,7 @@ module _ {q : Problem} {o k : ℕ} (work : List ℕ) (u : Found-from q o k work)
       go i j l h (inr a) b = rw (written-other j i (omega arith) (λ e. eqb-false i o a (e .1))) (u .sound i j l h)
 
 -- what they are good for: all are sound, and a complete choice has none
-module _ {q : Problem} {o k : ℕ} (work : List ℕ) (short : length (q .domains) ≤ maxVariables) (long : rowsEnd ≤ length work) (u : Found-from q o k work) where
+module _ {q : Problem} {o k : ℕ} (work : List ℕ) (short : length (q .domains) ≤ maxVariables) (long : searchEnd ≤ length work) (u : Found-from q o k work) where
   pub found-gains : q .objectives ≤ maxObjectives → Gains q (gainsIn (q .objectives) work)
   found-gains few =
       record {

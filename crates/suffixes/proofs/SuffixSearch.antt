@@ -20,7 +20,7 @@ use Rattle.model.proofs.Elements.{all-at, all-map}
 use Rattle.model.proofs.Search.{Sound}
 use Rattle.model.proofs.Suffixes.{sides-length, gains-sound}
 use Rattle.model.proofs.SuffixProblems.{suffix-gains, suffix-gain, gain-limit}
-use Rattle.groups.specs.Layout.{recordsAt, gainsAt, sourceAt, rowsEnd}
+use Rattle.groups.specs.Layout.{recordsAt, gainsAt, sourceAt, searchEnd}
 use Rattle.groups.specs.Groups.{tablesOver, placesIn, Placed, Grouped}
 use Rattle.groups.proofs.Overwritten.{over, over-length, over-behind, over-here}
 use Rattle.rows.specs.Rows.{listIn}
@@ -107,7 +107,7 @@ module _ {p r : ℕ} {ceilings ds s was : List ℕ} {o k : ℕ} {ss sizes : List
     found : Found-from q o k work
     found = found-same was work same-gains (u .known)
 
-    enough : rowsEnd ≤ length work
+    enough : searchEnd ≤ length work
     enough = omega (arith, same-long, u .source .long)
 
     pub suffix-setting : Setting (o + 1) count 0 sizes s work

@@ -8,7 +8,7 @@ use Rattle.model.specs.Limits.{maxObjectives, maxTables, maxVariables}
 use Rattle.model.specs.Problems.{Problem, Word, DomainSize}
 use Rattle.model.specs.Suffixes.{Gain}
 use Rattle.problem.specs.Records.{Whole}
-use Rattle.groups.specs.Layout.{gainsAt, sourceAt, rowsEnd}
+use Rattle.groups.specs.Layout.{gainsAt, sourceAt, searchEnd}
 use Rattle.groups.specs.Groups.{tablesOver}
 
 -- the places of a problem's r records in work memory, and the problem that they make
@@ -26,7 +26,7 @@ pub record Source (p r : ℕ) (ceilings ds s work : List ℕ) : Type 0 where
   pub variables : length ds ≤ maxVariables
   pub objectives : p ≤ maxObjectives
   pub words : All Word ceilings
-  pub long : rowsEnd ≤ length work
+  pub long : searchEnd ≤ length work
 
 -- the gain of objective o and the variables from k on, as a row of work memory has it
 abbrev pub gainIn : List ℕ → ℕ → ℕ → ℕ

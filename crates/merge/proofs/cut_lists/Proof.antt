@@ -13,7 +13,7 @@ keep-half-requires : tie.Need-keep-half-requires
 keep-half-requires c κs =
     let s = c .before .before .before .before .before in
     let a = s .args in
-    (half-accepted (s .pre .0) _ refl, sym (sides-long (problemAt (a .p) (a .ceilings) (now (a .sizes)) (now (a .s)) (a .at) (a .r)) (now (a .sides)) (s .pre .1)), omega arith, omega arith)
+    (half-accepted (s .pre .0) _ (omega (arith, s .pre .3)), sym (sides-long (problemAt (a .p) (a .ceilings) (now (a .sizes)) (now (a .s)) (a .at) (a .r)) (now (a .sides)) (s .pre .1)), omega arith, omega arith, s .pre .3)
 
 no-lists-requires : tie.Need-no-lists-requires
 no-lists-requires c κs = search needs
@@ -24,13 +24,13 @@ same-length c = search needs
 returns : tie.Need-returns
 returns c =
     let s = c .before .before .before .before .before .before .before .before .before .before in
-    rw (c .no-lists .ensures) (first-full (now (s .args .sides)) (s .pre .0) (s .pre .1) (s .pre .2) (c .before .before .before .before .keep-half .ensures) (c .before .if1 .taken))
+    rw (c .no-lists .ensures) (first-full (now (s .args .sides)) (s .pre .0) (s .pre .1) (s .pre .2) (s .pre .3) (c .before .before .before .before .keep-half .ensures) (c .before .if1 .taken))
 
 keep-half-requires-2 : tie.Need-keep-half-requires-2
 keep-half-requires-2 c κs =
     let s = c .before .before .before .before .before .before .before .before .before .before in
     let a = s .args in
-    (half-accepted (s .pre .0) _ (c .before .before .before .before .keep-half .ensures .long), sym (sides-long (problemAt (a .p) (a .ceilings) (now (a .sizes)) (now (a .s)) (a .at) (a .r)) (now (a .sides)) (s .pre .1)), omega arith, omega arith)
+    (half-accepted (s .pre .0) _ (omega (arith, s .pre .3, c .before .before .before .before .keep-half .ensures .long)), sym (sides-long (problemAt (a .p) (a .ceilings) (now (a .sizes)) (now (a .s)) (a .at) (a .r)) (now (a .sides)) (s .pre .1)), omega arith, omega arith, omega (arith, s .pre .3, c .before .before .before .before .keep-half .ensures .long))
 
 no-lists-requires-2 : tie.Need-no-lists-requires-2
 no-lists-requires-2 c κs = search needs
@@ -41,7 +41,7 @@ same-length-2 c = search needs
 returns-2 : tie.Need-returns-2
 returns-2 c =
     let s = c .before .before .before .before .before .before .before .before .before .before .before .before .before .before .before in
-    rw (c .no-lists2 .ensures) (second-full (now (s .args .sides)) (s .pre .0) (s .pre .1) (s .pre .2) (c .before .before .before .before .before .before .before .before .before .keep-half .ensures) (c .before .before .before .before .before .before .if1 .left) (c .before .before .before .before .keep-half2 .ensures) (c .before .if2 .taken))
+    rw (c .no-lists2 .ensures) (second-full (now (s .args .sides)) (s .pre .0) (s .pre .1) (s .pre .2) (s .pre .3) (c .before .before .before .before .before .before .before .before .before .keep-half .ensures) (c .before .before .before .before .before .before .if1 .left) (c .before .before .before .before .keep-half2 .ensures) (c .before .if2 .taken))
 
 widened-requires : tie.Need-widened-requires
 widened-requires c κs = search needs
@@ -51,7 +51,7 @@ merge-points-requires c κs =
     let s = c .before .before .before .before .before .before .before .before .before .before .before .before .before .before .before .before in
     let first = c .before .before .before .before .before .before .before .before .before .before .keep-half .ensures in
     let second = c .before .before .before .before .before .keep-half2 .ensures in
-    (cut-halved (now (s .args .sides)) (s .pre .0) (s .pre .1) (s .pre .2) first (c .before .before .before .before .before .before .before .if1 .left) second (c .before .before .if2 .left), cut-words (now (s .args .sides)) (s .pre .0) (s .pre .1) (s .pre .2) first (c .before .before .before .before .before .before .before .if1 .left) second (c .before .before .if2 .left) (c .before .widened .ensures), s .pre .0 .room-small)
+    (cut-halved (now (s .args .sides)) (s .pre .0) (s .pre .1) (s .pre .2) (s .pre .3) first (c .before .before .before .before .before .before .before .if1 .left) second (c .before .before .if2 .left), cut-words (now (s .args .sides)) (s .pre .0) (s .pre .1) (s .pre .2) (s .pre .3) first (c .before .before .before .before .before .before .before .if1 .left) second (c .before .before .if2 .left) (c .before .widened .ensures), s .pre .0 .room-small)
 
 no-lists-requires-3 : tie.Need-no-lists-requires-3
 no-lists-requires-3 c κs = search needs
@@ -62,7 +62,7 @@ same-length-3 c = search needs
 returns-3 : tie.Need-returns-3
 returns-3 c =
     let s = c .before .before .before .before .before .before .before .before .before .before .before .before .before .before .before .before .before .before .before .before .before in
-    rw (c .no-lists3 .ensures) (merged-full (now (s .args .sides)) (s .pre .0) (s .pre .1) (s .pre .2) (c .before .before .before .before .before .before .before .before .before .before .before .before .before .before .before .keep-half .ensures) (c .before .before .before .before .before .before .before .before .before .before .before .before .if1 .left) (c .before .before .before .before .before .before .before .before .before .before .keep-half2 .ensures) (c .before .before .before .before .before .before .before .if2 .left) (c .before .before .before .before .before .before .widened .ensures) (c .before .before .before .before .merge-points .ensures) (c .before .if3 .taken))
+    rw (c .no-lists3 .ensures) (merged-full (now (s .args .sides)) (s .pre .0) (s .pre .1) (s .pre .2) (s .pre .3) (c .before .before .before .before .before .before .before .before .before .before .before .before .before .before .before .keep-half .ensures) (c .before .before .before .before .before .before .before .before .before .before .before .before .if1 .left) (c .before .before .before .before .before .before .before .before .before .before .keep-half2 .ensures) (c .before .before .before .before .before .before .before .if2 .left) (c .before .before .before .before .before .before .widened .ensures) (c .before .before .before .before .merge-points .ensures) (c .before .if3 .taken))
 
 same-length-4 : tie.Need-same-length-4
 same-length-4 c = search needs
@@ -70,7 +70,7 @@ same-length-4 c = search needs
 returns-4 : tie.Need-returns-4
 returns-4 c =
     let s = c .before .before .before .before .before .before .before .before .before .before .before .before .before .before .before .before .before .before .before .before in
-    cut-end (now (s .args .sides)) (s .pre .0) (s .pre .1) (s .pre .2) (c .before .before .before .before .before .before .before .before .before .before .before .before .before .before .keep-half .ensures) (c .before .before .before .before .before .before .before .before .before .before .before .if1 .left) (c .before .before .before .before .before .before .before .before .before .keep-half2 .ensures) (c .before .before .before .before .before .before .if2 .left) (c .before .before .before .before .before .widened .ensures) (c .before .before .before .merge-points .ensures) (c .if3 .left)
+    cut-end (now (s .args .sides)) (s .pre .0) (s .pre .1) (s .pre .2) (s .pre .3) (c .before .before .before .before .before .before .before .before .before .before .before .before .before .before .keep-half .ensures) (c .before .before .before .before .before .before .before .before .before .before .before .if1 .left) (c .before .before .before .before .before .before .before .before .before .keep-half2 .ensures) (c .before .before .before .before .before .before .if2 .left) (c .before .before .before .before .before .widened .ensures) (c .before .before .before .merge-points .ensures) (c .if3 .left)
 
 pub cut-lists-spec : {M : Type 1} → statement M
 cut-lists-spec =

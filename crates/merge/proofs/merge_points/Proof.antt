@@ -6,7 +6,7 @@ use denote.Ref.{now}
 use mir.Syntax.{w64}
 use Rattle.model.specs.Limits.{maxObjectives}
 use Rattle.rows.proofs.Arrays.{array-length}
-use Rattle.listing.proofs.Made.{Made, made-start}
+use Rattle.passes.proofs.Made.{Made, made-start}
 use Rattle.merge.proofs.Merging.{Summed, merging-halved, merging-done, merging-full, sum-words, merging-next}
 use Rattle.merge.proofs.merge_points.Statement.{statement}
 use Rattle.merge.proofs.merge_points.Tie as tie

@@ -1,0 +1,2 @@
+-- What finding the list ensures.
+pub mod Says
