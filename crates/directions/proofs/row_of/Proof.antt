@@ -1,0 +1,66 @@
+-- `directions::row_of` meets its contract.
+use native.Mathlib.Omega.{arith}
+use Prim.Native.Nat.{_*_}
+use mir.Syntax.{w64}
+use Rattle.rows.proofs.Arrays.{array-length}
+use Rattle.directions.proofs.TableRows.{row-read}
+use borrow.Author.Needs.{needs}
+use Rattle.directions.proofs.row_of.Statement.{statement}
+use Rattle.directions.proofs.row_of.Tie as tie
+
+mul-at : tie.Need-mul-at
+mul-at c = search needs
+
+mul-t5 : tie.Need-mul-t5
+mul-t5 c = search needs
+
+array-read-t8 : tie.Need-array-read-t8
+array-read-t8 c = search needs
+
+add-t9 : tie.Need-add-t9
+add-t9 c = search needs
+
+mul-t10 : tie.Need-mul-t10
+mul-t10 c = search needs
+
+array-read-t13 : tie.Need-array-read-t13
+array-read-t13 c = search needs
+
+add-t14 : tie.Need-add-t14
+add-t14 c = search needs
+
+mul-t15 : tie.Need-mul-t15
+mul-t15 c = search needs
+
+array-read-t18 : tie.Need-array-read-t18
+array-read-t18 c = search needs
+
+add-t19 : tie.Need-add-t19
+add-t19 c = search needs
+
+mul-t20 : tie.Need-mul-t20
+mul-t20 c = search needs
+
+array-read-t23 : tie.Need-array-read-t23
+array-read-t23 c = search needs
+
+returns : tie.Need-returns
+returns c = row-read (c .args .t1) (4 * c .args .i) (omega (arith, c .pre, array-length w64 16 (c .args .t1) _ (c .good .0)))
+
+pub row-of-spec : {M : Type 1} → statement M
+row-of-spec =
+    tie.close
+    (tie.spec
+    mul-at
+    mul-t5
+    array-read-t8
+    add-t9
+    mul-t10
+    array-read-t13
+    add-t14
+    mul-t15
+    array-read-t18
+    add-t19
+    mul-t20
+    array-read-t23
+    returns)

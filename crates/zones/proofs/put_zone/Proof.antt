@@ -1,0 +1,104 @@
+-- `zones::put_zone` meets its contract. The invariant, `Copied`: the numbers passed are written.
+use mathlib.Core.List.{map}
+use Prim.Native.Nat.{_*_, _-_, _<_}
+use native.Mathlib.Omega.{arith}
+use denote.Ref.{now}
+use Rattle.rows.proofs.Copied.{Copied, copied-start, copied-length, copied-next, copied-end}
+use Rattle.zones.specs.Zones.{zoneWidth, clamped}
+use Rattle.zones.proofs.RowWritten.{row-long, row-written}
+use mathlib.Core.Path.{_≡_, sym, _∙_}
+use lib.ListN.{length, take, List·getD-map}
+use lib.Seq.{length-take-le, take-all}
+use mir.Syntax.{w64}
+use Rattle.model.specs.Limits.{maxObjectives, sumEnd}
+use Rattle.model.specs.Problems.{Word}
+use Rattle.model.proofs.Elements.{all-map}
+use Rattle.rows.proofs.Arrays.{array-length}
+use Rattle.zones.proofs.put_zone.Statement.{statement}
+use Rattle.zones.proofs.put_zone.Tie as tie
+
+abbrev Inv-loop : tie.InvT-loop
+Inv-loop i zones₀ all at j₀ zones j = Copied zones₀ at (map clamped all) zoneWidth zones j
+
+abbrev μ-loop : tie.MeasureT-loop
+μ-loop i zones₀ all at j₀ zones j = zoneWidth - j
+
+-- what is known of the arguments
+module _ (s : tie.Start Inv-loop μ-loop) where
+  wide : length (take (s .args .d .objectives) (s .args .corner)) ≡ s .args .d .objectives
+  wide = length-take-le (s .args .d .objectives) (s .args .corner) (omega (arith, array-length w64 maxObjectives (s .args .corner) _ (s .good .1 .0), s .pre .0 .few))
+
+directions-of-requires : tie.Need-directions-of-requires Inv-loop μ-loop
+directions-of-requires c κs =
+    let s = c .before in
+    (s .pre .0, all-map Word (λ x. x < sumEnd) (λ x l. omega arith) (take (s .args .d .objectives) (s .args .corner)) (s .pre .3))
+
+mul-at : tie.Need-mul-at Inv-loop μ-loop
+mul-at c = omega arith
+
+loop-holds : tie.Need-loop-holds Inv-loop μ-loop
+loop-holds c =
+    let s = c .before .before in
+    let a = s .args in
+    copied-start (now (a .zones)) (zoneWidth * a .i) (map clamped (c .directions-of .result)) zoneWidth (omega (arith, s .pre)) (omega (arith, row-long (a .d) (take (a .d .objectives) (a .corner)) _ (s .pre .0) (wide s) (c .directions-of .ensures)))
+
+mul-clamp : tie.Need-mul-clamp Inv-loop μ-loop
+mul-clamp c = omega arith
+
+array-read-clamp : tie.Need-array-read-clamp Inv-loop μ-loop
+array-read-clamp c = omega arith
+
+clamp-requires : tie.Need-clamp-requires Inv-loop μ-loop
+clamp-requires c κs = tt
+
+add-zones : tie.Need-add-zones Inv-loop μ-loop
+add-zones c = omega arith
+
+mul-zones : tie.Need-mul-zones Inv-loop μ-loop
+mul-zones c = omega arith
+
+slice-write-zones : tie.Need-slice-write-zones Inv-loop μ-loop
+slice-write-zones c = omega (arith, copied-length (c .before .before .loop .inv))
+
+add-j : tie.Need-add-j Inv-loop μ-loop
+add-j c = omega arith
+
+loop-less : tie.Need-loop-less Inv-loop μ-loop
+loop-less c = omega arith
+
+loop-again : tie.Need-loop-again Inv-loop μ-loop
+loop-again c =
+    let w = c .before .before .loop in
+    copied-next (w .inv) (omega arith) _ (c .clamp .ensures ∙ sym (List·getD-map clamped (c .before .before .before .directions-of .result) (w .j) 0))
+
+same-length : tie.Need-same-length Inv-loop μ-loop
+same-length c = copied-length (c .before .loop .inv)
+
+returns : tie.Need-returns Inv-loop μ-loop
+returns c =
+    let s = c .before .before .before .before in
+    let a = s .args in
+    let read = c .before .before .directions-of .ensures in
+    let full = row-long (a .d) (take (a .d .objectives) (a .corner)) _ (s .pre .0) (wide s) read in
+    row-written (a .d) (now (a .zones)) (a .i) (take (a .d .objectives) (a .corner)) _ _ (s .pre .0) (s .pre .1) (s .pre .2) (wide s) (s .pre .3) read (rw (take-all zoneWidth (map clamped (c .before .before .directions-of .result)) (omega (arith, full))) at (copied-end (c .before .loop .inv) (omega arith)))
+
+pub put-zone-spec : {M : Type 1} → statement M
+put-zone-spec =
+    tie.close
+    (tie.spec
+    Inv-loop
+    μ-loop
+    directions-of-requires
+    mul-at
+    loop-holds
+    mul-clamp
+    array-read-clamp
+    clamp-requires
+    add-zones
+    mul-zones
+    slice-write-zones
+    add-j
+    loop-less
+    loop-again
+    same-length
+    returns)
