@@ -1,0 +1,52 @@
+-- Sums of costs over few records stay below 2^40: each entry is a number of four bytes.
+use mathlib.Core.Path.{_≡_, refl, ap}
+use mathlib.Core.List.{List, [], _∷_}
+use Prim.Native.Nat.{ℕ, zero, suc, _+_, _≤_, _<_}
+use native.Mathlib.Omega.{arith}
+use lib.ListN.{length, getD, drop}
+use Rattle.model.specs.Basics.{All}
+use Rattle.model.specs.Limits.{maxTables, byteEnd, wordEnd, sumEnd}
+use Rattle.model.specs.Problems.{Word, sizeOf}
+use Rattle.model.specs.Encoding.{Byte}
+use Rattle.model.specs.Reading.{wordsIn, tableArity, tableScope, tableOf}
+use Rattle.model.specs.Costs.{entryFrom, costOf, total, totalsFrom}
+use Rattle.model.proofs.Elements.{all-at, all-drop}
+use Rattle.model.proofs.Words.{words-below}
+use Rattle.model.proofs.Totals.{total-limit}
+use Rattle.groups.specs.Groups.{tablesOver}
+
+all-bytes : (s : List ℕ) → ((i : ℕ) → getD s i 0 < byteEnd) → All Byte s
+all-bytes [] h = tt
+all-bytes (b ∷ s) h = (h 0, all-bytes s (λ i. h (suc i)))
+
+length-over : (ds s places : List ℕ) → length (tablesOver ds s places) ≡ length places
+unfolding tablesOver
+length-over ds s [] = refl
+length-over ds s (at ∷ places) = ap suc (length-over ds s places)
+
+module _ (ds s y : List ℕ) (bytes : All Byte s) where
+  cost-word : (at : ℕ) → costOf ds y (tableOf ds (drop at s)) < wordEnd
+  unfolding costOf tableOf
+  cost-word at =
+      let t = drop at s in
+      let n = sizeOf ds (tableScope t) in
+      let entries = drop (4 + tableArity t) t in
+      let words = words-below n entries (all-drop Byte (4 + tableArity t) t (all-drop Byte at s bytes)) in
+      all-at Word (wordsIn n entries) words (entryFrom 0 ds (tableScope t) y) 0 (omega arith)
+
+  all-words : (places : List ℕ) → All (λ t. costOf ds y t < wordEnd) (tablesOver ds s places)
+  unfolding tablesOver
+  all-words [] = tt
+  all-words (at ∷ places) = (cost-word at, all-words places)
+
+  total-small : (o : ℕ) (places : List ℕ) → length places ≤ maxTables → total o (costOf ds y) (tablesOver ds s places) < sumEnd
+  total-small o places few = omega (arith, total-limit o wordEnd (costOf ds y) (tablesOver ds s places) (all-words places), length-over ds s places)
+
+  totals-small : (p o : ℕ) (places : List ℕ) → length places ≤ maxTables → All (λ c. c < sumEnd) (totalsFrom p o (costOf ds y) (tablesOver ds s places))
+  unfolding totalsFrom
+  totals-small zero o places few = tt
+  totals-small (suc p) o places few = (total-small o places few, totals-small p (suc o) places few)
+
+-- s has bytes only
+pub costs-small : (ds s y : List ℕ) → ((i : ℕ) → getD s i 0 < byteEnd) → (p o : ℕ) (places : List ℕ) → length places ≤ maxTables → All (λ c. c < sumEnd) (totalsFrom p o (costOf ds y) (tablesOver ds s places))
+costs-small ds s y bytes p o places few = totals-small ds s y (all-bytes s bytes) p o places few

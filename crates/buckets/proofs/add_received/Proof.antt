@@ -1,0 +1,71 @@
+-- `buckets::add_received` meets its contract. The invariant: `Receiving`.
+use Prim.Native.Nat.{_+_, _-_}
+use native.Mathlib.Omega.{arith}
+use Rattle.buckets.proofs.MessageSteps.{Receiving, receiving-start, receiving-next, receiving-end}
+use Rattle.buckets.proofs.add_received.Statement.{statement}
+use Rattle.buckets.proofs.add_received.Tie as tie
+
+abbrev Inv-loop : tie.InvT-loop
+Inv-loop first last v size choice width plan rows₀ i₀ rows i = Receiving width plan first last v size choice rows₀ i rows
+
+abbrev μ-loop : tie.MeasureT-loop
+μ-loop first last v size choice width plan rows₀ i₀ rows i = last - i
+
+loop-holds : tie.Need-loop-holds Inv-loop μ-loop
+loop-holds c = receiving-start _ _ _ _ _ _ _ _ (c .before .before .before .pre .0)
+
+add-g : tie.Need-add-g Inv-loop μ-loop
+add-g c = omega arith
+
+mul-g : tie.Need-mul-g Inv-loop μ-loop
+mul-g c = omega arith
+
+shared-slice-read-g : tie.Need-shared-slice-read-g Inv-loop μ-loop
+shared-slice-read-g c = omega arith
+
+cast-g : tie.Need-cast-g Inv-loop μ-loop
+cast-g c = omega (arith, c .shared-slice-known3 .given (256 + c .before .before .loop .i))
+
+add-message-requires : tie.Need-add-message-requires Inv-loop μ-loop
+add-message-requires c κs =
+    let s = c .before .before .before .before .before .before .before in
+    let w = c .before .before .before .loop in
+    let u = w .inv in
+    (omega (arith, c .before .shared-slice-known3 .given (256 + w .i)), s .pre .3, s .pre .4, s .pre .5, (omega (arith, u .long, s .pre .6), λ a j h l. omega (arith, s .pre .1, u .behind, u .ahead, u .small a j h l, s .pre .7 a j h l)))
+
+add-i : tie.Need-add-i Inv-loop μ-loop
+add-i c = omega arith
+
+loop-less : tie.Need-loop-less Inv-loop μ-loop
+loop-less c = omega arith
+
+loop-again : tie.Need-loop-again Inv-loop μ-loop
+loop-again c =
+    let s = c .before .before .before .before .before .before .before .before .before .before in
+    let w = c .before .before .before .before .before .before .loop in
+    let r = c .before .before .add-message in
+    receiving-next (w .inv) (s .pre .1) (omega arith) (s .pre .2) (λ k. omega (arith, c .before .before .before .before .before .before .before .before .shared-slice-known2 .given k)) _ (r .kept .1 .1 .1 .1 .1 .1 .0) (r .ensures)
+
+same-length : tie.Need-same-length Inv-loop μ-loop
+same-length c = c .before .loop .inv .long
+
+returns : tie.Need-returns Inv-loop μ-loop
+returns c = receiving-end (c .before .loop .inv) (c .before .before .before .before .before .pre .1) (omega arith)
+
+pub add-received-spec : {M : Type 1} → statement M
+add-received-spec =
+    tie.close
+    (tie.spec
+    Inv-loop
+    μ-loop
+    loop-holds
+    add-g
+    mul-g
+    shared-slice-read-g
+    cast-g
+    add-message-requires
+    add-i
+    loop-less
+    loop-again
+    same-length
+    returns)

@@ -1,0 +1,72 @@
+-- `buckets::fill_totals` meets its contract. The invariant: `Totalling`.
+use mathlib.Core.Path.{_≡_, refl, _∙_}
+use Prim.Native.Nat.{_-_}
+use native.Mathlib.Omega.{arith}
+use lib.ListN.{length}
+use Rattle.buckets.proofs.RecordSteps.{Totalling, totalling-start, totalling-next, totalling-end}
+use Rattle.buckets.proofs.fill_totals.Statement.{statement}
+use Rattle.buckets.proofs.fill_totals.Tie as tie
+
+abbrev Inv-loop : tie.InvT-loop
+Inv-loop s sizes from to v choice plan totals₀ i₀ totals i = Totalling sizes s plan from to v choice i totals × (length totals ≡ length totals₀)
+
+abbrev μ-loop : tie.MeasureT-loop
+μ-loop s sizes from to v choice plan totals₀ i₀ totals i = to - i
+
+loop-holds : tie.Need-loop-holds Inv-loop μ-loop
+loop-holds c =
+    let q = c .before .before .before .before .before .pre in
+    (totalling-start _ _ _ _ _ _ _ _ (q .1) (q .7) (q .8), refl)
+
+mul-at : tie.Need-mul-at Inv-loop μ-loop
+mul-at c = omega arith
+
+shared-slice-read-at : tie.Need-shared-slice-read-at Inv-loop μ-loop
+shared-slice-read-at c = omega arith
+
+cast-at : tie.Need-cast-at Inv-loop μ-loop
+cast-at c = omega (arith, c .shared-slice-known5 .given (c .before .before .loop .i))
+
+add-record-requires : tie.Need-add-record-requires Inv-loop μ-loop
+add-record-requires c κs =
+    let q = c .before .before .before .before .before .before .before .before .before .pre in
+    let w = c .before .before .before .loop in
+    let u = w .inv .0 in
+    (q .4 (w .i) (omega arith), q .0, q .5, q .6, u .long, λ a o h l. omega (arith, q .2, u .behind, u .ahead, u .small a o h l))
+
+add-i : tie.Need-add-i Inv-loop μ-loop
+add-i c = omega arith
+
+loop-less : tie.Need-loop-less Inv-loop μ-loop
+loop-less c = omega arith
+
+loop-again : tie.Need-loop-again Inv-loop μ-loop
+loop-again c =
+    let q = c .before .before .before .before .before .before .before .before .before .before .before .before .pre in
+    let w = c .before .before .before .before .before .before .loop in
+    let r = c .before .before .add-record in
+    let kept = r .kept .1 .1 .1 .1 .1 .0 in
+    (totalling-next (w .inv .0) (q .2) (omega arith) (q .3) _ kept (r .ensures), kept ∙ w .inv .1)
+
+same-length : tie.Need-same-length Inv-loop μ-loop
+same-length c = c .before .loop .inv .1
+
+returns : tie.Need-returns Inv-loop μ-loop
+returns c = totalling-end (c .before .loop .inv .0) (c .before .before .before .before .before .before .before .pre .2) (omega arith)
+
+pub fill-totals-spec : {M : Type 1} → statement M
+fill-totals-spec =
+    tie.close
+    (tie.spec
+    Inv-loop
+    μ-loop
+    loop-holds
+    mul-at
+    shared-slice-read-at
+    cast-at
+    add-record-requires
+    add-i
+    loop-less
+    loop-again
+    same-length
+    returns)

@@ -1,0 +1,116 @@
+-- `buckets::message_run` meets its contract: `message-runs`.
+use Prim.Native.Nat.{_+_, _*_, _<_}
+use native.Mathlib.Omega.{arith}
+use denote.Ref.{now}
+use Rattle.buckets.proofs.Runs.{message-runs, start-small, stride-small}
+use borrow.Author.Needs.{needs}
+use Rattle.buckets.proofs.message_run.Statement.{statement}
+use Rattle.buckets.proofs.message_run.Tie as tie
+use Rattle.buckets.proofs.message_run.Reads as reads
+use Rattle.buckets.proofs.message_run.Lts as lts
+use Rattle.buckets.proofs.number_at.Reads as number-at-reads
+use Rattle.buckets.proofs.term_of.Reads as term-of-reads
+
+-- where both terms are known, nothing wraps
+low : (c : lts.After-term-of2 (number-at-reads.Asked, number-at-reads.Learnt, term-of-reads.Asked, term-of-reads.Learnt) reads.Pre reads.Post) → c .before .before .before .before .before .before .number-at .result + c .before .before .before .before .before .before .before .before .before .args .width * (c .before .term-of .result .first + c .term-of2 .result .first) < 35184372088832
+low c =
+    let n = c .before .before .before .before .before .before .number-at in
+    let t = c .before .before .before .before .number-at3 in
+    let t′ = c .before .before .number-at5 in
+    start-small _ _ _ _ (n .ensures .1) (t .ensures .1) (t′ .ensures .1) (c .before .before .before .before .before .before .before .before .before .pre .1) _ _ (c .before .term-of .ensures .low) (c .term-of2 .ensures .low)
+
+flat : (c : lts.After-term-of2 (number-at-reads.Asked, number-at-reads.Learnt, term-of-reads.Asked, term-of-reads.Learnt) reads.Pre reads.Post) → c .before .before .before .before .before .before .before .before .before .args .width * (c .before .term-of .result .stride + c .term-of2 .result .stride) < 137438953472
+flat c =
+    let n = c .before .before .before .before .before .before .number-at in
+    let t = c .before .before .before .before .number-at3 in
+    let t′ = c .before .before .number-at5 in
+    stride-small _ _ _ _ (n .ensures .1) (t .ensures .1) (t′ .ensures .1) (c .before .before .before .before .before .before .before .before .before .pre .1) _ _ (c .before .term-of .ensures .flat) (c .term-of2 .ensures .flat)
+
+mul-at : tie.Need-mul-at
+mul-at c = search needs
+
+add-at : tie.Need-add-at
+add-at c = search needs
+
+number-at-requires : tie.Need-number-at-requires
+number-at-requires c κs = search needs
+
+add-number-at : tie.Need-add-number-at
+add-number-at c = search needs
+
+number-at-requires-2 : tie.Need-number-at-requires-2
+number-at-requires-2 c κs = search needs
+
+add-number-at-2 : tie.Need-add-number-at-2
+add-number-at-2 c = search needs
+
+number-at-requires-3 : tie.Need-number-at-requires-3
+number-at-requires-3 c κs = search needs
+
+add-number-at-3 : tie.Need-add-number-at-3
+add-number-at-3 c = search needs
+
+number-at-requires-4 : tie.Need-number-at-requires-4
+number-at-requires-4 c κs = search needs
+
+add-number-at-4 : tie.Need-add-number-at-4
+add-number-at-4 c = search needs
+
+number-at-requires-5 : tie.Need-number-at-requires-5
+number-at-requires-5 c κs = search needs
+
+term-of-requires : tie.Need-term-of-requires
+term-of-requires c κs = search needs
+
+term-of-requires-2 : tie.Need-term-of-requires-2
+term-of-requires-2 c κs = search needs
+
+add-t14 : tie.Need-add-t14
+add-t14 c = search needs
+
+mul-t16 : tie.Need-mul-t16
+mul-t16 c = omega (arith, low (c .before .before))
+
+add-t17 : tie.Need-add-t17
+add-t17 c = omega (arith, low (c .before .before))
+
+add-t18 : tie.Need-add-t18
+add-t18 c = search needs
+
+mul-t19 : tie.Need-mul-t19
+mul-t19 c = omega (arith, flat (c .before .before .before .before))
+
+returns : tie.Need-returns
+returns c =
+    let e = c .before .before .before .before in
+    let s = e .before .before .before .before .before .before .before .before .before in
+    let n = e .before .before .before .before .before .before .number-at in
+    let u = e .before .before .before .before .before .number-at2 in
+    let t = e .before .before .before .before .number-at3 in
+    let u′ = e .before .before .before .number-at4 in
+    let t′ = e .before .before .number-at5 in
+    message-runs (s .args .width) (now (s .args .plan)) (s .args .g) (n .result) (u .result) (t .result) (u′ .result) (t′ .result) (n .ensures .0) (u .ensures .0) (t .ensures .0) (u′ .ensures .0) (t′ .ensures .0) (n .ensures .1) (t .ensures .1) (t′ .ensures .1) (s .pre .1) (s .args .v) (now (s .args .choice)) (e .before .term-of .result) (e .term-of2 .result) (e .before .term-of .ensures) (e .term-of2 .ensures)
+
+pub message-run-spec : {M : Type 1} → statement M
+message-run-spec =
+    tie.close
+    (tie.spec
+    mul-at
+    add-at
+    number-at-requires
+    add-number-at
+    number-at-requires-2
+    add-number-at-2
+    number-at-requires-3
+    add-number-at-3
+    number-at-requires-4
+    add-number-at-4
+    number-at-requires-5
+    term-of-requires
+    term-of-requires-2
+    add-t14
+    mul-t16
+    add-t17
+    add-t18
+    mul-t19
+    returns)

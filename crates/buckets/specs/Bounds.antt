@@ -1,0 +1,43 @@
+-- The bound of a partial choice: what its first positions' buckets hold, less what they sent on ahead. It reads the values of these positions only.
+use mathlib.Core.Path.{_≡_}
+use mathlib.Core.List.{List}
+use Prim.Native.Nat.{ℕ, zero, suc, _+_, _-_, _<_}
+use lib.ListN.{length, getD, take, drop}
+use Rattle.model.specs.Costs.{costOf, totalsFrom}
+use Rattle.groups.specs.Groups.{tablesOver}
+use Rattle.directions.specs.Directions.{directionsOf, widthOf}
+use Rattle.directions.specs.declared.Directions as DD
+use Rattle.buckets.specs.Places.{positionIn, recordEnd, childEnd, messageEnd}
+use Rattle.buckets.specs.Messages.{sentOver, receivedOver}
+
+-- the places of the records from number `from` to below `to`, and what they cost a choice, in direction j
+abbrev pub placesOver : List ℕ → ℕ → ℕ → List ℕ
+placesOver plan from to = take (to - from) (drop from plan)
+
+abbrev pub costsOver : DD.Directions → List ℕ → List ℕ → List ℕ → List ℕ → List ℕ
+costsOver d ds s places y = totalsFrom (d .objectives) 0 (costOf ds y) (tablesOver ds s places)
+
+abbrev pub recordsOver : DD.Directions → List ℕ → List ℕ → List ℕ → ℕ → ℕ → List ℕ → ℕ → ℕ
+recordsOver d ds s plan from to y j = getD (directionsOf d (costsOver d ds s (placesOver plan from to) y)) j 0
+
+-- what some records and some received messages hold together
+abbrev pub contentOver : DD.Directions → List ℕ → List ℕ → List ℕ → ℕ → ℕ → ℕ → ℕ → List ℕ → ℕ → ℕ
+contentOver d ds s plan from to first last y j = recordsOver d ds s plan from to y j + receivedOver (widthOf d) plan first last y j
+
+-- the bucket of position k, what it sends, and what no variable decides
+abbrev pub contentAt : DD.Directions → List ℕ → List ℕ → List ℕ → ℕ → List ℕ → ℕ → ℕ
+contentAt d ds s plan k y j = contentOver d ds s plan (recordEnd plan (k + 1)) (recordEnd plan k) (childEnd plan (k + 1)) (childEnd plan k) y j
+
+abbrev pub sentAt : DD.Directions → List ℕ → ℕ → List ℕ → ℕ → ℕ
+sentAt d plan k y j = sentOver (widthOf d) plan (messageEnd plan (k + 1)) (messageEnd plan k) y j
+
+abbrev pub baseAt : DD.Directions → List ℕ → List ℕ → List ℕ → ℕ → List ℕ → ℕ → ℕ
+baseAt d ds s plan r y j = contentOver d ds s plan (recordEnd plan 0) r (childEnd plan 0) (messageEnd plan 0) y j
+
+unfoldable pub boundAt : DD.Directions → List ℕ → List ℕ → List ℕ → ℕ → ℕ → List ℕ → ℕ → ℕ
+boundAt d ds s plan r zero y j = baseAt d ds s plan r y j
+boundAt d ds s plan r (suc k) y j = boundAt d ds s plan r k y j + (contentAt d ds s plan k y j - sentAt d plan k y j)
+
+-- two choices agree at the first k positions
+abbrev pub Agree : List ℕ → ℕ → List ℕ → List ℕ → Type 0
+Agree plan k x y = (v : ℕ) → v < length x → positionIn plan v < k → getD x v 0 ≡ getD y v 0

@@ -1,0 +1,7 @@
+-- Buckets and messages: where they stand, what they are worth, and what the search relies on.
+pub mod Places
+pub mod Messages
+pub mod Bounds
+pub mod Sound
+pub mod Content
+pub mod Adding

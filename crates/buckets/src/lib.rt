@@ -1,0 +1,363 @@
+// Buckets of the second form of the search: what the records and messages of a position hold for each of its variable's values, and what it sends.
+ghost use mathlib.Core.Path.{_≡_};
+ghost use mathlib.Core.Bool.{true};
+ghost use Prim.Native.Nat.{ℕ, _+_, _*_, _<_, _≤_};
+ghost use lib.ListN.{length, getD, take, drop, set};
+ghost use lib.Dec.{ltb};
+ghost use Rattle.model.specs.Basics.{All, when};
+ghost use Rattle.model.specs.Limits.{maxTables, maxDomain, maxObjectives, byteEnd, wordEnd, sumEnd};
+ghost use Rattle.model.specs.Problems.{DomainSize};
+ghost use Rattle.model.specs.Costs.{isChoice};
+ghost use Rattle.problem.specs.Records.{Whole};
+ghost use Rattle.archive.specs.Changes.{maxWeight};
+ghost use Rattle.directions.specs.Directions.{maxSums, directionsOf, directionEnd, Sensible};
+ghost use Rattle.buckets.specs.Places.{maxMessages, looseAt};
+ghost use Rattle.buckets.specs.Messages.{messageAt};
+ghost use Rattle.buckets.specs.Content.{Planned, Ranged, Filled, Summed};
+ghost use Rattle.buckets.specs.Adding.{addEnd, messageStart, TermSays, MessageSays, EntrySays, PartFilled, RowFilled, RowAdded, Addable, RowsAdded, Received, RecordAdded, Blank, Totalled, fourSum, Directed};
+
+pub const CHILDREN_AT: usize = 256;
+
+pub const MESSAGES_AT: usize = 499;
+
+pub const MESSAGE_WIDTH: usize = 7;
+
+// A number that grows evenly with a variable's value: `first` at value 0, and `stride` more at each next one.
+pub struct Run {
+    pub first: usize,
+    pub stride: usize,
+}
+
+// The value of variable `v`, or 0 where there is none.
+pub fn value_at(choice: &[u8], v: usize) -> usize
+    ensures { λ r. ⌜ (r ≡ getD (now (choice .entry)) v 0) × (r < byteEnd) ⌝ }
+{
+    if v < choice.len() {
+        return choice[v] as usize;
+    }
+    0
+}
+
+// Number `i` of the plan, or 0 where there is none.
+pub fn number_at(plan: &[u32], i: usize) -> u64
+    ensures { λ r. ⌜ (r ≡ getD (now (plan .entry)) i 0) × (r < wordEnd) ⌝ }
+{
+    if i < plan.len() {
+        return plan[i] as u64;
+    }
+    0
+}
+
+// The value of variable `u`, times `t`, as `v` runs through its values.
+fn term_of(u: usize, t: usize, v: usize, choice: &[u8]) -> Run
+    requires { ⌜ (t < wordEnd) × (v < length (now choice)) ⌝ }
+    ensures { λ r. ⌜ TermSays u t v (now (choice .entry)) r ⌝ }
+{
+    if u == v {
+        return Run {
+            first: 0,
+            stride: t,
+        };
+    }
+    Run {
+        first: value_at(choice, u) * t,
+        stride: 0,
+    }
+}
+
+// Where the numbers of message `g` start, as `v` runs through its values.
+fn message_run(g: usize, v: usize, choice: &[u8], width: usize, plan: &[u32]) -> Run
+    requires { ⌜ (g < wordEnd) × (width ≤ 8) × (v < length (now choice)) ⌝ }
+    ensures { λ r. ⌜ MessageSays width (now (plan .entry)) g v (now (choice .entry)) r ⌝ }
+{
+    let at = MESSAGES_AT + MESSAGE_WIDTH * g;
+    let start = number_at(plan, at) as usize;
+    let one = number_at(plan, at + 1) as usize;
+    let one_stride = number_at(plan, at + 2) as usize;
+    let two = number_at(plan, at + 3) as usize;
+    let two_stride = number_at(plan, at + 4) as usize;
+    let a = term_of(one, one_stride, v, choice);
+    let b = term_of(two, two_stride, v, choice);
+    Run {
+        first: start + width * (a.first + b.first),
+        stride: width * (a.stride + b.stride),
+    }
+}
+
+// Where the numbers of message `g` at a choice start.
+pub fn message_start(g: usize, choice: &[u8], width: usize, plan: &[u32]) -> usize
+    requires { ⌜ (g < wordEnd) × (width ≤ 8) ⌝ }
+    ensures { λ r. ⌜ (r ≡ messageStart width (now (plan .entry)) g (now (choice .entry))) × (r < addEnd) ⌝ }
+{
+    let at = MESSAGES_AT + MESSAGE_WIDTH * g;
+    let start = number_at(plan, at) as usize;
+    let one = number_at(plan, at + 1) as usize;
+    let one_stride = number_at(plan, at + 2) as usize;
+    let two = number_at(plan, at + 3) as usize;
+    let two_stride = number_at(plan, at + 4) as usize;
+    start + width * (value_at(choice, one) * one_stride + value_at(choice, two) * two_stride)
+}
+
+// Adds eight numbers of the plan, all of which exist, to the row at `at`.
+fn add_inside(start: usize, at: usize, plan: &[u32], rows: &mut [u64])
+    requires { ⌜ (start + 8 ≤ length (now plan)) × (at + 8 ≤ length (now rows)) × ((j : ℕ) → j < 8 → getD (now rows) (at + j) 0 < addEnd) ⌝ }
+    ensures { λ _. ⌜ RowAdded (now (plan .entry)) start at (now (rows .entry)) (now (rows .exit)) ⌝ }
+{
+    let mut j: usize = 0;
+    while j < 8 {
+        rows[at + j] = rows[at + j] + (plan[start + j] as u64);
+        j += 1;
+    }
+}
+
+// The same where some of them lie past the end of the plan and count as 0.
+fn add_partly(start: usize, at: usize, plan: &[u32], rows: &mut [u64])
+    requires { ⌜ (start < addEnd) × (at + 8 ≤ length (now rows)) × ((j : ℕ) → j < 8 → getD (now rows) (at + j) 0 < addEnd) ⌝ }
+    ensures { λ _. ⌜ RowAdded (now (plan .entry)) start at (now (rows .entry)) (now (rows .exit)) ⌝ }
+{
+    let mut j: usize = 0;
+    while j < 8 {
+        rows[at + j] = rows[at + j] + number_at(plan, start + j);
+        j += 1;
+    }
+}
+
+// Adds eight numbers of the plan to the row at `at`. One test for all of them: this is the innermost part of the search.
+fn add_row(start: usize, at: usize, plan: &[u32], rows: &mut [u64])
+    requires { ⌜ (start < addEnd) × (at + 8 ≤ length (now rows)) × ((j : ℕ) → j < 8 → getD (now rows) (at + j) 0 < addEnd) ⌝ }
+    ensures { λ _. ⌜ RowAdded (now (plan .entry)) start at (now (rows .entry)) (now (rows .exit)) ⌝ }
+{
+    if start + 8 <= plan.len() {
+        add_inside(start, at, plan, rows);
+        return;
+    }
+    add_partly(start, at, plan, rows);
+}
+
+// Adds message `g` to the rows of the first `size` values of `v`.
+fn add_message(
+    g: usize,
+    v: usize,
+    size: usize,
+    choice: &[u8],
+    width: usize,
+    plan: &[u32],
+    rows: &mut [u64],
+)
+    requires { ⌜ (g < wordEnd) × (v < length (now choice)) × (size ≤ maxDomain) × (width ≤ 8) × Addable size (now rows) ⌝ }
+    ensures { λ _. ⌜ RowsAdded size (λ a j. messageAt width (now (plan .entry)) (set (now (choice .entry)) v a) j g) (now (rows .entry)) (now (rows .exit)) ⌝ }
+{
+    let r = message_run(g, v, choice, width, plan);
+    let first = r.first;
+    let stride = r.stride;
+    let mut a: usize = 0;
+    while a < size {
+        add_row(first + a * stride, 8 * a, plan, rows);
+        a += 1;
+    }
+}
+
+// Adds the messages in slots `first` to below `last`.
+fn add_received(
+    first: usize,
+    last: usize,
+    v: usize,
+    size: usize,
+    choice: &[u8],
+    width: usize,
+    plan: &[u32],
+    rows: &mut [u64],
+)
+    requires { ⌜ (first ≤ last) × (last ≤ maxMessages) × (looseAt ≤ length (now plan)) × (v < length (now choice)) × (size ≤ maxDomain) × (width ≤ 8) × (64 ≤ length (now rows)) × ((a j : ℕ) → a < size → j < 8 → getD (now rows) (8 * a + j) 0 < directionEnd) ⌝ }
+    ensures { λ _. ⌜ Received width (now (plan .entry)) first last v size (now (choice .entry)) (now (rows .entry)) (now (rows .exit)) ⌝ }
+{
+    let mut i = first;
+    while i < last {
+        let g = plan[CHILDREN_AT + i] as usize;
+        add_message(g, v, size, choice, width, plan, rows);
+        i += 1;
+    }
+}
+
+// Which entry the record at `at` has, as `v` runs through its values.
+fn entry_run(s: &[u8], at: usize, v: usize, sizes: &[u8], choice: &[u8]) -> Run
+    requires { ⌜ Whole (now sizes) (now s) at × All DomainSize (now sizes) × (v < length (now sizes)) × (isChoice (now sizes) (now choice) ≡ true) ⌝ }
+    ensures { λ r. ⌜ EntrySays (now (sizes .entry)) (now (s .entry)) at v (now (choice .entry)) r ⌝ }
+{
+    let a = s[at + 3] as usize;
+    let mut first: usize = 0;
+    let mut stride: usize = 0;
+    let mut k: usize = 0;
+    while k < a {
+        let u = s[at + 4 + k] as usize;
+        let d = sizes[u] as usize;
+        let t = term_of(u, 1, v, choice);
+        first = first * d + t.first;
+        stride = stride * d + t.stride;
+        k += 1;
+    }
+    Run { first, stride }
+}
+
+// Adds the record at `at` to the totals of each value of `v`: four to a value.
+fn add_record(s: &[u8], at: usize, v: usize, sizes: &[u8], choice: &[u8], totals: &mut [u64])
+    requires { ⌜ Whole (now sizes) (now s) at × All DomainSize (now sizes) × (v < length (now sizes)) × (isChoice (now sizes) (now choice) ≡ true) × (32 ≤ length (now totals)) × ((a o : ℕ) → a < getD (now sizes) v 0 → o < 4 → getD (now totals) (4 * a + o) 0 < addEnd) ⌝ }
+    ensures { λ _. ⌜ RecordAdded (now (sizes .entry)) (now (s .entry)) at v (now (choice .entry)) (now (totals .entry)) (now (totals .exit)) ⌝ }
+{
+    let size = sizes[v] as usize;
+    let o = s[at + 2] as usize;
+    let r = entry_run(s, at, v, sizes, choice);
+    let first = r.first;
+    let stride = r.stride;
+    let mut a: usize = 0;
+    while a < size {
+        let place = 4 * a + o;
+        totals[place] = totals[place]
+            + (costs::table_entry(s, at, first + a * stride, sizes) as u64);
+        a += 1;
+    }
+}
+
+// Fills in what the records from number `from` to below `to` cost in each objective, for each value of `v`: four totals to a value.
+fn fill_totals(
+    s: &[u8],
+    sizes: &[u8],
+    from: usize,
+    to: usize,
+    v: usize,
+    choice: &[u8],
+    plan: &[u32],
+    totals: &mut [u64],
+)
+    requires { ⌜ All DomainSize (now sizes) × (from ≤ to) × (to ≤ maxTables) × (to ≤ length (now plan)) × ((i : ℕ) → i < to → Whole (now sizes) (now s) (getD (now plan) i 0)) × (v < length (now sizes)) × (isChoice (now sizes) (now choice) ≡ true) × (32 ≤ length (now totals)) × Blank (now totals) ⌝ }
+    ensures { λ _. ⌜ Totalled (now (sizes .entry)) (now (s .entry)) (now (plan .entry)) from to v (now (choice .entry)) (now (totals .exit)) ⌝ }
+{
+    let mut i = from;
+    while i < to {
+        let at = plan[i] as usize;
+        add_record(s, at, v, sizes, choice, totals);
+        i += 1;
+    }
+}
+
+// The cost, or 0 where objective `o` is not among the first `p`.
+fn counted(o: usize, p: usize, cost: u64) -> u64
+    ensures { λ r. ⌜ r ≡ when (ltb o p) cost ⌝ }
+{
+    if o < p {
+        return cost;
+    }
+    0
+}
+
+// Sum `i` of four costs.
+fn sum_at(i: usize, weights: &[u64], a: u64, b: u64, c: u64, e: u64) -> u64
+    requires { ⌜ (4 * i + 4 ≤ length (now weights)) × All (λ w. w ≤ maxWeight) (now weights) × (a < sumEnd) × (b < sumEnd) × (c < sumEnd) × (e < sumEnd) ⌝ }
+    ensures { λ r. ⌜ r ≡ fourSum (now (weights .entry)) a b c e i ⌝ }
+{
+    let at = 4 * i;
+    weights[at] * a + weights[at + 1] * b + weights[at + 2] * c + weights[at + 3] * e
+}
+
+// Writes the sums of four costs from `at` on.
+fn put_sums(
+    at: usize,
+    sums: usize,
+    weights: &[u64],
+    a: u64,
+    b: u64,
+    c: u64,
+    e: u64,
+    rows: &mut [u64],
+)
+    requires { ⌜ (4 * sums ≤ length (now weights)) × All (λ w. w ≤ maxWeight) (now weights) × (a < sumEnd) × (b < sumEnd) × (c < sumEnd) × (e < sumEnd) × (at + sums ≤ length (now rows)) ⌝ }
+    ensures { λ _. ⌜ PartFilled (fourSum (now (weights .entry)) a b c e) at sums (now (rows .entry)) (now (rows .exit)) ⌝ }
+{
+    let mut i: usize = 0;
+    while i < sums {
+        rows[at + i] = sum_at(i, weights, a, b, c, e);
+        i += 1;
+    }
+}
+
+// Writes the totals of value `a` in every direction to its row, which holds zeros. As numbers and not as an array: so they stay in registers.
+fn put_directions(
+    a: usize,
+    totals: &[u64],
+    p: usize,
+    sums: usize,
+    weights: &[u64],
+    rows: &mut [u64],
+)
+    requires { ⌜ (4 * a + 4 ≤ length (now totals)) × ((o : ℕ) → o < 4 → getD (now totals) (4 * a + o) 0 < sumEnd) × (p ≤ maxObjectives) × (sums ≤ maxSums) × (16 ≤ length (now weights)) × All (λ w. w ≤ maxWeight) (now weights) × (8 * a + 8 ≤ length (now rows)) × ((i : ℕ) → 8 * a ≤ i → getD (now rows) i 0 ≡ 0) ⌝ }
+    ensures { λ _. ⌜ RowFilled (λ j. getD (directionsOf (record { objectives = p; sums = sums; weights = now (weights .entry) }) (take p (take 4 (drop (4 * a) (now (totals .entry)))))) j 0) (8 * a) (now (rows .entry)) (now (rows .exit)) ⌝ }
+{
+    let from = 4 * a;
+    let at = 8 * a;
+    let one = counted(0, p, totals[from]);
+    let two = counted(1, p, totals[from + 1]);
+    let three = counted(2, p, totals[from + 2]);
+    let four = counted(3, p, totals[from + 3]);
+    rows[at] = one;
+    rows[at + 1] = two;
+    rows[at + 2] = three;
+    rows[at + 3] = four;
+    put_sums(at + p, sums, weights, one, two, three, four, rows);
+}
+
+// The totals of each value in every direction, in rows of eight.
+fn put_rows(totals: &[u64], size: usize, d: directions::Directions, rows: &mut [u64])
+    requires { ⌜ Sensible d × (size ≤ maxDomain) × (32 ≤ length (now totals)) × ((a o : ℕ) → a < size → o < 4 → getD (now totals) (4 * a + o) 0 < sumEnd) × (64 ≤ length (now rows)) × Blank (now rows) ⌝ }
+    ensures { λ _. ⌜ Directed d size (now (totals .entry)) (now (rows .exit)) ⌝ }
+{
+    let p = d.objectives;
+    let sums = d.sums;
+    let weights = d.weights;
+    let mut a: usize = 0;
+    while a < size {
+        put_directions(a, totals, p, sums, &weights, rows);
+        a += 1;
+    }
+}
+
+// What the records from number `from` to below `to` and the messages received in slots `first` to below `last` hold together, for each value of the variable `v`
+// and in every direction: rows of eight numbers. The other variables' values are those of `choice`.
+pub fn content(
+    s: &[u8],
+    sizes: &[u8],
+    r: usize,
+    from: usize,
+    to: usize,
+    first: usize,
+    last: usize,
+    v: usize,
+    choice: &[u8],
+    d: directions::Directions,
+    plan: &[u32],
+) -> [u64; 64]
+    requires { ⌜ Planned d r (now sizes) (now s) (now plan) × Ranged r from to first last × (v < length (now sizes)) × (isChoice (now sizes) (now choice) ≡ true) ⌝ }
+    ensures { λ rows. ⌜ Filled d (now (sizes .entry)) (now (s .entry)) (now (plan .entry)) from to first last v (now (choice .entry)) rows ⌝ }
+{
+    let size = sizes[v] as usize;
+    let mut totals = [0u64; 32];
+    fill_totals(s, sizes, from, to, v, choice, plan, &mut totals);
+    let mut rows = [0u64; 64];
+    put_rows(&totals, size, d, &mut rows);
+    let width = d.objectives + d.sums;
+    add_received(first, last, v, size, choice, width, plan, &mut rows);
+    rows
+}
+
+// What the messages from number `from` to below `to` are worth at a choice, in every direction.
+pub fn sent(from: usize, to: usize, choice: &[u8], width: usize, plan: &[u32]) -> [u64; 8]
+    requires { ⌜ (from ≤ to) × (to ≤ maxMessages) × (width ≤ 8) × (looseAt ≤ length (now plan)) ⌝ }
+    ensures { λ t. ⌜ Summed width (now (plan .entry)) from to (now (choice .entry)) t ⌝ }
+{
+    let mut t = [0u64; 8];
+    let mut g = from;
+    while g < to {
+        add_row(message_start(g, choice, width, plan), 0, plan, &mut t);
+        g += 1;
+    }
+    t
+}
