@@ -1,0 +1,8 @@
+-- The laws that the tests' proofs share.
+pub mod Limits
+pub mod Ranges
+pub mod Marking
+pub mod Earlier
+pub mod Lowering
+pub mod PairChoices
+pub mod Parts

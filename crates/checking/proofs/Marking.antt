@@ -1,0 +1,60 @@
+-- Marks: no variable at first, then one more at a time; what reads marked variables reads those that the marks stand for.
+use mathlib.Core.Path.{_≡_, refl, sym, _∙_}
+use mathlib.Core.Logic.{_⊎_, inl, inr, ⊎-elim}
+use mathlib.Core.List.{List}
+use Prim.Native.Nat.{ℕ, zero, suc, _≤_}
+use native.Mathlib.Omega.{arith}
+use lib.Dec.{eqb}
+use lib.ListN.{getD, set, drop, replicate}
+use lib.Seq.{getD-set-other}
+use borrow.Author.Tests.{eqb-true, eqb-false}
+use Rattle.model.specs.Reading.{tableScope}
+use Rattle.model.proofs.Elements.{all-map, all-append}
+use Rattle.model.proofs.Bits.{test}
+use Rattle.buckets.specs.Messages.{childrenOver}
+use Rattle.buckets.specs.Bounds.{placesOver}
+use Rattle.buckets.proofs.Reading.{Reads}
+use Rattle.buckets.proofs.Sums.{placesOver-split, childrenOver-split}
+use Rattle.buckets.specs.Places.{fieldIn}
+use Rattle.checking.specs.declared.Part as DP
+use Rattle.checking.specs.Marks.{Marked, ScopeIn, BucketIn}
+use Rattle.checking.specs.Parts.{PartReads}
+
+pub zero-at : (n v : ℕ) → _≡_ {A = ℕ} (getD (replicate n 0) v 0) 0
+zero-at zero v = refl
+zero-at (suc n) zero = refl
+zero-at (suc n) (suc v) = zero-at n v
+
+pub none-marked : (n v : ℕ) → Marked (replicate n 0) v → ⊥
+none-marked n v h = omega (arith, zero-at n v)
+
+pub mark-cases : (marks : List ℕ) (v w : ℕ) → Marked (set marks v 1) w → (w ≡ v) ⊎ Marked marks w
+mark-cases marks v w h = ⊎-elim (λ t. inl (eqb-true w v t)) (λ t. inr (sym (getD-set-other marks v w 1 0 (eqb-false w v t)) ∙ h)) (test (eqb w v))
+
+-- what reads only variables with the property P reads only those with Q
+module _ (P Q : ℕ → Type 0) (f : (v : ℕ) → P v → Q v) where
+  pub reads-map : (plan : List ℕ) (g : ℕ) → Reads P plan g → Reads Q plan g
+  reads-map plan g h = (⊎-elim (λ e. inl e) (λ p. inr (f _ p)) (h .0), ⊎-elim (λ e. inl e) (λ p. inr (f _ p)) (h .1))
+
+  pub bucket-map : (s plan : List ℕ) (from to first last : ℕ) → BucketIn P s plan from to first last → BucketIn Q s plan from to first last
+  bucket-map s plan from to first last b =
+      record {
+        records = all-map (ScopeIn P s) (ScopeIn Q s) (λ at. all-map P Q f (tableScope (drop at s))) (placesOver plan from to) (b .records);
+        children = all-map (Reads P plan) (Reads Q plan) (λ g. reads-map plan g) (childrenOver plan first last) (b .children);
+      }
+
+-- two parts in a row
+pub bucket-join : (P : ℕ → Type 0) (s plan : List ℕ) (from to to′ first last last′ : ℕ) → from ≤ to → to ≤ to′ → first ≤ last → last ≤ last′ → BucketIn P s plan from to first last → BucketIn P s plan to to′ last last′ → BucketIn P s plan from to′ first last′
+bucket-join P s plan from to to′ first last last′ g h k l b c =
+    record {
+      records = rw (placesOver-split plan from to to′ g h) (all-append (ScopeIn P s) (placesOver plan from to) (placesOver plan to to′) (b .records) (c .records));
+      children = rw (childrenOver-split plan first last last′ k l) (all-append (Reads P plan) (childrenOver plan first last) (childrenOver plan last last′) (b .children) (c .children));
+    }
+
+-- the marks of a part are on its own variable and on those of its message
+pub part-marks : (plan : List ℕ) (p : DP.Part) (one two three : List ℕ) → one ≡ set (replicate 24 0) (p .own) 1 → two ≡ set one (fieldIn plan (p .message) 1) 1 → three ≡ set two (fieldIn plan (p .message) 3) 1 → (w : ℕ) → Marked three w → PartReads plan p w
+part-marks plan p one two three d e f w h =
+    ⊎-elim
+    (λ (q : w ≡ fieldIn plan (p .message) 3). inr (inr q))
+    (λ (m : Marked two w). ⊎-elim (λ (q : w ≡ fieldIn plan (p .message) 1). inr (inl q)) (λ (m : Marked one w). ⊎-elim (λ (q : w ≡ p .own). inl q) (λ (m : Marked (replicate 24 0) w). absurd (none-marked 24 w m)) (mark-cases (replicate 24 0) (p .own) w (rw d at m))) (mark-cases one (fieldIn plan (p .message) 1) w (rw e at m)))
+    (mark-cases two (fieldIn plan (p .message) 3) w (rw f at h))

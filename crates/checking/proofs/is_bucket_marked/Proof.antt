@@ -1,0 +1,27 @@
+-- `checking::is_bucket_marked` meets its contract.
+use mathlib.Core.Bool.{false≢true}
+use native.Mathlib.Omega.{arith}
+use borrow.Author.Tests.{not-false}
+use Rattle.checking.proofs.is_bucket_marked.Statement.{statement}
+use Rattle.checking.proofs.is_bucket_marked.Tie as tie
+
+are-records-marked-requires : tie.Need-are-records-marked-requires
+are-records-marked-requires c κs = (c .before .before .before .pre .0, omega arith, c .before .before .before .pre .2)
+
+returns : tie.Need-returns
+returns c = λ h. absurd (false≢true h)
+
+are-slots-marked-requires : tie.Need-are-slots-marked-requires
+are-slots-marked-requires c κs = omega arith
+
+returns-2 : tie.Need-returns-2
+returns-2 c = λ h. record { records = c .before .before .are-records-marked .ensures (not-false _ (c .before .if1 .left)); children = c .are-slots-marked .ensures h }
+
+pub is-bucket-marked-spec : {M : Type 1} → statement M
+is-bucket-marked-spec =
+    tie.close
+    (tie.spec
+    are-records-marked-requires
+    returns
+    are-slots-marked-requires
+    returns-2)

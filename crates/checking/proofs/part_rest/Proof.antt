@@ -1,0 +1,59 @@
+-- `checking::part_rest` meets its contract. The invariant, `PartSteps`: the first `c` pairs of values are done.
+use mathlib.Core.Path.{refl, sym}
+use Prim.Native.Nat.{_-_}
+use native.Mathlib.Omega.{arith}
+use borrow.Author.Needs.{needs}
+use borrow.Author.Tests.{not-false}
+use Rattle.model.proofs.Bits.{true-false}
+use Rattle.checking.proofs.Parts.{PartSteps, part-start, part-next, part-end}
+use Rattle.checking.proofs.part_rest.Statement.{statement}
+use Rattle.checking.proofs.part_rest.Tie as tie
+
+abbrev Inv-loop : tie.InvT-loop
+Inv-loop s sizes r p d plan rest left₀ c₀ left c = PartSteps d sizes s plan p rest c left
+
+abbrev μ-loop : tie.MeasureT-loop
+μ-loop s sizes r p d plan rest left₀ c₀ left c = 64 - c
+
+loop-holds : tie.Need-loop-holds Inv-loop μ-loop
+loop-holds c = part-start
+
+slice-aggregate-lower-pair : tie.Need-slice-aggregate-lower-pair Inv-loop μ-loop
+slice-aggregate-lower-pair c = sym (c .before .before .loop .inv .rows .long)
+
+lower-pair-requires : tie.Need-lower-pair-requires Inv-loop μ-loop
+lower-pair-requires c κs = let q = c .before .before .before .before .before .before .before .pre in (q .0, q .1, q .2, q .3, omega arith, omega arith, q .4, c .before .before .loop .inv .rows .long)
+
+none-held-requires : tie.Need-none-held-requires Inv-loop μ-loop
+none-held-requires c κs = search needs
+
+returns : tie.Need-returns Inv-loop μ-loop
+returns c = λ h. absurd (true-false h (c .none-held .ensures))
+
+add-c : tie.Need-add-c Inv-loop μ-loop
+add-c c = omega arith
+
+loop-less : tie.Need-loop-less Inv-loop μ-loop
+loop-less c = omega arith
+
+loop-again : tie.Need-loop-again Inv-loop μ-loop
+loop-again c = part-next (c .before .before .before .before .before .loop .inv) (omega arith) _ (c .before .before .lower-pair .kept .1 .1 .1 .1 .1 .1 .1 .1 .1 .0) (c .before .before .lower-pair .ensures .0) (c .before .before .lower-pair .ensures .1 (not-false _ (c .if1 .left)))
+
+returns-2 : tie.Need-returns-2 Inv-loop μ-loop
+returns-2 c = λ _. part-end (c .before .loop .inv) (c .before .before .before .before .before .before .pre .0 .small) (omega arith) _ refl refl refl
+
+pub part-rest-spec : {M : Type 1} → statement M
+part-rest-spec =
+    tie.close
+    (tie.spec
+    Inv-loop
+    μ-loop
+    loop-holds
+    slice-aggregate-lower-pair
+    lower-pair-requires
+    none-held-requires
+    returns
+    add-c
+    loop-less
+    loop-again
+    returns-2)

@@ -1,0 +1,2 @@
+-- What making a plan ensures.
+pub mod Arranged
