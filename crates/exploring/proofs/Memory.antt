@@ -1,0 +1,94 @@
+-- What stays of work memory where only rows of the archive, or only zones, are written; and what a search relies on stays with it.
+use mathlib.Core.Path.{_≡_, refl, sym, ap, ap₂, _∙_, subst}
+use mathlib.Core.List.{List, _∷_, _++_}
+use Prim.Native.Nat.{ℕ, zero, suc, _+_, _-_, _≤_}
+use native.Mathlib.Omega.{arith}
+use lib.ListN.{length, take, drop, length-drop}
+use lib.Seq.{take-all, take-take, drop-drop, take-at, drop-at}
+use Rattle.model.specs.Limits.{maxTables}
+use Rattle.model.specs.Problems.{Problem}
+use Rattle.model.proofs.Points.{point-eq}
+use Rattle.groups.specs.Layout.{sourceAt, listAt, listEnd}
+use Rattle.groups.specs.Groups.{tablesOver}
+use Rattle.groups.proofs.Overwritten.{take-drop}
+use Rattle.rows.specs.Rows.{rowAt, costsIn, pointIn, listIn, Framed}
+use Rattle.suffixes.specs.Gained.{sourceIn}
+use Rattle.directions.specs.declared.Directions as DD
+use Rattle.zones.specs.Zones.{zonesEnd}
+use Rattle.buckets.specs.Content.{Planned}
+use Rattle.buckets.specs.Sound.{Sound}
+use Rattle.exploring.specs.States.{planIn, zonesOf, problemOf, Ready, Still}
+
+pub still-refl : (r : ℕ) (work : List ℕ) → Still r work work
+still-refl r work = record { long = refl; plan = refl; source = refl }
+
+pub still-trans : {r : ℕ} {one two three : List ℕ} → Still r one two → Still r two three → Still r one three
+still-trans f g = record { long = g .long ∙ f .long; plan = g .plan ∙ f .plan; source = g .source ∙ f .source }
+
+-- the problem and what is relied on, of the memory after
+module _ {r : ℕ} {work work′ : List ℕ} (k : Still r work work′) (d : DD.Directions) (room : ℕ) (ceilings ds s : List ℕ) where
+  abbrev problem-over : List ℕ → Problem
+  problem-over places = record { objectives = d .objectives; ceilings = take (d .objectives) ceilings; domains = ds; tables = tablesOver ds s places }
+
+  pub problem-still : problemOf d r ceilings ds s work′ ≡ problemOf d r ceilings ds s work
+  problem-still = ap problem-over (k .source)
+
+  pub ready-still : Ready d r room ceilings ds s work → Ready d r room ceilings ds s work′
+  ready-still h =
+      record {
+        sound = subst (λ (l : List ℕ). Sound d r ds s l (planIn work′)) (sym (k .source)) (subst (λ (l : List ℕ). Sound d r ds s (sourceIn work r) l) (sym (k .plan)) (h .sound));
+        planned = subst (λ (l : List ℕ). Planned d r ds s l) (sym (k .plan)) (h .planned);
+        some-variable = h .some-variable;
+        words = h .words;
+        room-small = h .room-small;
+        long = omega (arith, h .long, k .long);
+      }
+
+-- rows of the archive
+module _ {work work′ : List ℕ} (f : Framed work work′) where
+  front : (k : ℕ) → k ≤ listAt → take k work′ ≡ take k work
+  front k l = sym (take-take k listAt work′ l) ∙ ap (λ (u : List ℕ). take k u) (f .before) ∙ take-take k listAt work l
+
+  pub framed-zones : zonesOf work′ ≡ zonesOf work
+  framed-zones = front zonesEnd (omega arith)
+
+  pub framed-still : (r : ℕ) → r ≤ maxTables → Still r work work′
+  framed-still r l =
+      record {
+        long = f .long;
+        plan = f .behind;
+        source = take-drop r sourceAt work′ ∙ ap (λ (u : List ℕ). drop sourceAt u) (front (sourceAt + r) (omega arith)) ∙ sym (take-drop r sourceAt work);
+      }
+
+-- zones
+module _ (work work′ : List ℕ) (long : length work′ ≡ length work) (behind : drop zonesEnd work′ ≡ drop zonesEnd work) where
+  same-from : (k : ℕ) → zonesEnd ≤ k → drop k work′ ≡ drop k work
+  same-from k l =
+      let e : zonesEnd + (k - zonesEnd) ≡ k = omega arith in
+      rw e at (sym (drop-drop (k - zonesEnd) zonesEnd work′) ∙ ap (λ (u : List ℕ). drop (k - zonesEnd) u) behind ∙ drop-drop (k - zonesEnd) zonesEnd work)
+
+  pub zones-still : (r : ℕ) → Still r work work′
+  zones-still r = record { long = long; plan = same-from listEnd (omega arith); source = ap (λ (u : List ℕ). take r u) (same-from sourceAt (omega arith)) }
+
+  pub zones-costs : (p i : ℕ) → costsIn p work′ i ≡ costsIn p work i
+  zones-costs p i = ap (λ (u : List ℕ). take p u) (same-from (rowAt i) (omega arith))
+
+  same-row : (p n i : ℕ) → pointIn p n work′ i ≡ pointIn p n work i
+  same-row p n i = point-eq (zones-costs p i) (ap (λ (u : List ℕ). take n u) (same-from (rowAt i + 4) (omega arith)))
+
+  pub zones-rows : (p n i c : ℕ) → listIn p n work′ i c ≡ listIn p n work i c
+  unfolding listIn
+  zones-rows p n i zero = refl
+  zones-rows p n i (suc c) = ap₂ _∷_ (same-row p n i) (zones-rows p n (i + 1) c)
+
+-- the plan, as it is lent
+pub lent-plan : (work : List ℕ) → take (length work - listEnd) (drop listEnd work) ≡ planIn work
+lent-plan work = take-all (length work - listEnd) (drop listEnd work) (omega (arith, length-drop listEnd work))
+
+-- memory whose zones were lent and came back as z
+module _ (z rest : List ℕ) (e : length z ≡ zonesEnd) where
+  pub lent-front : take zonesEnd (z ++ rest) ≡ z
+  lent-front = take-at z rest zonesEnd e
+
+  pub lent-behind : drop zonesEnd (z ++ rest) ≡ rest
+  lent-behind = drop-at z rest zonesEnd e

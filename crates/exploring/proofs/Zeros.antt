@@ -1,0 +1,31 @@
+-- The choice of zeros: the first of all.
+use mathlib.Core.Path.{_≡_, refl, ap}
+use mathlib.Core.Bool.{true}
+use mathlib.Core.List.{List, [], _∷_}
+use Prim.Native.Nat.{ℕ, zero, suc, _≤_}
+use native.Mathlib.Omega.{arith}
+use lib.ListN.{length, getD, take, set, replicate}
+use borrow.Author.Tests.{lt-ltb}
+use Rattle.model.specs.Basics.{All}
+use Rattle.model.specs.Problems.{DomainSize}
+use Rattle.model.specs.Costs.{isChoice}
+use Rattle.model.proofs.Bits.{and-both}
+
+pub front-zeros : (n m : ℕ) → n ≤ m → take {A = ℕ} n (replicate m 0) ≡ replicate n 0
+front-zeros zero m l = refl
+front-zeros (suc n) zero l = absurd (omega arith)
+front-zeros (suc n) (suc m) l = ap (_∷_ 0) (front-zeros n m (omega arith))
+
+pub zeros-at : (n v : ℕ) → _≡_ {A = ℕ} (getD (replicate n 0) v 0) 0
+zeros-at zero v = refl
+zeros-at (suc n) zero = refl
+zeros-at (suc n) (suc v) = zeros-at n v
+
+pub zeros-set : (n : ℕ) → set {A = ℕ} (replicate n 0) 0 0 ≡ replicate n 0
+zeros-set zero = refl
+zeros-set (suc n) = refl
+
+pub zeros-choice : (ds : List ℕ) → All DomainSize ds → isChoice ds (replicate (length ds) 0) ≡ true
+unfolding isChoice
+zeros-choice [] h = refl
+zeros-choice (d ∷ ds) h = and-both (lt-ltb 0 d (h .0 .0)) (zeros-choice ds (h .1))

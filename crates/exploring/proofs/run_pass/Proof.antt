@@ -1,0 +1,83 @@
+-- `exploring::run_pass` meets its contract: the pass begins at the empty choice.
+use mathlib.Core.Path.{_≡_}
+use mathlib.Core.List.{List}
+use Prim.Native.Nat.{ℕ, _<_}
+use native.Mathlib.Omega.{arith}
+use lib.ListN.{length, getD, take, replicate, length-drop}
+use denote.Ref.{now}
+use Rattle.model.specs.Limits.{maxVariables, byteEnd}
+use Rattle.groups.specs.Layout.{listEnd}
+use Rattle.exploring.specs.States.{Ready, Still}
+use Rattle.exploring.proofs.Memory.{ready-still, zones-still, lent-plan}
+use Rattle.exploring.proofs.Zeros.{front-zeros}
+use Rattle.exploring.proofs.Passes.{root-standing, root-passed}
+use borrow.Author.Needs.{needs}
+use Rattle.exploring.proofs.run_pass.Statement.{statement}
+use Rattle.exploring.proofs.run_pass.Tie as tie
+
+-- memory once the zones are made, and the plan as it is lent
+module _ (c : tie.After-start-zones) where
+  abbrev begun : tie.Start
+  begun = c .before .before .before .before .before
+
+  abbrev made : List ℕ
+  made = c .start-zones .last .1 .1 .1 .0
+
+  kept : Still (begun .args .r) (now (begun .args .work)) made
+  kept = zones-still (now (begun .args .work)) made (c .start-zones .ensures .0 .long) (c .start-zones .ensures .0 .behind) (begun .args .r)
+
+  ready : Ready (begun .args .d) (begun .args .r) (begun .args .room) (begun .args .ceilings) (now (begun .args .sizes)) (now (begun .args .s)) made
+  ready = ready-still kept (begun .args .d) (begun .args .room) (begun .args .ceilings) (now (begun .args .sizes)) (now (begun .args .s)) (begun .pre .0)
+
+  zeros : take {A = ℕ} (length (now (begun .args .sizes))) (replicate maxVariables 0) ≡ replicate (length (now (begun .args .sizes))) 0
+  zeros = front-zeros (length (now (begun .args .sizes))) maxVariables (ready .planned .variables)
+
+start-zones-requires : tie.Need-start-zones-requires
+start-zones-requires c κs =
+    let h = c .before .before .before .before .pre .0 in
+    (h .planned .sensible, omega (arith, h .long), omega (arith, c .before .before .before .before .pre .1 .few, h .room-small), h .words)
+
+sub-root-bound : tie.Need-sub-root-bound
+sub-root-bound c = search needs
+
+part-root-bound-start : tie.Need-part-root-bound-start
+part-root-bound-start c = search needs
+
+part-root-bound-end : tie.Need-part-root-bound-end
+part-root-bound-end c = search needs
+
+root-bound-requires : tie.Need-root-bound-requires
+root-bound-requires c κs =
+    let z = c .before .before .before .before in
+    let h = ready z in
+    rw (lent-plan (made z)) (h .planned, h .sound .tested, omega (arith, h .long, length-drop listEnd (made z)), h .some-variable)
+
+try-choice-requires : tie.Need-try-choice-requires
+try-choice-requires c κs =
+    let z = c .before .before .before .before .before .before in
+    let s = begun z in
+    let bytes : (at : ℕ) → getD (now (s .args .s)) at 0 < byteEnd = λ at. omega (arith, c .before .before .before .before .before .before .before .before .before .before .shared-slice-known .given at) in
+    let base = rw (lent-plan (made z)) at (c .before .root-bound .ensures) in
+    rw (zeros z) (root-standing (s .pre .0) (s .pre .1) (z .start-zones .ensures .0) (z .start-zones .ensures .1) bytes (c .before .root-bound .result) base)
+
+same-length : tie.Need-same-length
+same-length c = search needs
+
+returns : tie.Need-returns
+returns c =
+    let z = c .before .before .before .before .before .before .before .before .before in
+    let s = begun z in
+    root-passed (s .pre .0) (s .pre .1) (z .start-zones .ensures .0) (z .start-zones .ensures .1) _ (c .before .before .try-choice .result) (rw (zeros z) at (c .before .before .try-choice .ensures))
+
+pub run-pass-spec : {M : Type 1} → statement M
+run-pass-spec =
+    tie.close
+    (tie.spec
+    start-zones-requires
+    sub-root-bound
+    part-root-bound-start
+    part-root-bound-end
+    root-bound-requires
+    try-choice-requires
+    same-length
+    returns)

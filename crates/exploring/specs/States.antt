@@ -1,0 +1,113 @@
+-- What the second form of the search relies on and ensures. Work memory: zones, the places of the problem's records, the archive, and the plan.
+use mathlib.Core.Path.{_≡_}
+use mathlib.Core.Bool.{true, false, not}
+use mathlib.Core.List.{List}
+use Prim.Native.Nat.{ℕ, _+_, _≤_, _<_}
+use lib.Dec.{ltb}
+use lib.ListN.{length, getD, take, drop}
+use Rattle.model.specs.Basics.{All, when}
+use Rattle.model.specs.Limits.{maxPoints}
+use Rattle.model.specs.Problems.{Problem, Word}
+use Rattle.model.specs.Costs.{isChoice}
+use Rattle.model.specs.Frontiers.{Point, Reached}
+use Rattle.model.specs.Archive.{Covered, Archived, Distinct, Follows, Zoned}
+use Rattle.groups.specs.Layout.{listEnd}
+use Rattle.rows.specs.Rows.{listIn}
+use Rattle.suffixes.specs.Gained.{sourceIn, sourceProblem}
+use Rattle.directions.specs.Directions.{directionEnd, widthOf, leadWeights}
+use Rattle.directions.specs.declared.Directions as DD
+use Rattle.zones.specs.Zones.{zonesEnd, cornersIn, Measured}
+use Rattle.buckets.specs.Places.{positionIn, numbersAt}
+use Rattle.buckets.specs.Bounds.{boundAt, Agree}
+use Rattle.buckets.specs.Content.{Planned}
+use Rattle.buckets.specs.Sound.{Sound}
+use Rattle.exploring.specs.declared.Run as DR
+use Rattle.exploring.specs.declared.Explored as DE
+
+-- the plan begins behind the archive, and the zones are the first numbers
+abbrev pub planIn : List ℕ → List ℕ
+planIn work = drop listEnd work
+
+abbrev pub zonesOf : List ℕ → List ℕ
+zonesOf work = take zonesEnd work
+
+abbrev pub archiveIn : DD.Directions → ℕ → List ℕ → DR.Run → List Point
+archiveIn d n work run = listIn (d .objectives) n work 0 (run .points)
+
+-- the problem that is searched
+abbrev pub problemOf : DD.Directions → ℕ → List ℕ → List ℕ → List ℕ → List ℕ → Problem
+problemOf d r ceilings ds s work = sourceProblem (d .objectives) r ceilings ds s work
+
+-- the limit while nothing is left out: no sum is as large
+abbrev pub noLimit : ℕ
+noLimit = 18446744073709551615
+
+-- what does not change while a search runs
+pub record Ready (d : DD.Directions) (r room : ℕ) (ceilings ds s work : List ℕ) : Type 0 where
+  pub sound : Sound d r ds s (sourceIn work r) (planIn work)
+  pub planned : Planned d r ds s (planIn work)
+  pub some-variable : 1 ≤ length ds
+  pub words : All Word ceilings
+  pub room-small : room ≤ maxPoints
+  pub long : listEnd + numbersAt ≤ length work
+
+-- the archive and the zones
+pub record Running (q : Problem) (d : DD.Directions) (room n : ℕ) (work : List ℕ) (run : DR.Run) : Type 0 where
+  pub few : run .points ≤ room + 1
+  pub archived : Archived q (leadWeights d) (archiveIn d n work run) (run .limit)
+  pub distinct : Distinct (archiveIn d n work run)
+  pub measured : Measured d (zonesOf work) (run .zones)
+  pub zoned : Zoned (q .objectives) (q .ceilings) (leadWeights d) (archiveIn d n work run) (run .limit) (cornersIn (d .objectives) (zonesOf work) 0 (run .zones))
+
+-- a partial choice: values at the first k positions, 0 at the others, and its bound in every direction, which does not wrap when more is added
+pub record Partial (d : DD.Directions) (r : ℕ) (ds s plan : List ℕ) (k : ℕ) (x acc : List ℕ) : Type 0 where
+  pub short : k ≤ length ds
+  pub choice : isChoice ds x ≡ true
+  pub unset : (v : ℕ) → v < length ds → k ≤ positionIn plan v → getD x v 0 ≡ 0
+  pub exact : (j : ℕ) → j < widthOf d → getD acc j 0 ≡ boundAt d ds s plan r k x j
+  pub small : (j : ℕ) → j < widthOf d → getD acc j 0 < directionEnd
+
+-- what stays
+pub record Still (r : ℕ) (work work′ : List ℕ) : Type 0 where
+  pub long : length work′ ≡ length work
+  pub plan : planIn work′ ≡ planIn work
+  pub source : sourceIn work′ r ≡ sourceIn work r
+
+-- every consistent choice that a test lets through is covered
+abbrev pub AllCovered : Problem → DD.Directions → (List ℕ → Type 0) → List Point → ℕ → Type 0
+AllCovered q d among archive limit = (y : Point) → Reached q y → among (y .choice) → Covered (leadWeights d) archive limit y
+
+-- what opening a partial choice ensures: the completions are covered, and what was covered stays so
+pub record Opened (q : Problem) (d : DD.Directions) (r room n k : ℕ) (plan x work : List ℕ) (run : DR.Run) (work′ : List ℕ) (run′ : DR.Run) : Type 0 where
+  pub still : Still r work work′
+  pub running : Running q d room n work′ run′
+  pub follows : Follows (leadWeights d) (archiveIn d n work run) (run .limit) (archiveIn d n work′ run′) (run′ .limit)
+  pub covered : AllCovered q d (Agree plan k x) (archiveIn d n work′ run′) (run′ .limit)
+
+-- what opening a partial choice relies on
+pub record Standing (d : DD.Directions) (r room : ℕ) (ceilings ds s work : List ℕ) (run : DR.Run) (k : ℕ) (x acc : List ℕ) : Type 0 where
+  pub ready : Ready d r room ceilings ds s work
+  pub running : Running (problemOf d r ceilings ds s work) d room (length ds) work run
+  pub partial : Partial d r ds s (planIn work) k x acc
+
+abbrev pub OpenedFrom : DD.Directions → ℕ → ℕ → List ℕ → List ℕ → List ℕ → ℕ → List ℕ → List ℕ → DR.Run → List ℕ → DR.Run → Type 0
+OpenedFrom d r room ceilings ds s k x work run work′ run′ = Opened (problemOf d r ceilings ds s work) d r room (length ds) k (planIn work) x work run work′ run′
+
+-- between passes: an archive of so many points; the limit that it had is of no more interest, so that it is stated with none
+pub record Between (q : Problem) (d : DD.Directions) (room n : ℕ) (work : List ℕ) (points : ℕ) : Type 0 where
+  pub few : points ≤ room + 1
+  pub archived : Archived q (leadWeights d) (listIn (d .objectives) n work 0 points) noLimit
+  pub distinct : Distinct (listIn (d .objectives) n work 0 points)
+
+-- after a pass: every consistent choice is covered
+pub record Passed (q : Problem) (d : DD.Directions) (r room n : ℕ) (work work′ : List ℕ) (run′ : DR.Run) : Type 0 where
+  pub still : Still r work work′
+  pub running : Running q d room n work′ run′
+  pub covered : (y : Point) → Reached q y → Covered (leadWeights d) (archiveIn d n work′ run′) (run′ .limit) y
+
+-- the list fs is in work memory, or it is longer than the room; or the search was given up
+pub record ExploredSays (p n : ℕ) (fs : List Point) (room r : ℕ) (work work′ : List ℕ) (e : DE.Explored) : Type 0 where
+  pub full : e .decided ≡ true → e .full ≡ ltb room (length fs)
+  pub count : e .decided ≡ true → e .count ≡ when (not (e .full)) (length fs)
+  pub list : e .decided ≡ true → e .full ≡ false → listIn p n work′ 0 (e .count) ≡ fs
+  pub still : Still r work work′
