@@ -83,8 +83,8 @@ extern "C" {
  * choices do for every problem. Room 0 is allowed. It suffices where no choice is allowed: such a problem is accepted,
  * with 0 points.
  *
- * work is memory for the search: at least FRONTIER_LEAST_WORK numbers, whatever the problem. More is of no use, but
- * all of it is cleared. Nothing in the answer depends on what the three buffers held before.
+ * work is memory for the search: at least FRONTIER_LEAST_WORK numbers, whatever the problem. With more the search may be
+ * quicker; all of it is cleared. Nothing in the answer depends on what the three buffers held before.
  *
  * The number of refusal is the result: 0 for none, 1 to 11 for the problem, then FRONTIER_WORK if work is too short,
  * then FRONTIER_FULL if the frontier has more points than room. *place becomes the place of the refusal, and 0 without
@@ -101,6 +101,11 @@ extern "C" {
  * be interrupted. A program with a time limit runs it in a process of its own. */
 uint8_t frontier_solve(const uint8_t *problem, size_t problem_len, uint32_t *costs, size_t costs_len, uint8_t *choices,
                        size_t choices_len, uint32_t *work, size_t work_len, uint32_t *place, uint32_t *count);
+
+/* The same answer by the first form of the search, which needs much longer for most problems: for measurements. */
+uint8_t frontier_solve_by_passes(const uint8_t *problem, size_t problem_len, uint32_t *costs, size_t costs_len,
+                                 uint8_t *choices, size_t choices_len, uint32_t *work, size_t work_len, uint32_t *place,
+                                 uint32_t *count);
 
 /* Lists the frontier of a problem that falls into two halves, into the buffers that it is lent: the points that
  * frontier_solve lists, by way of the halves' own frontiers.

@@ -8,7 +8,7 @@ use lib.Dec.{ltb}
 use lib.ListN.{length, getD, take, replicate}
 use borrow.Author.Tests.{ltb-false, eq-eqb}
 use Rattle.model.specs.Basics.{All, pick}
-use Rattle.model.specs.Limits.{maxPoints, maxObjectives, maxVariables}
+use Rattle.model.specs.Limits.{maxPoints, maxObjectives, maxVariables, workNeed}
 use Rattle.model.specs.Refusals.{full, verdict, accepted, first}
 use Rattle.model.specs.Encoding.{Byte}
 use Rattle.model.specs.Problems.{Problem}
@@ -55,10 +55,10 @@ module _ (s : List ℕ) (r : DG.Reading) (a : AcceptedReading s r) (ss w : List 
   abbrev searched : Problem
   searched = problemAt p (r .head .ceilings) (take n (r .sizes)) s (6 + 4 * p + 3 * n) (r .head .tables)
 
-  pub cut-asked : ((i : ℕ) → getD s i 0 < 256) → (room : ℕ) → room ≤ maxPoints → Accepted p (r .head .tables) (6 + 4 * p + 3 * n) room (r .head .ceilings) (take n (r .sizes)) s w × (sidesOk searched ss ≡ true) × (uncrossed ss (searched .tables) ≡ true)
+  pub cut-asked : ((i : ℕ) → getD s i 0 < 256) → (room : ℕ) → room ≤ maxPoints → Accepted p (r .head .tables) (6 + 4 * p + 3 * n) room (r .head .ceilings) (take n (r .sizes)) s w × (sidesOk searched ss ≡ true) × (uncrossed ss (searched .tables) ≡ true) × (workNeed ≤ length w)
   cut-asked bytes room small =
       let free = cut-open s ss (length w) none in
-      (asked s r a bytes room w small (free .1), subst (λ (q : Problem). sidesOk q ss ≡ true) (sym (same-problem s r a)) (free .2), subst (λ (q : Problem). uncrossed ss (q .tables) ≡ true) (sym (same-problem s r a)) (free .3))
+      (asked s r a bytes room w small (free .1), subst (λ (q : Problem). sidesOk q ss ≡ true) (sym (same-problem s r a)) (free .2), subst (λ (q : Problem). uncrossed ss (q .tables) ≡ true) (sym (same-problem s r a)) (free .3), free .1)
 
   pub cut-found : (room : ℕ) (w1 : List ℕ) (l : DL.Lists) → CutFound searched ss room w w1 l → CutFound (problemOf s) ss room w w1 l
   cut-found room w1 l says = subst (λ (q : Problem). CutFound q ss room w w1 l) (same-problem s r a) says

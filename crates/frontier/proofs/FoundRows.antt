@@ -15,8 +15,8 @@ use Rattle.model.specs.Frontiers.{frontier}
 use Rattle.rows.specs.Rows.{listIn, RowsHold}
 use Rattle.problem.specs.declared.Reading as DG
 use Rattle.problem.proofs.Accepted.{AcceptedReading}
-use Rattle.listing.specs.declared.Found as DF
-use Rattle.listing.specs.Says.{FoundFor}
+use Rattle.passes.specs.declared.Found as DF
+use Rattle.passes.specs.Says.{FoundFor}
 use Rattle.frontier.proofs.SolveSteps.{objectives-are, variables-are, list-bytes}
 
 module _ (s : List ℕ) (r : DG.Reading) (a : AcceptedReading s r) (room : ℕ) (small : room ≤ maxPoints) (w w1 : List ℕ) (enough : workNeed ≤ length w) (f : DF.Found) (says : FoundFor (problemOf s) room w w1 f) where

@@ -18,8 +18,8 @@ use Rattle.rows.specs.Rows.{listIn, recordOf, recordsOf, RowsHold}
 use Rattle.rows.proofs.RowParts.{rows-length}
 use Rattle.problem.specs.declared.Reading as DG
 use Rattle.problem.proofs.Accepted.{AcceptedReading}
-use Rattle.listing.specs.declared.Found as DF
-use Rattle.listing.specs.Says.{FoundFor}
+use Rattle.passes.specs.declared.Found as DF
+use Rattle.passes.specs.Says.{FoundFor}
 use Rattle.frontier.specs.declared.Answer as DA
 use Rattle.frontier.specs.declared.Listed as DI
 use Rattle.frontier.specs.Says.{unlisted, answerOf, listVerdict, ListedSays, asPoint, asPoints, ListSays, ListExports}

@@ -17,8 +17,8 @@ use Rattle.groups.specs.Layout.{listEnd}
 use Rattle.rows.specs.Rows.{listIn}
 use Rattle.problem.specs.declared.Reading as DG
 use Rattle.problem.proofs.Accepted.{AcceptedReading}
-use Rattle.listing.specs.declared.Found as DF
-use Rattle.listing.specs.Says.{FoundFor}
+use Rattle.passes.specs.declared.Found as DF
+use Rattle.passes.specs.Says.{FoundFor}
 use Rattle.frontier.specs.Says.{SolveSays, refusal}
 use Rattle.frontier.proofs.ListVerdicts.{full-verdict, list-verdict}
 use Rattle.frontier.proofs.SolveAnswers.{listed, full-solve, list-solve}

@@ -22,8 +22,9 @@ use Rattle.model.proofs.Words.{length-wordsIn, words-below}
 use Rattle.model.proofs.Frontier.{frontier-best}
 use Rattle.problem.specs.declared.Reading as DG
 use Rattle.problem.proofs.Accepted.{AcceptedReading}
-use Rattle.listing.specs.declared.Found as DF
-use Rattle.listing.specs.Says.{problemAt, Accepted, FoundFor}
+use Rattle.passes.specs.declared.Found as DF
+use Rattle.listing.specs.Says.{problemAt, Accepted}
+use Rattle.passes.specs.Says.{FoundFor}
 
 -- elements one by one
 all-from : (P : ℕ → Type 0) (xs : List ℕ) → ((i : ℕ) → P (getD xs i 0)) → All P xs
@@ -89,7 +90,7 @@ module _ (s : List ℕ) (r : DG.Reading) (a : AcceptedReading s r) where
         bytes = a .short;
         words = rw (a .ceilings) (all-append Word (wordsIn (headObjectives s) (drop 6 s)) (replicate (maxObjectives - length (wordsIn (headObjectives s) (drop 6 s))) 0) (words-below (headObjectives s) (drop 6 s) (all-drop Byte 6 s (all-from Byte s bytes))) (all-zeros (maxObjectives - length (wordsIn (headObjectives s) (drop 6 s)))));
         room-small = small;
-        memory = enough;
+        memory = omega arith;
       }
 
   -- the choices of the list are bytes

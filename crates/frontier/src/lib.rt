@@ -8,7 +8,7 @@ ghost use Rattle.model.specs.Limits.{maxPoints, workNeed};
 ghost use Rattle.model.specs.Reading.{problemOf};
 ghost use Rattle.model.specs.Calls.{solveOutcome, listOutcome, cutOutcome};
 ghost use Rattle.problem.specs.Says.{RefusalSays, ReadSays};
-ghost use Rattle.listing.specs.Says.{FoundFor};
+ghost use Rattle.passes.specs.Says.{FoundFor};
 ghost use Rattle.merge.specs.Says.{CutFound};
 ghost use Rattle.frontier.specs.Says.{refusal, unlisted, answerOf, asPoints, cutRefusal, uncut, SolveSays, SolveExports, ListedSays, ListSays, ListExports, CutSays, CutExports, BoundSays, BoundExports};
 
@@ -39,8 +39,14 @@ fn refused(number: u8, place: u32) -> Answer
     }
 }
 
-// The frontier list of a problem that was read, in work memory.
-fn find_rows(problem: &[u8], g: problem::Reading, room: usize, work: &mut [u32]) -> listing::Found
+// The frontier list of a problem that was read, in work memory; only by the first form of the search where that is asked for.
+fn find_rows(
+    problem: &[u8],
+    g: problem::Reading,
+    room: usize,
+    by_passes: bool,
+    work: &mut [u32],
+) -> passes::Found
     requires { ⌜ ReadSays (now problem) g × (g .number ≡ 0) × (room ≤ maxPoints) × (workNeed ≤ length (now work)) ⌝ }
     ensures { λ f. ⌜ FoundFor (problemOf (now (problem .entry))) room (now (work .entry)) (now (work .exit)) f ⌝ }
 {
@@ -58,16 +64,18 @@ fn find_rows(problem: &[u8], g: problem::Reading, room: usize, work: &mut [u32])
         p,
         ceilings,
         room,
+        by_passes,
         work,
     )
 }
 
 // The frontier list in the flat buffers: costs, then choices, of one point after another.
-pub fn solve_problem(
+fn solve_with(
     problem: &[u8],
     costs: &mut [u32],
     choices: &mut [u8],
     work: &mut [u32],
+    by_passes: bool,
 ) -> Answer
     ensures { λ r. ⌜ SolveSays (solveOutcome (now (problem .entry)) (now (costs .entry)) (now (choices .entry)) (now (work .entry))) (now (costs .exit)) (now (choices .exit)) (now (work .exit)) r ⌝ }
 {
@@ -82,7 +90,7 @@ pub fn solve_problem(
     let n = head.variables as usize;
     let p = head.objectives as usize;
     let room = rows::room_of(costs.len(), choices.len(), p, n);
-    let found = find_rows(problem, g, room, work);
+    let found = find_rows(problem, g, room, by_passes, work);
     if found.full {
         rows::clear(work);
         return refused(15, 0);
@@ -96,6 +104,30 @@ pub fn solve_problem(
         place: 0,
         count: count as u32,
     }
+}
+
+// The plain call.
+pub fn solve_problem(
+    problem: &[u8],
+    costs: &mut [u32],
+    choices: &mut [u8],
+    work: &mut [u32],
+) -> Answer
+    ensures { λ r. ⌜ SolveSays (solveOutcome (now (problem .entry)) (now (costs .entry)) (now (choices .entry)) (now (work .entry))) (now (costs .exit)) (now (choices .exit)) (now (work .exit)) r ⌝ }
+{
+    solve_with(problem, costs, choices, work, false)
+}
+
+// The plain call by the first form of the search alone: the same answer, later. Benchmarks compare with it.
+pub fn solve_by_passes(
+    problem: &[u8],
+    costs: &mut [u32],
+    choices: &mut [u8],
+    work: &mut [u32],
+) -> Answer
+    ensures { λ r. ⌜ SolveSays (solveOutcome (now (problem .entry)) (now (costs .entry)) (now (choices .entry)) (now (work .entry))) (now (costs .exit)) (now (choices .exit)) (now (work .exit)) r ⌝ }
+{
+    solve_with(problem, costs, choices, work, true)
 }
 
 // An answer for C: the number is the result, place and count go through references.
@@ -119,6 +151,21 @@ pub extern "C" fn frontier_solve(
     ensures { λ r. ⌜ SolveExports (solveOutcome (now (problem .entry)) (now (costs .entry)) (now (choices .entry)) (now (work .entry))) (now (costs .exit)) (now (choices .exit)) (now (work .exit)) r (now (place .exit)) (now (count .exit)) ⌝ }
 {
     let answer = solve_problem(problem, costs, choices, work);
+    tell(answer, place, count)
+}
+
+#[no_mangle]
+pub extern "C" fn frontier_solve_by_passes(
+    problem: &[u8],
+    costs: &mut [u32],
+    choices: &mut [u8],
+    work: &mut [u32],
+    place: &mut u32,
+    count: &mut u32,
+) -> u8
+    ensures { λ r. ⌜ SolveExports (solveOutcome (now (problem .entry)) (now (costs .entry)) (now (choices .entry)) (now (work .entry))) (now (costs .exit)) (now (choices .exit)) (now (work .exit)) r (now (place .exit)) (now (count .exit)) ⌝ }
+{
+    let answer = solve_by_passes(problem, costs, choices, work);
     tell(answer, place, count)
 }
 
@@ -154,7 +201,7 @@ fn list_rows(problem: &[u8], room: usize, work: &mut [u32]) -> Listed
     if work.len() < LEAST_WORK {
         return not_listed(12, 0);
     }
-    let found = find_rows(problem, g, rows::room_for(room), work);
+    let found = find_rows(problem, g, rows::room_for(room), false, work);
     if found.full {
         rows::clear(work);
         return not_listed(15, 0);

@@ -12,18 +12,19 @@ use Rattle.model.specs.Frontiers.{frontier}
 use Rattle.model.specs.Views.{narrowed, within, kept, view}
 use Rattle.model.specs.Calls.{over as filled}
 use Rattle.problem.specs.Records.{Whole}
-use Rattle.groups.specs.Layout.{recordsAt, sourceAt, listEnd}
+use Rattle.groups.specs.Layout.{recordsAt, sourceAt}
 use Rattle.groups.specs.Groups.{tablesOver, placesIn}
-use Rattle.groups.proofs.Overwritten.{over, over-length, over-behind, over-here}
+use Rattle.groups.proofs.Overwritten.{over, over-length, over-here}
 use Rattle.views.specs.Wanted.{wantedTable, keptPlaces}
 use Rattle.views.proofs.Narrowing.{narrowed-length, narrowed-small}
 use Rattle.views.proofs.KeptPlaces.{kept-count, kept-whole, kept-tables}
 use Rattle.views.proofs.KeptTables.{wanted-view}
 use Rattle.suffixes.specs.Gained.{sourceIn, sourceProblem, Source}
-use Rattle.listing.specs.Says.{problemAt, Accepted, FoundSays}
-use Rattle.listing.specs.declared.Found as DF
-use Rattle.listing.proofs.Since.{says-since}
-use Rattle.listing.proofs.PlacesKept.{places-count, places-whole, places-tables, places-owners, behindAt, written, written-places, written-length, written-behind}
+use Rattle.listing.specs.Says.{problemAt, Accepted}
+use Rattle.passes.specs.Says.{FoundSays}
+use Rattle.passes.specs.declared.Found as DF
+use Rattle.passes.proofs.Since.{says-since}
+use Rattle.listing.proofs.PlacesKept.{places-count, places-whole, places-tables, places-owners, behindAt, written, written-places, written-length}
 
 -- the side's records among some
 abbrev pub onSide : ℕ → List ℕ → List ℕ → List ℕ → List ℕ
@@ -79,11 +80,6 @@ module _ (p r at side : ℕ) (ceilings ds ss s work : List ℕ) (a : Accepted p 
       after-length : length after ≡ length work
       after-length = rw is (over-length before sourceAt places (sourceAt + count) ends fits ∙ before-length)
 
-      behind : drop listEnd after ≡ drop listEnd work
-      behind =
-          rw is (over-behind before sourceAt places (sourceAt + count) ends fits listEnd (omega (arith, few, a .tables)))
-          ∙ written-behind r at ds s work recordsAt inside all says listEnd (omega (arith, a .tables))
-
       module _ (wide : List ℕ) (same-ceilings : wide ≡ ceilings) (narrow : List ℕ) (sizes : narrow ≡ narrowed side ss ds) where
         narrow-length : length narrow ≡ length ds
         narrow-length = rw sizes (narrowed-length side ss ds same)
@@ -107,4 +103,4 @@ module _ (p r at side : ℕ) (ceilings ds ss s work : List ℕ) (a : Accepted p 
         pub side-says : (work′ : List ℕ) (f : DF.Found) → FoundSays p (length narrow) (frontier (sourceProblem p count wide narrow s after)) maxPoints after work′ f → FoundSays p (length ds) (frontier (view side (problemAt p ceilings ds s at r) ss)) maxPoints work work′ f
         side-says work′ f h =
             subst (λ (n : ℕ). FoundSays p n (frontier (view side (problemAt p ceilings ds s at r) ss)) maxPoints work work′ f) narrow-length
-            (says-since after-length behind (ap frontier side-problem) h)
+            (says-since after-length (ap frontier side-problem) h)

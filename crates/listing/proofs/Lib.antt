@@ -1,8 +1,5 @@
 -- The laws that the functions' proofs share.
-pub mod Kept
-pub mod Made
-pub mod Passing
-pub mod Since
-pub mod Sourced
 pub mod PlacesKept
 pub mod HalfKept
+pub mod PlanKept
+pub mod Forms

@@ -11,13 +11,14 @@ use Rattle.model.specs.Frontiers.{frontier}
 use Rattle.model.specs.Reading.{tableLength, tableOf, tablesAt, placesAt}
 use Rattle.model.specs.Calls.{over as filled}
 use Rattle.problem.specs.Records.{Whole, AllWhole}
-use Rattle.groups.specs.Layout.{sourceAt, listEnd}
+use Rattle.groups.specs.Layout.{sourceAt}
 use Rattle.groups.specs.Groups.{tablesOver}
-use Rattle.groups.proofs.Overwritten.{over, over-length, over-behind, over-here}
+use Rattle.groups.proofs.Overwritten.{over, over-length, over-here}
 use Rattle.suffixes.specs.Gained.{sourceProblem, Source}
-use Rattle.listing.specs.Says.{problemAt, Accepted, FoundSays}
-use Rattle.listing.specs.declared.Found as DF
-use Rattle.listing.proofs.Since.{says-since}
+use Rattle.listing.specs.Says.{problemAt, Accepted}
+use Rattle.passes.specs.Says.{FoundSays}
+use Rattle.passes.specs.declared.Found as DF
+use Rattle.passes.proofs.Since.{says-since}
 
 module _ (ds s : List ℕ) where
   pub places-count : (r at : ℕ) → length (placesAt r ds s at) ≡ r
@@ -68,9 +69,6 @@ module _ (r at : ℕ) (ds s work : List ℕ) (from : ℕ) (inside : from + r ≤
   pub written-length : length (written work from kept) ≡ length work
   written-length = rw written-over (over-length work from places (from + r) ends inside)
 
-  pub written-behind : (k : ℕ) → from + r ≤ k → drop k (written work from kept) ≡ drop k work
-  written-behind k h = rw written-over (over-behind work from places (from + r) ends inside k h)
-
 -- they are kept as the problem's records
 module _ (p r at room : ℕ) (ceilings ds s work : List ℕ) (a : Accepted p r at room ceilings ds s work) (kept : List ℕ) (says : kept ≡ filled (placesAt r ds s at) (behindAt work sourceAt)) (wide : List ℕ) (same : wide ≡ ceilings) where
   inside : sourceAt + r ≤ length work
@@ -94,4 +92,4 @@ module _ (p r at room : ℕ) (ceilings ds s work : List ℕ) (a : Accepted p r a
   pub kept-says : (work′ : List ℕ) (f : DF.Found) → FoundSays p (length ds) (frontier (sourceProblem p r wide ds s after)) room after work′ f → FoundSays p (length ds) (frontier (problemAt p ceilings ds s at r)) room work work′ f
   kept-says work′ f =
       let q : sourceProblem p r wide ds s after ≡ problemAt p ceilings ds s at r = rw (same, written-places r at ds s work sourceAt inside kept says, places-tables ds s r at) in
-      says-since (written-length r at ds s work sourceAt inside kept says) (written-behind r at ds s work sourceAt inside kept says listEnd (omega (arith, a .tables))) (ap frontier q)
+      says-since (written-length r at ds s work sourceAt inside kept says) (ap frontier q)

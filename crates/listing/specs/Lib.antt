@@ -1,2 +1,2 @@
--- What finding the list ensures.
+-- What finding the list relies on.
 pub mod Says

@@ -1,19 +1,24 @@
--- What finding a list ensures: it is in work memory, or it is longer than the room.
+-- What finding the list of a problem relies on and ensures.
 use mathlib.Core.Path.{_≡_}
-use mathlib.Core.Bool.{false, not}
+use mathlib.Core.Bool.{true, false, not}
 use mathlib.Core.List.{List}
 use Prim.Native.Nat.{ℕ, _≤_}
 use lib.Dec.{ltb}
-use lib.ListN.{length, take, drop}
+use lib.ListN.{length, take}
 use Rattle.model.specs.Basics.{All, when}
-use Rattle.model.specs.Limits.{maxBytes, maxObjectives, maxTables, maxVariables, maxPoints, workNeed}
+use Rattle.model.specs.Limits.{maxBytes, maxObjectives, maxTables, maxVariables, maxPoints}
 use Rattle.model.specs.Problems.{Problem, Word, DomainSize}
 use Rattle.model.specs.Reading.{tablesAt}
-use Rattle.model.specs.Frontiers.{Point, frontier}
-use Rattle.problem.specs.Records.{AllWhole}
-use Rattle.groups.specs.Layout.{listEnd}
+use Rattle.model.specs.Frontiers.{Point}
+use Rattle.problem.specs.Records.{Whole, AllWhole}
+use Rattle.groups.specs.Layout.{searchEnd}
 use Rattle.rows.specs.Rows.{listIn}
-use Rattle.listing.specs.declared.Found as DF
+use Rattle.suffixes.specs.Gained.{sourceIn}
+use Rattle.directions.specs.declared.Directions as DD
+use Rattle.buckets.specs.Content.{Planned}
+use Rattle.buckets.specs.Sound.{Sound}
+use Rattle.exploring.specs.States.{planIn}
+use Rattle.exploring.specs.declared.Explored as DE
 
 -- the problem of r accepted records from `at` on
 abbrev pub problemAt : ℕ → List ℕ → List ℕ → List ℕ → ℕ → ℕ → Problem
@@ -29,16 +34,28 @@ pub record Accepted (p r at room : ℕ) (ceilings ds s work : List ℕ) : Type 0
   pub bytes : length s ≤ maxBytes
   pub words : All Word ceilings
   pub room-small : room ≤ maxPoints
-  pub memory : workNeed ≤ length work
+  pub memory : searchEnd ≤ length work
 
--- the list fs is in work memory, or it is longer than the room; what stands behind the list stays
-pub record FoundSays (p n : ℕ) (fs : List Point) (room : ℕ) (work work′ : List ℕ) (f : DF.Found) : Type 0 where
-  pub full : f .full ≡ ltb room (length fs)
-  pub count : f .count ≡ when (not (f .full)) (length fs)
-  pub list : f .full ≡ false → listIn p n work′ 0 (f .count) ≡ fs
+-- r accepted records in work memory, for a plan
+pub record Plannable (r : ℕ) (ds s work : List ℕ) : Type 0 where
+  pub whole : All (Whole ds s) (sourceIn work r)
+  pub few : r ≤ maxTables
+  pub small : All DomainSize ds
+  pub variables : length ds ≤ maxVariables
+  pub long : searchEnd ≤ length work
+
+-- what stays while a plan is made and searched: the problem's records
+pub record Kept (r : ℕ) (work work′ : List ℕ) : Type 0 where
   pub long : length work′ ≡ length work
-  pub behind : drop listEnd work′ ≡ drop listEnd work
+  pub source : sourceIn work′ r ≡ sourceIn work r
 
--- of a problem's frontier list
-abbrev pub FoundFor : Problem → ℕ → List ℕ → List ℕ → DF.Found → Type 0
-FoundFor q room work work′ f = FoundSays (q .objectives) (length (q .domains)) (frontier q) room work work′ f
+-- a plan is made, and it passed the test or not
+pub record PlanSays (d : DD.Directions) (r : ℕ) (ds s work work′ : List ℕ) : Type 0 where
+  pub planned : Planned d r ds s (planIn work′)
+  pub sound : Sound d r ds s (sourceIn work′ r) (planIn work′)
+
+-- the second form found the list fs, or that it is longer than the room; or it gave up
+pub record SecondSays (p n : ℕ) (fs : List Point) (room : ℕ) (work′ : List ℕ) (e : DE.Explored) : Type 0 where
+  pub full : e .decided ≡ true → e .full ≡ ltb room (length fs)
+  pub count : e .decided ≡ true → e .count ≡ when (not (e .full)) (length fs)
+  pub list : e .decided ≡ true → e .full ≡ false → listIn p n work′ 0 (e .count) ≡ fs

@@ -1,83 +1,18 @@
-// Finds a frontier list: the records are placed and grouped in work memory, and each pass adds the next point.
+// Finds a frontier list, of a problem or of a half: its records are placed in work memory and searched.
 ghost use mathlib.Core.Path.{_≡_};
+ghost use mathlib.Core.Bool.{true, false};
 ghost use Prim.Native.Nat.{_≤_};
-ghost use lib.ListN.{length, take};
-ghost use Rattle.model.specs.Basics.{All};
+ghost use lib.ListN.{length};
 ghost use Rattle.model.specs.Limits.{maxPoints};
-ghost use Rattle.model.specs.Problems.{Word};
 ghost use Rattle.model.specs.Frontiers.{frontier};
-ghost use Rattle.model.specs.Suffixes.{Gains};
 ghost use Rattle.model.specs.Views.{view};
-ghost use Rattle.search.specs.States.{problemIn, gainsIn, Setting, Stands};
 ghost use Rattle.suffixes.specs.Gained.{Source, sourceProblem};
-ghost use Rattle.listing.specs.Says.{problemAt, Accepted, FoundSays};
+ghost use Rattle.passes.specs.Says.{FoundSays};
+ghost use Rattle.directions.specs.Directions.{Sensible};
+ghost use Rattle.listing.specs.Says.{problemAt, Accepted, Plannable, Kept, PlanSays, SecondSays};
 
-// Whether the list is longer than the room, and else how many points it has.
-pub struct Found {
-    pub full: bool,
-    pub count: usize,
-}
-
-// Passes until no point is left or the room is full.
-pub fn find_points(
-    root: search::Partial,
-    s: &[u8],
-    sizes: &[u8],
-    r: usize,
-    p: usize,
-    ceilings: [u64; 4],
-    room: usize,
-    work: &mut [u32],
-) -> Found
-    requires { ⌜ Setting p r 0 (now sizes) (now s) (now work) × Stands r (now sizes) (now s) (now work) root × (root .len ≡ 0) × All Word (take p ceilings) × (room ≤ maxPoints) × Gains (problemIn p r ceilings (now sizes) (now s) (now work)) (gainsIn p (now work)) ⌝ }
-    ensures { λ f. ⌜ FoundSays p (length (now (sizes .entry))) (frontier (problemIn p r ceilings (now (sizes .entry)) (now (s .entry)) (now (work .entry)))) room (now (work .entry)) (now (work .exit)) f ⌝ }
-{
-    let mut k: usize = 0;
-    while k < room {
-        let best = search::next_point(root, s, sizes, work, r, k, p, ceilings);
-        if !best.found {
-            return Found {
-                full: false,
-                count: k,
-            };
-        }
-        let costs = best.costs;
-        let choice = best.choice;
-        rows::store_point(costs, choice, p, k, work);
-        k += 1;
-    }
-    let last = search::next_point(root, s, sizes, work, r, k, p, ceilings);
-    if last.found {
-        return Found {
-            full: true,
-            count: 0,
-        };
-    }
-    Found {
-        full: false,
-        count: k,
-    }
-}
-
-// The frontier list of `r` records whose places stand in work memory where a problem's records are.
-pub fn find_source(
-    s: &[u8],
-    sizes: &[u8],
-    r: usize,
-    p: usize,
-    ceilings: [u64; 4],
-    room: usize,
-    work: &mut [u32],
-) -> Found
-    requires { ⌜ Source p r ceilings (now sizes) (now s) (now work) × (room ≤ maxPoints) ⌝ }
-    ensures { λ f. ⌜ FoundSays p (length (now (sizes .entry))) (frontier (sourceProblem p r ceilings (now (sizes .entry)) (now (s .entry)) (now (work .entry)))) room (now (work .entry)) (now (work .exit)) f ⌝ }
-{
-    suffixes::find_gains(s, sizes, r, p, ceilings, work);
-    groups::copy_numbers(groups::SOURCE_AT, groups::RECORDS_AT, r, work);
-    groups::group_records(s, sizes, r, work);
-    let root = search::root_of(s, sizes, r, work);
-    find_points(root, s, sizes, r, p, ceilings, room, work)
-}
+// A search may change all of work memory up to here.
+pub const SEARCH_END: usize = 6361;
 
 // The ceilings in eight bytes each, as the sums are.
 pub fn widened(ceilings: [u32; 4]) -> [u64; 4]
@@ -91,7 +26,93 @@ pub fn widened(ceilings: [u32; 4]) -> [u64; 4]
     ]
 }
 
-// The frontier list of `r` accepted records from `at` on, in work memory.
+// The plan stands behind the archive's rows.
+const PLAN_AT: usize = 3225;
+
+// Plans the search of the `r` records whose places stand where a problem's records are, and answers whether the plan may be relied on.
+fn plan_source(
+    s: &[u8],
+    sizes: &[u8],
+    r: usize,
+    d: directions::Directions,
+    work: &mut [u32],
+) -> bool
+    requires { ⌜ Plannable r (now sizes) (now s) (now work) × Sensible d ⌝ }
+    ensures { λ ok. ⌜ Kept r (now (work .entry)) (now (work .exit)) × (ok ≡ true → PlanSays d r (now (sizes .entry)) (now (s .entry)) (now (work .entry)) (now (work .exit))) ⌝ }
+{
+    groups::copy_numbers(groups::SOURCE_AT, PLAN_AT, r, work);
+    planning::make_plan(s, sizes, r, d, &mut work[PLAN_AT..]);
+    checking::is_sound(s, sizes, r, d, &work[PLAN_AT..])
+}
+
+// What the second form says where it is not tried.
+fn given_up() -> exploring::Explored
+    ensures { λ e. ⌜ e .decided ≡ false ⌝ }
+{
+    exploring::Explored {
+        decided: false,
+        full: false,
+        count: 0,
+    }
+}
+
+// The second form of the search. It gives up where there is nothing to plan or a plan fails its test.
+fn explore_source(
+    s: &[u8],
+    sizes: &[u8],
+    r: usize,
+    p: usize,
+    ceilings: [u64; 4],
+    room: usize,
+    work: &mut [u32],
+) -> exploring::Explored
+    requires { ⌜ Source p r ceilings (now sizes) (now s) (now work) × (room ≤ maxPoints) ⌝ }
+    ensures { λ e. ⌜ Kept r (now (work .entry)) (now (work .exit)) × SecondSays p (length (now (sizes .entry))) (frontier (sourceProblem p r ceilings (now (sizes .entry)) (now (s .entry)) (now (work .entry)))) room (now (work .exit)) e ⌝ }
+{
+    let n = sizes.len();
+    if n == 0 {
+        return given_up();
+    }
+    if p == 0 {
+        return given_up();
+    }
+    let apart = planning::spreads(s, sizes, r, ceilings, &work[groups::SOURCE_AT..]);
+    let d = directions::choose_directions(p, apart);
+    if !plan_source(s, sizes, r, d, work) {
+        return given_up();
+    }
+    exploring::explore(s, sizes, r, ceilings, room, d, work)
+}
+
+// The frontier list of `r` records whose places stand in work memory where a problem's records are: by the second form, and where that gives up by the first;
+// or only by the first.
+pub fn find_source(
+    s: &[u8],
+    sizes: &[u8],
+    r: usize,
+    p: usize,
+    ceilings: [u64; 4],
+    room: usize,
+    by_passes: bool,
+    work: &mut [u32],
+) -> passes::Found
+    requires { ⌜ Source p r ceilings (now sizes) (now s) (now work) × (room ≤ maxPoints) ⌝ }
+    ensures { λ f. ⌜ FoundSays p (length (now (sizes .entry))) (frontier (sourceProblem p r ceilings (now (sizes .entry)) (now (s .entry)) (now (work .entry)))) room (now (work .entry)) (now (work .exit)) f ⌝ }
+{
+    if by_passes {
+        return passes::find_source(s, sizes, r, p, ceilings, room, work);
+    }
+    let e = explore_source(s, sizes, r, p, ceilings, room, work);
+    if e.decided {
+        return passes::Found {
+            full: e.full,
+            count: e.count,
+        };
+    }
+    passes::find_source(s, sizes, r, p, ceilings, room, work)
+}
+
+// The frontier list of `r` accepted records from `at` on, in work memory; only by the first form where that is asked for.
 pub fn find_list(
     s: &[u8],
     at: usize,
@@ -100,14 +121,15 @@ pub fn find_list(
     p: usize,
     ceilings: [u32; 4],
     room: usize,
+    by_passes: bool,
     work: &mut [u32],
-) -> Found
+) -> passes::Found
     requires { ⌜ Accepted p r at room ceilings (now sizes) (now s) (now work) ⌝ }
     ensures { λ f. ⌜ FoundSays p (length (now (sizes .entry))) (frontier (problemAt p ceilings (now (sizes .entry)) (now (s .entry)) at r)) room (now (work .entry)) (now (work .exit)) f ⌝ }
 {
     problem::keep_places(s, at, r, sizes, &mut work[groups::SOURCE_AT..]);
     let wide = widened(ceilings);
-    find_source(s, sizes, r as usize, p, wide, room, work)
+    find_source(s, sizes, r as usize, p, wide, room, by_passes, work)
 }
 
 // The frontier list of one half, in work memory: the records on the side, over the domain sizes that it leaves.
@@ -121,7 +143,7 @@ pub fn find_half(
     p: usize,
     ceilings: [u32; 4],
     work: &mut [u32],
-) -> Found
+) -> passes::Found
     requires { ⌜ Accepted p r at maxPoints ceilings (now sizes) (now s) (now work) × (length (now sides) ≡ length (now sizes)) ⌝ }
     ensures { λ f. ⌜ FoundSays p (length (now (sizes .entry))) (frontier (view side (problemAt p ceilings (now (sizes .entry)) (now (s .entry)) at r) (now (sides .entry)))) maxPoints (now (work .entry)) (now (work .exit)) f ⌝ }
 {
@@ -141,5 +163,5 @@ pub fn find_half(
     );
     let n = sizes.len();
     let wide = widened(ceilings);
-    find_source(s, &narrow[..n], count, p, wide, 64, work)
+    find_source(s, &narrow[..n], count, p, wide, 64, false, work)
 }

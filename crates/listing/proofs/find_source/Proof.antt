@@ -1,57 +1,53 @@
--- `listing::find_source` meets its contract: the records that are grouped are those of the problem, and the gains are known.
-use denote.Ref.{now}
+-- `listing::find_source` meets its contract: both forms find the same list, and the first one is right whatever the second has left in memory.
 use borrow.Author.Needs.{needs}
-use Rattle.model.specs.Problems.{Word}
-use Rattle.model.proofs.Elements.{all-take}
-use Rattle.listing.proofs.Sourced.{Gained, source-apart, copied-placed, grouped-setting, grouped-known, grouped-says}
+use Rattle.listing.proofs.Forms.{second-found, source-kept, first-after}
 use Rattle.listing.proofs.find_source.Statement.{statement}
 use Rattle.listing.proofs.find_source.Tie as tie
 
--- the gains are found
-gained : (c : tie.After-find-gains) → let s = c .before .before .before .before .before in let a = s .args in Gained (a .p) (a .r) (a .ceilings) (now (a .sizes)) (now (a .s)) (now (a .work)) (c .find-gains .last .1 .1 .1 .1 .1 .0)
-gained c =
-    let g = c .find-gains in
-    record { source = c .before .before .before .before .before .pre .0; known = g .ensures .0; none = g .ensures .1; left = g .ensures .2 }
-
-find-gains-requires : tie.Need-find-gains-requires
-find-gains-requires c κs = search needs
-
-copy-numbers-requires : tie.Need-copy-numbers-requires
-copy-numbers-requires c κs = source-apart (gained (c .before .before .before))
-
-group-records-requires : tie.Need-group-records-requires
-group-records-requires c κs = copied-placed (gained (c .before .before .before .before .before .before .before)) _ (c .before .before .before .copy-numbers .ensures)
-
-root-of-requires : tie.Need-root-of-requires
-root-of-requires c κs = search needs
-
-find-points-requires : tie.Need-find-points-requires
-find-points-requires c κs =
-    let s = c .before .before .before .before .before .before .before .before .before .before .before .before .before .before .before .before .before .before in
-    let g = c .before .before .before .before .before .group-records in
-    let x = c .before .root-of in
-    let u = gained (c .before .before .before .before .before .before .before .before .before .before .before .before .before) in
-    let copied = c .before .before .before .before .before .before .before .before .before .copy-numbers .ensures in
-    (grouped-setting u _ copied _ (g .ensures), x .ensures .1, x .ensures .0, all-take Word (s .args .p) (s .args .ceilings) (s .pre .0 .words), s .pre .1, grouped-known u _ copied _ (g .ensures))
+find-source-requires : tie.Need-find-source-requires
+find-source-requires c κs = search needs
 
 same-length : tie.Need-same-length
 same-length c = search needs
 
 returns : tie.Need-returns
-returns c =
-    let s = c .before .before .before .before .before .before .before .before .before .before .before .before .before .before .before .before .before .before .before .before .before in
-    let g = c .before .before .before .before .before .before .before .before .group-records in
-    let f = c .before .before .find-points in
-    grouped-says (gained (c .before .before .before .before .before .before .before .before .before .before .before .before .before .before .before .before)) _ (c .before .before .before .before .before .before .before .before .before .before .before .before .copy-numbers .ensures) _ (g .ensures) (s .args .room) _ (f .result) (f .ensures)
+returns c = search needs
+
+explore-source-requires : tie.Need-explore-source-requires
+explore-source-requires c κs = search needs
+
+same-length-2 : tie.Need-same-length-2
+same-length-2 c = search needs
+
+returns-2 : tie.Need-returns-2
+returns-2 c =
+    let says = c .before .before .before .explore-source .ensures in
+    second-found (says .0) (says .1) (c .if2 .taken)
+
+find-source-requires-2 : tie.Need-find-source-requires-2
+find-source-requires-2 c κs =
+    let s = c .before .before .before .before .before .before .before .before .before .before in
+    (source-kept (s .pre .0) (c .before .before .before .before .explore-source .ensures .0), s .pre .1)
+
+same-length-3 : tie.Need-same-length-3
+same-length-3 c = search needs
+
+returns-3 : tie.Need-returns-3
+returns-3 c =
+    let s = c .before .before .before .before .before .before .before .before .before .before .before .before .before in
+    let f = c .before .before .find-source2 in
+    first-after (s .pre .0) (c .before .before .before .before .before .before .before .explore-source .ensures .0) (s .args .room) _ (f .result) (f .ensures)
 
 pub find-source-spec : {M : Type 1} → statement M
 find-source-spec =
     tie.close
     (tie.spec
-    find-gains-requires
-    copy-numbers-requires
-    group-records-requires
-    root-of-requires
-    find-points-requires
+    find-source-requires
     same-length
-    returns)
+    returns
+    explore-source-requires
+    same-length-2
+    returns-2
+    find-source-requires-2
+    same-length-3
+    returns-3)

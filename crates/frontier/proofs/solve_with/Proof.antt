@@ -1,4 +1,4 @@
--- `solve_problem` meets its contract: each return hands what the callees ensure to one law of SolveAnswers or SolveEnds.
+-- `solve_with` meets its contract: each return hands what the callees ensure to one law of SolveAnswers or SolveEnds.
 use mathlib.Core.Path.{refl}
 use native.Mathlib.Omega.{arith}
 use denote.Ref.{now}
@@ -8,8 +8,8 @@ use Rattle.problem.proofs.Accepted.{read-accepted}
 use Rattle.frontier.proofs.ListVerdicts.{refused-verdict, short-verdict}
 use Rattle.frontier.proofs.SolveAnswers.{unchanged-solve}
 use Rattle.frontier.proofs.SolveEnds.{full-end, costs-asked, choices-asked, list-end}
-use Rattle.frontier.proofs.solve_problem.Statement.{statement}
-use Rattle.frontier.proofs.solve_problem.Tie as tie
+use Rattle.frontier.proofs.solve_with.Statement.{statement}
+use Rattle.frontier.proofs.solve_with.Tie as tie
 
 read-problem-requires : tie.Need-read-problem-requires
 read-problem-requires c κs = search needs
@@ -78,8 +78,8 @@ copy-choices-requires c κs =
 clear-requires-2 : tie.Need-clear-requires-2
 clear-requires-2 c κs = search needs
 
-cast-t32 : tie.Need-cast-t32
-cast-t32 c =
+cast-t33 : tie.Need-cast-t33
+cast-t33 c =
     let s = c .before .before .before .before .before .before .before .before .before .before .before .before .before .before .before .before .before .before .before .before .before .before .before .before .before .before .before .before .before .before .before .args in
     let a = read-accepted _ (c .before .before .before .before .before .before .before .before .before .before .before .before .before .before .before .before .before .before .before .before .before .before .before .before .before .before .read-problem .result) (c .before .before .before .before .before .before .before .before .before .before .before .before .before .before .before .before .before .before .before .before .before .before .before .before .before .before .read-problem .ensures) (c .before .before .before .before .before .before .before .before .before .before .before .before .before .before .before .before .before .before .before .before .before .before .before .before .if1 .left) in
     let k = costs-asked _ _ a (now (s .costs)) (now (s .choices)) _ (c .before .before .before .before .before .before .before .before .before .before .before .before .before .before .before .before .before .before .before .before .before .before .before .if2 .left) _ (c .before .before .before .before .before .before .before .before .before .before .before .before .before .before .before .before .before .before .before .room-of .ensures) _ _ (c .before .before .before .before .before .before .before .before .before .before .before .before .before .before .before .before .before .find-rows .ensures) (c .before .before .before .before .before .before .before .before .before .before .before .before .before .before .if3 .left) in
@@ -99,8 +99,8 @@ returns-4 c =
     let a = read-accepted _ (c .before .before .before .before .before .before .before .before .before .before .before .before .before .before .before .before .before .before .before .before .before .before .before .before .before .before .read-problem .result) (c .before .before .before .before .before .before .before .before .before .before .before .before .before .before .before .before .before .before .before .before .before .before .before .before .before .before .read-problem .ensures) (c .before .before .before .before .before .before .before .before .before .before .before .before .before .before .before .before .before .before .before .before .before .before .before .before .if1 .left) in
     list-end _ _ a _ _ _ (c .before .before .before .before .before .before .before .before .before .before .before .before .before .before .before .before .before .before .before .before .before .before .before .if2 .left) _ (c .before .before .before .before .before .before .before .before .before .before .before .before .before .before .before .before .before .before .before .room-of .ensures) _ _ (c .before .before .before .before .before .before .before .before .before .before .before .before .before .before .before .before .before .find-rows .ensures) (c .before .before .before .before .before .before .before .before .before .before .before .before .before .before .if3 .left) _ _ _ (c .before .before .before .before .before .before .before .before .before .before .before .copy-costs .ensures) (c .before .before .before .before .before .before .copy-choices .ensures) (c .before .before .clear2 .ensures)
 
-pub solve-problem-spec : {M : Type 1} → statement M
-solve-problem-spec =
+pub solve-with-spec : {M : Type 1} → statement M
+solve-with-spec =
     tie.close
     (tie.spec
     read-problem-requires
@@ -120,7 +120,7 @@ solve-problem-spec =
     copy-costs-requires
     copy-choices-requires
     clear-requires-2
-    cast-t32
+    cast-t33
     same-length-2
     same-length-3
     same-length-4
