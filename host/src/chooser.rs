@@ -22,6 +22,19 @@ extern "C" {
         count: *mut u32,
     ) -> u8;
 
+    fn frontier_solve_by_passes(
+        problem: *const u8,
+        problem_len: usize,
+        costs: *mut u32,
+        costs_len: usize,
+        choices: *mut u8,
+        choices_len: usize,
+        work: *mut u32,
+        work_len: usize,
+        place: *mut u32,
+        count: *mut u32,
+    ) -> u8;
+
     fn frontier_cut(
         problem: *const u8,
         problem_len: usize,
@@ -99,6 +112,37 @@ pub fn solve_problem(
 ) -> Answer {
     let (mut place, mut count) = (0, 0);
     let number = write_solve(problem, costs, choices, work, &mut place, &mut count);
+    Answer {
+        number,
+        place,
+        count,
+    }
+}
+
+/// The plain call by the first form of the search: the same answer, later. Benchmarks and tests
+/// compare with it.
+pub fn solve_by_passes(
+    problem: &[u8],
+    costs: &mut [u32],
+    choices: &mut [u8],
+    work: &mut [u32],
+) -> Answer {
+    let (mut place, mut count) = (0, 0);
+    // SAFETY: as in `write_solve`.
+    let number = unsafe {
+        frontier_solve_by_passes(
+            problem.as_ptr(),
+            problem.len(),
+            costs.as_mut_ptr(),
+            costs.len(),
+            choices.as_mut_ptr(),
+            choices.len(),
+            work.as_mut_ptr(),
+            work.len(),
+            &mut place,
+            &mut count,
+        )
+    };
     Answer {
         number,
         place,

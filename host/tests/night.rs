@@ -1,11 +1,12 @@
-//! The night's problems: the small ones in this process, and the program that runs them all.
+//! The night's problems: all of them through one set of buffers, and the program that measures them.
 
 use std::fs;
 use std::path::{Path, PathBuf};
 use std::process::{Command, Output};
 
 use frontier_host::night::{
-    chosen_text, night_buffers, parse_expected, read_bytes, read_night, NightProblem,
+    chosen_text, fill_with_junk, night_buffers, parse_expected, read_bytes, read_night,
+    NightProblem,
 };
 use frontier_host::owned::list_text;
 use frontier_host::reading::read_problem;
@@ -70,20 +71,29 @@ fn the_brute_force_gives_the_expected_texts_of_small_problems() {
     }
 }
 
-/// Forwards and then backwards, so that each problem finds what two others have left.
+/// Each problem finds what the one before has left in the buffers.
 #[test]
-fn small_problems_through_one_set_of_buffers() {
+fn the_whole_night_through_one_set_of_buffers() {
+    let mut lent = night_buffers();
+    for problem in all_problems() {
+        let name = &problem.name;
+        let bytes = read_bytes(&problem.path).expect("a file that was listed");
+        let text = chosen_text(&mut lent, &bytes);
+        assert_eq!(Some(text), problem.expected, "{name}");
+        assert!(lent.work.iter().all(|&number| number == 0), "{name}");
+    }
+}
+
+/// Backwards and with junk in the buffers before each call; the small ones, which are quick.
+#[test]
+fn small_problems_in_other_buffers() {
     let small = small_problems();
     assert!(small.len() >= 40, "{} problems are small", small.len());
     let mut lent = night_buffers();
-    for small in small.iter().chain(small.iter().rev()) {
+    for small in small.iter().rev() {
+        fill_with_junk(&mut lent);
         let text = chosen_text(&mut lent, &small.bytes);
         assert_eq!(text, small.expected, "{}", small.name);
-        assert!(
-            lent.work.iter().all(|&number| number == 0),
-            "{}",
-            small.name
-        );
     }
 }
 

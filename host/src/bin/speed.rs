@@ -12,17 +12,19 @@ use frontier_host::reading::read_problem;
 use frontier_host::speed::cases::{only_family, read_cases, Case};
 use frontier_host::speed::growth::growth_cases;
 use frontier_host::speed::report::{Columns, Report, Runs, SLOW};
-use frontier_host::speed::sides::{serve_chooser, ChooserSide, PlainSide, Run};
+use frontier_host::speed::sides::{serve_chooser, ChooserSide, Form, PlainSide, Run};
 use frontier_host::speed::toulbar2;
 use frontier_host::worker::{asked_limit, WORKER};
 
-const USAGE: &str = "usage: speed [--limit SECONDS] [--only FAMILY] [--plain-only] [--growth]
+const USAGE: &str =
+    "usage: speed [--limit SECONDS] [--only FAMILY] [--plain-only | --first-form] [--growth]
              [--settings NAME=VALUE,..]
 Runs the problems of data/nightly and data/stress through the chooser and through plain Rust, each
 for at most SECONDS of processor time (default 2), compares the answers with the expected ones, and
 prints a table with a row for each family: the first part of a problem's name that is no number.
   --only FAMILY  runs one family
   --plain-only   leaves the chooser out
+  --first-form   lets the chooser search by the first form: most problems are then given up
   --growth       runs generated problems of growing size instead: n, d and p in turn
   --settings     changes how plain Rust works:";
 
@@ -38,6 +40,7 @@ struct Options {
     only: Option<String>,
     settings: Settings,
     plain_only: bool,
+    form: Form,
     growth: bool,
 }
 
@@ -48,6 +51,7 @@ fn asked_options(arguments: &[String]) -> Result<Options, String> {
         only: None,
         settings: Settings::default(),
         plain_only: false,
+        form: Form::Second,
         growth: false,
     };
     let mut rest = arguments.iter();
@@ -60,6 +64,7 @@ fn asked_options(arguments: &[String]) -> Result<Options, String> {
                 options.settings = Settings::parse(text)?;
             }
             "--plain-only" => options.plain_only = true,
+            "--first-form" => options.form = Form::First,
             "--growth" => options.growth = true,
             other => return Err(format!("there is no option '{other}'")),
         }
@@ -102,7 +107,7 @@ struct Sides {
 impl Sides {
     fn start(options: &Options, columns: Columns) -> Result<Sides, String> {
         let chooser = match columns.chooser {
-            true => Some(ChooserSide::start(options.limit)?),
+            true => Some(ChooserSide::start(options.form, options.limit)?),
             false => None,
         };
         Ok(Sides {
@@ -160,6 +165,9 @@ fn print_report(options: &Options, columns: Columns, report: &Report) {
         false => println!("toulbar2 is not installed, so there is no column for it."),
     }
     println!("\n{}", report.table());
+    if let Some(line) = report.small_line() {
+        println!("{line}");
+    }
     for fault in &report.faults {
         println!("{fault}");
     }

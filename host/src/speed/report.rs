@@ -7,9 +7,13 @@ use super::sides::{Ending, Run};
 use super::table::table_text;
 use super::toulbar2::least_cost_listed;
 use crate::night::difference;
+use crate::reading::read_problem;
 
 /// Answers that take longer than this are counted.
 pub const SLOW: Duration = Duration::from_secs(2);
+
+/// Problems with at most this many variables count as small.
+const SMALL: usize = 6;
 
 /// What the sides made of one problem; a side that did not run has none.
 pub struct Runs {
@@ -152,6 +156,8 @@ pub struct Columns {
 pub struct Report {
     columns: Columns,
     rows: Vec<Row>,
+    /// What the chooser took for small problems.
+    small: Total,
     compared: usize,
     /// What is wrong, a line each.
     pub faults: Vec<String>,
@@ -162,6 +168,7 @@ impl Report {
         Report {
             columns,
             rows: Vec::new(),
+            small: Total::default(),
             compared: 0,
             faults: Vec::new(),
         }
@@ -179,7 +186,32 @@ impl Report {
             self.rows.len() - 1
         });
         self.rows[number].add(runs);
+        self.add_small(case, runs);
         self.compare(case, runs);
+    }
+
+    fn add_small(&mut self, case: &Case, runs: &Runs) {
+        let problem = read_problem(&case.bytes).map(|reading| reading.problem);
+        let small = problem.is_ok_and(|problem| problem.variables() <= SMALL);
+        if let (true, Some(chooser)) = (small, &runs.chooser) {
+            self.small.add(chooser);
+        }
+    }
+
+    /// A line about small problems, if the chooser ran some.
+    pub fn small_line(&self) -> Option<String> {
+        let Total {
+            problems,
+            worst,
+            time,
+            ..
+        } = self.small;
+        let micros = |time: Duration| time.as_secs_f64() * 1e6;
+        let mean = micros(time) / problems as f64;
+        let worst = micros(worst);
+        (problems > 0).then(|| {
+            format!("Up to {SMALL} variables: {problems} problems, the chooser's worst {worst:.1} microseconds, {mean:.1} on average.")
+        })
     }
 
     /// Compares the answers with the expected text, or with each other where none is known.

@@ -29,16 +29,31 @@ pub enum Ending {
     Died,
 }
 
-/// The chooser, each problem with this limit.
+/// Which form of the search the chooser uses.
+#[derive(Clone, Copy, PartialEq, Eq)]
+pub enum Form {
+    First,
+    Second,
+}
+
+/// The word before a problem that asks for the first form.
+const BY_PASSES: &str = "passes ";
+
+/// The chooser with this form of the search, each problem with this limit.
 pub struct ChooserSide {
     worker: Worker,
+    form: Form,
     limit: Duration,
 }
 
 impl ChooserSide {
-    pub fn start(limit: Duration) -> Result<ChooserSide, String> {
+    pub fn start(form: Form, limit: Duration) -> Result<ChooserSide, String> {
         let worker = Worker::start()?;
-        Ok(ChooserSide { worker, limit })
+        Ok(ChooserSide {
+            worker,
+            form,
+            limit,
+        })
     }
 
     pub fn run(&mut self, bytes: &[u8]) -> Result<Run, String> {
@@ -47,7 +62,12 @@ impl ChooserSide {
             time,
             nodes: None,
         };
-        let ended = match self.worker.ask(&to_hex(bytes), self.limit) {
+        let asked = match self.form {
+            Form::First => BY_PASSES,
+            Form::Second => "",
+        };
+        let line = format!("{asked}{}", to_hex(bytes));
+        let ended = match self.worker.ask(&line, self.limit) {
             worker::Ending::Answered { text, .. } => {
                 let (time, text) = timed_answer(&text)?;
                 return Ok(run(Ending::Answered(text.to_string()), time));
@@ -65,10 +85,15 @@ impl ChooserSide {
 pub fn serve_chooser() -> Result<(), String> {
     let mut lent = night_buffers();
     serve(|line| {
-        let bytes = from_hex(line).ok_or("standard input has a line that is no hex")?;
+        let by_passes = line.strip_prefix(BY_PASSES);
+        let hex = by_passes.unwrap_or(line);
+        let bytes = from_hex(hex).ok_or("standard input has a line that is no hex")?;
         fill_with_junk(&mut lent);
         let start = thread_time();
-        let answer = lent.lend(chooser::solve_problem, &bytes);
+        let answer = match by_passes {
+            Some(_) => lent.lend(chooser::solve_by_passes, &bytes),
+            None => lent.lend(chooser::solve_problem, &bytes),
+        };
         let time = thread_time() - start;
         let text = answer_text(&lent, &bytes, answer);
         Ok(format!("{}\n{text}", time.as_nanos()))
