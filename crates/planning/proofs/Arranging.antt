@@ -5,13 +5,11 @@ use Prim.Native.Nat.{ℕ, _+_, _≤_, _<_}
 use native.Mathlib.Omega.{arith}
 use lib.ListN.{length, getD, set, take, drop, length-set, length-drop}
 use lib.Seq.{take-take, take-set-le, drop-set-lt, length-take-le}
-use Rattle.model.specs.Basics.{All}
 use Rattle.model.specs.Limits.{maxTables}
 use Rattle.problem.specs.Records.{Whole}
 use Rattle.groups.proofs.Overwritten.{take-drop}
 use Rattle.directions.specs.declared.Directions as DD
 use Rattle.buckets.specs.Places.{maxMessages, childrenAt, looseAt}
-use Rattle.buckets.specs.Sound.{Rearranged}
 use Rattle.buckets.specs.Content.{Planned}
 use Rattle.buckets.proofs.Rearranging.{exchanged, exchange-rearranged, exchange-all, exchange-part, exchange-front}
 use Rattle.planning.specs.Arranged.{Loose, Arranged}

@@ -1,6 +1,5 @@
 -- Products of small numbers are small.
-use Prim.Native.Nat.{ℕ, _*_, _≤_, _<_}
-use native.Mathlib.Omega.{arith}
+use Prim.Native.Nat.{ℕ, _*_, _≤_}
 use native.Mathlib.Nat.{mul-le-mul}
 
 pub product-small : (m n a b : ℕ) → a ≤ m → b ≤ n → a * b ≤ m * n
