@@ -4,6 +4,7 @@ use std::env;
 use std::fs;
 use std::path::Path;
 use std::process::{Command, Output};
+use std::time::Duration;
 
 use frontier_host::examples::lone;
 use frontier_host::hex::{from_hex, to_hex};
@@ -12,7 +13,9 @@ use frontier_host::reading::read_problem;
 use frontier_host::speed::cases::family_of;
 use frontier_host::speed::growth::growth_cases;
 use frontier_host::speed::table::table_text;
-use frontier_host::speed::toulbar2::{least_cost_listed, least_cost_printed, wcsp_text};
+use frontier_host::speed::toulbar2::{
+    least_cost_listed, least_cost_printed, own_time_printed, wcsp_text,
+};
 
 fn speed(arguments: &[&str]) -> Output {
     let program = env!("CARGO_BIN_EXE_speed");
@@ -97,6 +100,9 @@ fn least_costs_are_found_in_texts() {
     let none = least_cost_printed("No solution in 0 backtracks\n");
     assert_eq!(none.as_deref(), Some("none"));
     assert_eq!(least_cost_printed("Time limit expired\n"), None);
+    let own = own_time_printed("Read 3 variables\nPreprocessing time: 0.000395 seconds.\n");
+    assert_eq!(own, Some(Duration::from_micros(395)));
+    assert_eq!(own_time_printed("Preprocessing time: never\n"), None);
     let listed = least_cost_listed("points 1 objectives 1 variables 2\n27 : 0 1\n");
     assert_eq!(listed.as_deref(), Some("27"));
     assert_eq!(

@@ -6,25 +6,27 @@ use std::path::Path;
 use std::process::ExitCode;
 use std::time::Duration;
 
+use frontier_host::limits::LEAST_WORK;
 use frontier_host::plain::{Settings, SETTINGS};
 use frontier_host::progress::show_progress;
 use frontier_host::reading::read_problem;
 use frontier_host::speed::cases::{only_family, read_cases, Case};
 use frontier_host::speed::growth::growth_cases;
 use frontier_host::speed::report::{Columns, Report, Runs, SLOW};
-use frontier_host::speed::sides::{serve_chooser, ChooserSide, Form, PlainSide, Run};
+use frontier_host::speed::sides::{serve_chooser, Calls, ChooserSide, Form, PlainSide, Run};
 use frontier_host::speed::toulbar2;
 use frontier_host::worker::{asked_limit, WORKER};
 
 const USAGE: &str =
     "usage: speed [--limit SECONDS] [--only FAMILY] [--plain-only | --first-form] [--growth]
-             [--settings NAME=VALUE,..]
+             [--work NUMBERS] [--settings NAME=VALUE,..]
 Runs the problems of data/nightly and data/stress through the chooser and through plain Rust, each
 for at most SECONDS of processor time (default 2), compares the answers with the expected ones, and
 prints a table with a row for each family: the first part of a problem's name that is no number.
   --only FAMILY  runs one family
   --plain-only   leaves the chooser out
   --first-form   lets the chooser search by the first form: most problems are then given up
+  --work NUMBERS lends the chooser so much work memory (default 8192, the least)
   --growth       runs generated problems of growing size instead: n, d and p in turn
   --settings     changes how plain Rust works:";
 
@@ -40,7 +42,7 @@ struct Options {
     only: Option<String>,
     settings: Settings,
     plain_only: bool,
-    form: Form,
+    calls: Calls,
     growth: bool,
 }
 
@@ -51,7 +53,10 @@ fn asked_options(arguments: &[String]) -> Result<Options, String> {
         only: None,
         settings: Settings::default(),
         plain_only: false,
-        form: Form::Second,
+        calls: Calls {
+            form: Form::Second,
+            work: LEAST_WORK,
+        },
         growth: false,
     };
     let mut rest = arguments.iter();
@@ -64,12 +69,20 @@ fn asked_options(arguments: &[String]) -> Result<Options, String> {
                 options.settings = Settings::parse(text)?;
             }
             "--plain-only" => options.plain_only = true,
-            "--first-form" => options.form = Form::First,
+            "--first-form" => options.calls.form = Form::First,
+            "--work" => options.calls.work = asked_work(rest.next())?,
             "--growth" => options.growth = true,
             other => return Err(format!("there is no option '{other}'")),
         }
     }
     Ok(options)
+}
+
+/// The length of work memory in an argument.
+fn asked_work(word: Option<&String>) -> Result<usize, String> {
+    let number = word.and_then(|word| word.parse().ok());
+    let enough = number.filter(|&number: &usize| (LEAST_WORK..=1 << 24).contains(&number));
+    enough.ok_or_else(|| format!("--work takes a number from {LEAST_WORK} to {}", 1 << 24))
 }
 
 impl Options {
@@ -107,7 +120,7 @@ struct Sides {
 impl Sides {
     fn start(options: &Options, columns: Columns) -> Result<Sides, String> {
         let chooser = match columns.chooser {
-            true => Some(ChooserSide::start(options.form, options.limit)?),
+            true => Some(ChooserSide::start(options.calls, options.limit)?),
             false => None,
         };
         Ok(Sides {
@@ -121,15 +134,18 @@ impl Sides {
     fn run(&mut self, case: &Case) -> Result<Runs, String> {
         let chooser = self.chooser.as_mut().map(|side| side.run(&case.bytes));
         let plain = self.plain.run(&case.bytes);
+        let toulbar2 = self.run_toulbar2(case).transpose()?;
+        let (toulbar2, toulbar2_own) = toulbar2.unzip();
         Ok(Runs {
             chooser: chooser.transpose()?,
             plain,
-            toulbar2: self.run_toulbar2(case).transpose()?,
+            toulbar2,
+            toulbar2_own: toulbar2_own.flatten(),
         })
     }
 
     /// toulbar2 knows problems with one objective only.
-    fn run_toulbar2(&self, case: &Case) -> Option<Result<Run, String>> {
+    fn run_toulbar2(&self, case: &Case) -> Option<Result<(Run, Option<Duration>), String>> {
         let problem = read_problem(&case.bytes).ok()?.problem;
         let asked = self.toulbar2 && problem.objectives() == 1;
         asked.then(|| toulbar2::run(&problem, self.limit))
@@ -165,7 +181,7 @@ fn print_report(options: &Options, columns: Columns, report: &Report) {
         false => println!("toulbar2 is not installed, so there is no column for it."),
     }
     println!("\n{}", report.table());
-    if let Some(line) = report.small_line() {
+    for line in [report.small_line(), report.sparse_line()].iter().flatten() {
         println!("{line}");
     }
     for fault in &report.faults {

@@ -15,11 +15,16 @@ pub const SLOW: Duration = Duration::from_secs(2);
 /// Problems with at most this many variables count as small.
 const SMALL: usize = 6;
 
+/// How the names of sparse problems with one objective begin.
+const SPARSE: &str = "single_m";
+
 /// What the sides made of one problem; a side that did not run has none.
 pub struct Runs {
     pub chooser: Option<Run>,
     pub plain: Run,
     pub toulbar2: Option<Run>,
+    /// What toulbar2 says of its own time.
+    pub toulbar2_own: Option<Duration>,
 }
 
 /// What one side took for the problems of a family.
@@ -158,6 +163,8 @@ pub struct Report {
     rows: Vec<Row>,
     /// What the chooser took for small problems.
     small: Total,
+    /// On how many sparse problems the chooser was no slower than toulbar2, and of how many.
+    sparse: [usize; 2],
     compared: usize,
     /// What is wrong, a line each.
     pub faults: Vec<String>,
@@ -169,6 +176,7 @@ impl Report {
             columns,
             rows: Vec::new(),
             small: Total::default(),
+            sparse: [0; 2],
             compared: 0,
             faults: Vec::new(),
         }
@@ -187,6 +195,7 @@ impl Report {
         });
         self.rows[number].add(runs);
         self.add_small(case, runs);
+        self.add_sparse(case, runs);
         self.compare(case, runs);
     }
 
@@ -196,6 +205,24 @@ impl Report {
         if let (true, Some(chooser)) = (small, &runs.chooser) {
             self.small.add(chooser);
         }
+    }
+
+    fn add_sparse(&mut self, case: &Case, runs: &Runs) {
+        if let (Some(chooser), Some(own)) = (&runs.chooser, runs.toulbar2_own) {
+            if case.name.starts_with(SPARSE) {
+                let answered = matches!(chooser.ending, Ending::Answered(_));
+                self.sparse[0] += usize::from(answered && chooser.time <= own);
+                self.sparse[1] += 1;
+            }
+        }
+    }
+
+    /// A line about sparse problems with one objective, if toulbar2 ran on some.
+    pub fn sparse_line(&self) -> Option<String> {
+        let [faster, problems] = self.sparse;
+        (problems > 0).then(|| {
+            format!("{SPARSE}: the chooser is no slower than toulbar2's own preprocessing on {faster} of {problems} problems.")
+        })
     }
 
     /// A line about small problems, if the chooser ran some.

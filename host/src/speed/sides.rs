@@ -1,5 +1,7 @@
 //! The sides: the chooser over its C interface, in a worker because its call cannot be interrupted,
-//! and plain Rust. Both get junk in their buffers before each call; the call alone is timed.
+//! and plain Rust. Both get junk in their buffers before each call; the call alone is timed. A call
+//! that takes less than a millisecond is made again, and the least time counts: the first one also
+//! pays for caches that hold what the other side has just done.
 
 use std::time::Duration;
 
@@ -39,19 +41,48 @@ pub enum Form {
 /// The word before a problem that asks for the first form.
 const BY_PASSES: &str = "passes ";
 
-/// The chooser with this form of the search, each problem with this limit.
+/// Calls that take less than this are made so many times in all.
+const QUICK: (Duration, usize) = (Duration::from_millis(1), 20);
+
+/// What a call gives, with junk in the buffers before it, and the least time that it took.
+fn timed<T>(lent: &mut Buffers, mut call: impl FnMut(&mut Buffers) -> T) -> (T, Duration) {
+    let mut once = || {
+        fill_with_junk(lent);
+        let start = thread_time();
+        let result = call(lent);
+        (result, thread_time() - start)
+    };
+    let mut least = once();
+    let mut calls = 1;
+    while least.1 < QUICK.0 && calls < QUICK.1 {
+        let (result, time) = once();
+        least = (result, time.min(least.1));
+        calls += 1;
+    }
+    least
+}
+
+/// How the chooser is called.
+#[derive(Clone, Copy)]
+pub struct Calls {
+    pub form: Form,
+    /// So many numbers of work memory are lent.
+    pub work: usize,
+}
+
+/// The chooser, each problem with this limit.
 pub struct ChooserSide {
     worker: Worker,
-    form: Form,
+    calls: Calls,
     limit: Duration,
 }
 
 impl ChooserSide {
-    pub fn start(form: Form, limit: Duration) -> Result<ChooserSide, String> {
+    pub fn start(calls: Calls, limit: Duration) -> Result<ChooserSide, String> {
         let worker = Worker::start()?;
         Ok(ChooserSide {
             worker,
-            form,
+            calls,
             limit,
         })
     }
@@ -62,11 +93,11 @@ impl ChooserSide {
             time,
             nodes: None,
         };
-        let asked = match self.form {
+        let asked = match self.calls.form {
             Form::First => BY_PASSES,
             Form::Second => "",
         };
-        let line = format!("{asked}{}", to_hex(bytes));
+        let line = format!("{} {asked}{}", self.calls.work, to_hex(bytes));
         let ended = match self.worker.ask(&line, self.limit) {
             worker::Ending::Answered { text, .. } => {
                 let (time, text) = timed_answer(&text)?;
@@ -80,21 +111,22 @@ impl ChooserSide {
     }
 }
 
-/// What the worker does: for each problem in hex a line with the nanoseconds of the call, and then
-/// the list's text.
+/// What the worker does: for each line with the length of work memory and a problem in hex a line
+/// with the nanoseconds of the call, and then the list's text.
 pub fn serve_chooser() -> Result<(), String> {
     let mut lent = night_buffers();
     serve(|line| {
-        let by_passes = line.strip_prefix(BY_PASSES);
-        let hex = by_passes.unwrap_or(line);
+        let parts = line.split_once(' ');
+        let asked = parts.and_then(|(work, rest)| Some((work.parse().ok()?, rest)));
+        let (work, rest) = asked.ok_or("standard input has a line without a length")?;
+        lent.work.resize(work, 0);
+        let by_passes = rest.strip_prefix(BY_PASSES);
+        let hex = by_passes.unwrap_or(rest);
         let bytes = from_hex(hex).ok_or("standard input has a line that is no hex")?;
-        fill_with_junk(&mut lent);
-        let start = thread_time();
-        let answer = match by_passes {
+        let (answer, time) = timed(&mut lent, |lent| match by_passes {
             Some(_) => lent.lend(chooser::solve_by_passes, &bytes),
             None => lent.lend(chooser::solve_problem, &bytes),
-        };
-        let time = thread_time() - start;
+        });
         let text = answer_text(&lent, &bytes, answer);
         Ok(format!("{}\n{text}", time.as_nanos()))
     })
@@ -126,21 +158,20 @@ impl PlainSide {
     }
 
     pub fn run(&mut self, bytes: &[u8]) -> Run {
-        let lent = &mut self.lent;
-        fill_with_junk(lent);
-        let start = thread_time();
-        let outcome = solve_within(
-            Some(self.limit),
-            &self.settings,
-            bytes,
-            &mut lent.costs,
-            &mut lent.choices,
-            lent.work.len(),
-        );
-        let time = thread_time() - start;
-        let text = outcome
-            .answer
-            .map(|answer| answer_text(lent, bytes, answer));
+        let (limit, settings) = (self.limit, self.settings);
+        let (outcome, time) = timed(&mut self.lent, |lent| {
+            let (costs, choices) = (&mut lent.costs, &mut lent.choices);
+            solve_within(
+                Some(limit),
+                &settings,
+                bytes,
+                costs,
+                choices,
+                lent.work.len(),
+            )
+        });
+        let answer = outcome.answer;
+        let text = answer.map(|answer| answer_text(&self.lent, bytes, answer));
         Run {
             ending: text.map_or(Ending::GivenUp, Ending::Answered),
             time,

@@ -78,6 +78,17 @@ pub fn least_cost_printed(output: &str) -> Option<String> {
         .find_map(|line| found(line).or_else(|| none(line)))
 }
 
+/// The time that toulbar2 says its preprocessing took: a part of its own solving time, and the one
+/// that it prints finely enough.
+pub fn own_time_printed(output: &str) -> Option<Duration> {
+    let seconds = |line: &str| {
+        let rest = line.strip_prefix("Preprocessing time: ")?;
+        rest.split(' ').next()?.parse().ok()
+    };
+    let seconds = output.lines().find_map(seconds)?;
+    Duration::try_from_secs_f64(seconds).ok()
+}
+
 /// The least cost in the text of the list program, for a problem with one objective.
 pub fn least_cost_listed(text: &str) -> Option<String> {
     if text.starts_with("points 0 ") {
@@ -88,8 +99,8 @@ pub fn least_cost_listed(text: &str) -> Option<String> {
 }
 
 /// Runs toulbar2 on a problem with one objective. The answer is the least cost, and the time is
-/// what passes from its start to its end.
-pub fn run(problem: &Problem, limit: Duration) -> Result<Run, String> {
+/// what passes from its start to its end; beside it what toulbar2 says of its own time.
+pub fn run(problem: &Problem, limit: Duration) -> Result<(Run, Option<Duration>), String> {
     let file = std::env::temp_dir().join(format!("speed-{}.wcsp", process::id()));
     let unwritable = |error| format!("{} cannot be written: {error}", file.display());
     fs::write(&file, wcsp_text(problem)).map_err(unwritable)?;
@@ -99,7 +110,7 @@ pub fn run(problem: &Problem, limit: Duration) -> Result<Run, String> {
     run
 }
 
-fn run_on_file(file: &PathBuf, limit: Duration) -> Result<Run, String> {
+fn run_on_file(file: &PathBuf, limit: Duration) -> Result<(Run, Option<Duration>), String> {
     let start = Instant::now();
     let output = Command::new(PROGRAM)
         .arg(file)
@@ -107,16 +118,18 @@ fn run_on_file(file: &PathBuf, limit: Duration) -> Result<Run, String> {
         .output()
         .map_err(|error| format!("{PROGRAM} cannot be started: {error}"))?;
     let time = start.elapsed();
-    let answer = least_cost_printed(&String::from_utf8_lossy(&output.stdout));
+    let printed = String::from_utf8_lossy(&output.stdout);
+    let answer = least_cost_printed(&printed);
     let ending = match answer {
         Some(_) if time > limit => Ending::GivenUp,
         Some(cost) => Ending::Answered(cost),
         None if time >= limit => Ending::GivenUp,
         None => Ending::Died,
     };
-    Ok(Run {
+    let run = Run {
         ending,
         time: time.min(limit),
         nodes: None,
-    })
+    };
+    Ok((run, own_time_printed(&printed)))
 }
