@@ -16,11 +16,29 @@ ghost use Rattle.buckets.specs.Messages.{messageAt};
 ghost use Rattle.buckets.specs.Content.{Planned, Ranged, Filled, Summed};
 ghost use Rattle.buckets.specs.Adding.{addEnd, messageStart, TermSays, MessageSays, EntrySays, PartFilled, RowFilled, RowAdded, Addable, RowsAdded, Received, RecordAdded, Blank, Totalled, fourSum, Directed};
 
+// Where things stand in a plan, as specs/Places says.
 pub const CHILDREN_AT: usize = 256;
+
+// What stands before this is only rearranged while a plan is made.
+pub const LOOSE_AT: usize = 376;
+
+pub const ORDER_AT: usize = 376;
+
+pub const POSITIONS_AT: usize = 400;
+
+pub const RECORD_ENDS_AT: usize = 424;
+
+pub const CHILD_ENDS_AT: usize = 449;
+
+pub const MESSAGE_ENDS_AT: usize = 474;
 
 pub const MESSAGES_AT: usize = 499;
 
 pub const MESSAGE_WIDTH: usize = 7;
+
+pub const NUMBERS_AT: usize = 1339;
+
+pub const MAX_MESSAGES: usize = 120;
 
 // A number that grows evenly with a variable's value: `first` at value 0, and `stride` more at each next one.
 pub struct Run {

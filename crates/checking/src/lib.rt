@@ -19,19 +19,6 @@ ghost use Rattle.checking.specs.Orders.{LeadsBack, Falling};
 ghost use Rattle.checking.specs.Marks.{Marked, ScopeIn, Inside, BucketIn};
 ghost use Rattle.checking.specs.Parts.{Rows, Lowered, RowLeft, Counted, PartOf, Fits, ChoiceLeaves, PairLeaves, PartLeaves, Holding, HoldsAt};
 
-// Where things stand in a plan; buckets has the other places.
-const ORDER_AT: usize = 376;
-
-const POSITIONS_AT: usize = 400;
-
-const RECORD_ENDS_AT: usize = 424;
-
-const CHILD_ENDS_AT: usize = 449;
-
-const MESSAGE_ENDS_AT: usize = 474;
-
-const MAX_MESSAGES: usize = 120;
-
 // What is left over of a bucket counts as no more than this.
 const MOST_REST: u64 = 4611686018427387904;
 
@@ -77,10 +64,10 @@ fn is_ordered(n: usize, plan: &[u32]) -> bool
     requires { ⌜ (n ≤ maxVariables) × (numbersAt ≤ length (now plan)) ⌝ }
     ensures { λ ok. ⌜ (ok ≡ true → Ordered n (now (plan .entry))) ⌝ }
 {
-    if !leads_back(ORDER_AT, POSITIONS_AT, n, plan) {
+    if !leads_back(buckets::ORDER_AT, buckets::POSITIONS_AT, n, plan) {
         return false;
     }
-    leads_back(POSITIONS_AT, ORDER_AT, n, plan)
+    leads_back(buckets::POSITIONS_AT, buckets::ORDER_AT, n, plan)
 }
 
 // Whether the numbers from `at` on fall, to 0 at number `n`.
@@ -103,22 +90,22 @@ fn are_ends(n: usize, r: usize, plan: &[u32]) -> bool
     requires { ⌜ (n ≤ maxVariables) × (numbersAt ≤ length (now plan)) ⌝ }
     ensures { λ ok. ⌜ (ok ≡ true → Ends n r (now (plan .entry))) ⌝ }
 {
-    if !falls(RECORD_ENDS_AT, n, plan) {
+    if !falls(buckets::RECORD_ENDS_AT, n, plan) {
         return false;
     }
-    if !falls(CHILD_ENDS_AT, n, plan) {
+    if !falls(buckets::CHILD_ENDS_AT, n, plan) {
         return false;
     }
-    if !falls(MESSAGE_ENDS_AT, n, plan) {
+    if !falls(buckets::MESSAGE_ENDS_AT, n, plan) {
         return false;
     }
-    if r < plan[RECORD_ENDS_AT] as usize {
+    if r < plan[buckets::RECORD_ENDS_AT] as usize {
         return false;
     }
-    if MAX_MESSAGES < plan[CHILD_ENDS_AT] as usize {
+    if buckets::MAX_MESSAGES < plan[buckets::CHILD_ENDS_AT] as usize {
         return false;
     }
-    plan[MESSAGE_ENDS_AT] as usize == MAX_MESSAGES
+    plan[buckets::MESSAGE_ENDS_AT] as usize == buckets::MAX_MESSAGES
 }
 
 // Whether variable `v` is marked.
@@ -148,7 +135,7 @@ fn reads_marked(g: usize, marks: &[u8], plan: &[u32]) -> bool
     requires { ⌜ numbersAt ≤ length (now plan) ⌝ }
     ensures { λ ok. ⌜ (ok ≡ true → Reads (Marked (now (marks .entry))) (now (plan .entry)) g) ⌝ }
 {
-    if MAX_MESSAGES <= g {
+    if buckets::MAX_MESSAGES <= g {
         return false;
     }
     if !is_field_marked(g, 1, marks, plan) {
@@ -255,35 +242,25 @@ fn is_early(s: &[u8], n: usize, r: usize, plan: &[u32]) -> bool
 {
     let mut marks = [0u8; 24];
     let mut to = r;
-    let mut last = MAX_MESSAGES;
+    let mut last = buckets::MAX_MESSAGES;
     let mut k: usize = 0;
     while k < n {
-        let from = plan[RECORD_ENDS_AT + k] as usize;
-        let first = plan[CHILD_ENDS_AT + k] as usize;
+        let from = plan[buckets::RECORD_ENDS_AT + k] as usize;
+        let first = plan[buckets::CHILD_ENDS_AT + k] as usize;
         if !is_bucket_marked(s, from, to, first, last, &marks, plan) {
             return false;
         }
-        let begin = plan[MESSAGE_ENDS_AT + (k + 1)] as usize;
-        let end = plan[MESSAGE_ENDS_AT + k] as usize;
+        let begin = plan[buckets::MESSAGE_ENDS_AT + (k + 1)] as usize;
+        let end = plan[buckets::MESSAGE_ENDS_AT + k] as usize;
         if !are_sent_marked(begin, end, &marks, plan) {
             return false;
         }
         to = from;
         last = first;
-        marks = with_value(marks, plan[ORDER_AT + k] as usize, 1);
+        marks = with_value(marks, plan[buckets::ORDER_AT + k] as usize, 1);
         k += 1;
     }
     is_bucket_marked(s, 0, to, 0, last, &marks, plan)
-}
-
-// The lesser of two numbers.
-fn lesser(a: u64, b: u64) -> u64
-    ensures { λ r. ⌜ (r ≤ a) × (r ≤ b) ⌝ }
-{
-    if a < b {
-        return a;
-    }
-    b
 }
 
 // The larger of two numbers.
@@ -325,7 +302,7 @@ fn lower_row(
         if there < number[j] {
             return false;
         }
-        left[at + j] = lesser(left[at + j], there - number[j]);
+        left[at + j] = directions::lesser(left[at + j], there - number[j]);
         j += 1;
     }
     true
@@ -488,13 +465,13 @@ fn after_message(
     let first = held.last;
     let to = larger(from, plan[at + 5] as usize);
     let last = larger(first, plan[at + 6] as usize);
-    if (plan[RECORD_ENDS_AT + k] as usize) < to {
+    if (plan[buckets::RECORD_ENDS_AT + k] as usize) < to {
         return none_held();
     }
-    if (plan[CHILD_ENDS_AT + k] as usize) < last {
+    if (plan[buckets::CHILD_ENDS_AT + k] as usize) < last {
         return none_held();
     }
-    let own = plan[ORDER_AT + k] as usize;
+    let own = plan[buckets::ORDER_AT + k] as usize;
     let p = Part {
         message: g,
         own,
@@ -522,15 +499,15 @@ fn holds_at(
     requires { ⌜ Planned d r (now sizes) (now s) (now plan) × (numbersAt ≤ length (now plan)) × (k < length (now sizes)) × Ordered (length (now sizes)) (now plan) × Ends (length (now sizes)) r (now plan) ⌝ }
     ensures { λ ok. ⌜ (ok ≡ true → HoldsAt d (now (sizes .entry)) (now (s .entry)) (now (plan .entry)) k) ⌝ }
 {
-    let end = plan[MESSAGE_ENDS_AT + k] as usize;
+    let end = plan[buckets::MESSAGE_ENDS_AT + k] as usize;
     let rest = [0u64; 64];
     let mut held = Held {
         ok: true,
-        to: plan[RECORD_ENDS_AT + (k + 1)] as usize,
-        last: plan[CHILD_ENDS_AT + (k + 1)] as usize,
+        to: plan[buckets::RECORD_ENDS_AT + (k + 1)] as usize,
+        last: plan[buckets::CHILD_ENDS_AT + (k + 1)] as usize,
         rest,
     };
-    let mut g = plan[MESSAGE_ENDS_AT + (k + 1)] as usize;
+    let mut g = plan[buckets::MESSAGE_ENDS_AT + (k + 1)] as usize;
     while g < end {
         held = after_message(s, sizes, r, k, g, d, plan, held);
         if !held.ok {

@@ -4,3 +4,4 @@ pub mod AddedAt
 pub mod SumsOf
 pub mod DirectionLaws
 pub mod TableRows
+pub mod Widths

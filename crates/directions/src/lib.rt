@@ -75,16 +75,19 @@ pub fn directions_of(v: [u64; 4], d: Directions) -> [u64; 8]
     all
 }
 
+// Which direction leads.
+pub fn lead_at(d: Directions) -> usize
+    ensures { λ l. ⌜ l ≡ leadAt d ⌝ }
+{
+    if d.sums == 0 { 0 } else { d.objectives }
+}
+
 // The leading sum of a vector that is given in every direction.
 pub fn lead_of(b: [u64; 8], d: Directions) -> u64
     requires { ⌜ Sensible d ⌝ }
     ensures { λ r. ⌜ r ≡ getD b (leadAt d) 0 ⌝ }
 {
-    if d.sums == 0 {
-        return b[0];
-    }
-    let p = d.objectives;
-    b[p]
+    b[lead_at(d)]
 }
 
 // The weights of the leading sum.
@@ -110,8 +113,18 @@ fn shares_for(p: usize) -> [u64; 16]
     [1, 1, 1, 1, 1, 0, 1, 0, 1, 0, 0, 1, 1, 1, 0, 0]
 }
 
+// The lesser of two numbers.
+pub fn lesser(a: u64, b: u64) -> u64
+    ensures { λ r. ⌜ (r ≤ a) × (r ≤ b) ⌝ }
+{
+    if a < b {
+        return a;
+    }
+    b
+}
+
 // The larger of two numbers.
-fn larger(a: u64, b: u64) -> u64
+pub fn larger(a: u64, b: u64) -> u64
     ensures { λ r. ⌜ (a ≤ r) × (b ≤ r) ⌝ }
 {
     if a < b {

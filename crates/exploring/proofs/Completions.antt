@@ -27,16 +27,6 @@ use Rattle.buckets.proofs.Sums.{totals-length}
 use Rattle.buckets.proofs.Bounds.{bound-local, bound-below}
 use Rattle.exploring.specs.States.{problemOf, Partial}
 
-pub lead-inside : (d : DD.Directions) → Sensible d → leadAt d < widthOf d
-lead-inside d h =
-    ⊎-elim
-    (λ (t : eqb (d .sums) 0 ≡ true). rw t (omega (arith, h .some)))
-    (λ (t : eqb (d .sums) 0 ≡ false). let n : d .sums ≡ 0 → ⊥ = eqb-false (d .sums) 0 t in rw t (omega arith))
-    (test (eqb (d .sums) 0))
-
-pub width-few : (d : DD.Directions) → Sensible d → widthOf d ≤ maxDirections
-width-few d h = omega (arith, h .few, h .few-sums)
-
 -- the costs of the searched problem's choices, by its records' places
 pub costs-over : (d : DD.Directions) (r : ℕ) (ceilings ds s work y : List ℕ) → costsOf (problemOf d r ceilings ds s work) y ≡ costsOver d ds s (sourceIn work r) y
 unfolding costsOf totals

@@ -30,10 +30,12 @@ use Rattle.zones.proofs.ZoneRows.{corners-wide}
 use Rattle.buckets.specs.Bounds.{costsOver, Agree}
 use Rattle.buckets.proofs.Sums.{totals-length}
 use Rattle.buckets.proofs.Bounds.{bound-exact}
-use Rattle.exploring.specs.declared.Run as DR
-use Rattle.exploring.specs.States.{planIn, zonesOf, archiveIn, problemOf, AllCovered, Standing, OpenedFrom}
+use Rattle.pruning.specs.declared.Run as DR
+use Rattle.pruning.specs.Tests.{zonesOf}
+use Rattle.exploring.specs.States.{planIn, archiveIn, problemOf, AllCovered, Standing, OpenedFrom}
 use Rattle.exploring.proofs.Memory.{still-trans, framed-zones, framed-still, zones-still, zones-rows}
-use Rattle.exploring.proofs.Completions.{lead-inside, width-few, costs-over, costs-over-wide}
+use Rattle.directions.proofs.Widths.{lead-inside, width-few}
+use Rattle.exploring.proofs.Completions.{costs-over, costs-over-wide}
 use Rattle.exploring.proofs.Zoning.{zoned-split}
 
 -- with the leading weights by another name

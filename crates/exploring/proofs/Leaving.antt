@@ -25,11 +25,13 @@ use Rattle.directions.proofs.DirectionLaws.{directions-mono, directions-lead}
 use Rattle.zones.specs.Zones.{cornersIn}
 use Rattle.zones.proofs.ZoneRows.{listed-corner, corners-wide}
 use Rattle.buckets.specs.Bounds.{costsOver, Agree}
-use Rattle.exploring.specs.declared.Run as DR
-use Rattle.exploring.specs.States.{planIn, zonesOf, archiveIn, problemOf, AllCovered, Standing, OpenedFrom}
-use Rattle.exploring.specs.Tests.{Untied, Dead}
+use Rattle.pruning.specs.declared.Run as DR
+use Rattle.pruning.specs.Tests.{zonesOf}
+use Rattle.exploring.specs.States.{planIn, archiveIn, problemOf, AllCovered, Standing, OpenedFrom}
+use Rattle.pruning.specs.Tests.{Untied, Dead}
 use Rattle.exploring.proofs.Memory.{still-refl}
-use Rattle.exploring.proofs.Completions.{lead-inside, width-few, costs-over, costs-over-wide, completion-not-later, completion-bound, completion-above}
+use Rattle.directions.proofs.Widths.{lead-inside, width-few}
+use Rattle.exploring.proofs.Completions.{costs-over, costs-over-wide, completion-not-later, completion-bound, completion-above}
 
 module _ {d : DD.Directions} {r room : ℕ} {ceilings ds s work : List ℕ} {run : DR.Run} {k : ℕ} {x acc : List ℕ} (h : Standing d r room ceilings ds s work run k x acc) where
   abbrev problem : Problem

@@ -1,11 +1,9 @@
 -- Laws of the search.
-pub mod Ties
 pub mod Memory
 pub mod Completions
 pub mod Leaving
 pub mod Zoning
 pub mod Leaf
-pub mod Zeros
 pub mod Opening
 pub mod Trying
 pub mod Passes

@@ -17,7 +17,8 @@ use Rattle.directions.specs.declared.Directions as DD
 use Rattle.zones.specs.Zones.{zonesEnd}
 use Rattle.buckets.specs.Content.{Planned}
 use Rattle.buckets.specs.Sound.{Sound}
-use Rattle.exploring.specs.States.{planIn, zonesOf, problemOf, Ready, Still}
+use Rattle.pruning.specs.Tests.{zonesOf}
+use Rattle.exploring.specs.States.{planIn, problemOf, Ready, Still}
 
 pub still-refl : (r : ℕ) (work : List ℕ) → Still r work work
 still-refl r work = record { long = refl; plan = refl; source = refl }

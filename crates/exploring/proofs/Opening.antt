@@ -22,7 +22,7 @@ use Rattle.buckets.specs.Content.{Planned}
 use Rattle.buckets.specs.Sound.{Tested, Sound}
 use Rattle.buckets.proofs.Bounds.{sent-local, bound-local, bound-step, bound-limit}
 use Rattle.exploring.specs.States.{Partial}
-use Rattle.exploring.specs.Rows.{Holding, nextBound, Bucket, Away}
+use Rattle.branching.specs.Rows.{Holding, nextBound, Bucket, Away}
 
 module _ {d : DD.Directions} {r : ℕ} {ds s source plan : List ℕ} (w : Sound d r ds s source plan) {k : ℕ} {x acc : List ℕ} (h : Partial d r ds s plan k x acc) (inside : k < length ds) where
   abbrev tested : Tested d r ds s plan

@@ -32,12 +32,12 @@ use Rattle.directions.specs.declared.Directions as DD
 use Rattle.directions.proofs.Directions.{the-type}
 use Rattle.buckets.specs.Bounds.{baseAt, boundAt}
 use Rattle.buckets.proofs.Bounds.{bound-limit}
-use Rattle.exploring.specs.declared.Run as DR
+use Rattle.pruning.specs.declared.Run as DR
 use Rattle.exploring.specs.declared.Explored as DE
 use Rattle.exploring.specs.States.{noLimit, planIn, archiveIn, problemOf, Ready, Running, Partial, Still, Standing, OpenedFrom, Between, Passed, ExploredSays}
 use Rattle.exploring.specs.Passes.{ZonesWritten, ZonesHold}
 use Rattle.exploring.proofs.Memory.{still-trans, problem-still, ready-still, framed-still, zones-still, zones-rows}
-use Rattle.exploring.proofs.Zeros.{zeros-at, zeros-choice}
+use Rattle.branching.proofs.Zeros.{zeros-at, zeros-choice}
 
 module _ {d : DD.Directions} {r room : ℕ} {ceilings ds s work : List ℕ} (h : Ready d r room ceilings ds s work) where
   abbrev problem : Problem

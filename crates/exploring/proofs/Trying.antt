@@ -21,10 +21,10 @@ use Rattle.directions.specs.declared.Directions as DD
 use Rattle.buckets.specs.Places.{orderIn}
 use Rattle.buckets.specs.Bounds.{Agree, boundAt}
 use Rattle.buckets.proofs.Bounds.{bound-local, bound-below}
-use Rattle.exploring.specs.declared.Run as DR
+use Rattle.pruning.specs.declared.Run as DR
 use Rattle.exploring.specs.States.{noLimit, planIn, archiveIn, problemOf, Running, Partial, Still, AllCovered, Standing, OpenedFrom, Opened}
 use Rattle.exploring.proofs.Memory.{still-refl, still-trans, problem-still, ready-still}
-use Rattle.exploring.proofs.Completions.{lead-inside}
+use Rattle.directions.proofs.Widths.{lead-inside}
 use Rattle.exploring.proofs.Leaving.{lead-exact}
 use Rattle.exploring.proofs.Opening.{with-choice, value-inside, value-agree}
 

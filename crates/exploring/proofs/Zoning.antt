@@ -23,7 +23,7 @@ use Rattle.directions.specs.Directions.{Sensible}
 use Rattle.directions.specs.declared.Directions as DD
 use Rattle.zones.specs.Zones.{zonesEnd, cornersIn, Measured, SplitAt, FirstZone}
 use Rattle.zones.proofs.ZoneRows.{corners-wide}
-use Rattle.exploring.specs.States.{zonesOf}
+use Rattle.pruning.specs.Tests.{zonesOf}
 use Rattle.exploring.specs.Passes.{ZonesWritten, ZonesHold}
 use Rattle.exploring.proofs.Memory.{zones-costs, zones-rows, lent-front, lent-behind}
 

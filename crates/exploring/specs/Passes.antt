@@ -7,7 +7,7 @@ use Rattle.model.specs.Archive.{Zoned}
 use Rattle.rows.specs.Rows.{listIn}
 use Rattle.directions.specs.declared.Directions as DD
 use Rattle.zones.specs.Zones.{zonesEnd, cornersIn, Measured}
-use Rattle.exploring.specs.States.{zonesOf}
+use Rattle.pruning.specs.Tests.{zonesOf}
 
 -- only zones are written
 pub record ZonesWritten (d : DD.Directions) (work work′ : List ℕ) (m : ℕ) : Type 0 where

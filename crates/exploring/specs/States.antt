@@ -4,7 +4,7 @@ use mathlib.Core.Bool.{true, false, not}
 use mathlib.Core.List.{List}
 use Prim.Native.Nat.{ℕ, _+_, _≤_, _<_}
 use lib.Dec.{ltb}
-use lib.ListN.{length, getD, take, drop}
+use lib.ListN.{length, getD, drop}
 use Rattle.model.specs.Basics.{All, when}
 use Rattle.model.specs.Limits.{maxPoints}
 use Rattle.model.specs.Problems.{Problem, Word}
@@ -16,20 +16,18 @@ use Rattle.rows.specs.Rows.{listIn}
 use Rattle.suffixes.specs.Gained.{sourceIn, sourceProblem}
 use Rattle.directions.specs.Directions.{directionEnd, widthOf, leadWeights}
 use Rattle.directions.specs.declared.Directions as DD
-use Rattle.zones.specs.Zones.{zonesEnd, cornersIn, Measured}
+use Rattle.zones.specs.Zones.{cornersIn, Measured}
 use Rattle.buckets.specs.Places.{positionIn, numbersAt}
 use Rattle.buckets.specs.Bounds.{boundAt, Agree}
 use Rattle.buckets.specs.Content.{Planned}
 use Rattle.buckets.specs.Sound.{Sound}
-use Rattle.exploring.specs.declared.Run as DR
+use Rattle.pruning.specs.declared.Run as DR
+use Rattle.pruning.specs.Tests.{zonesOf}
 use Rattle.exploring.specs.declared.Explored as DE
 
--- the plan begins behind the archive, and the zones are the first numbers
+-- the plan begins behind the archive
 abbrev pub planIn : List ℕ → List ℕ
 planIn work = drop listEnd work
-
-abbrev pub zonesOf : List ℕ → List ℕ
-zonesOf work = take zonesEnd work
 
 abbrev pub archiveIn : DD.Directions → ℕ → List ℕ → DR.Run → List Point
 archiveIn d n work run = listIn (d .objectives) n work 0 (run .points)

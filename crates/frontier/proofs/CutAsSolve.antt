@@ -8,10 +8,11 @@ use Rattle.model.specs.Calls.{roomOf, workAfter, solveVerdict, solveOutcome, cu
 use Rattle.model.proofs.Reading.{accepted-place}
 use Rattle.model.proofs.Calls.{accepts-solve, cut-accepts, accepts-cut}
 use Rattle.model.proofs.Demands.{demand-3}
-use Rattle.frontier.specs.declared.Halves as DH
-use Rattle.frontier.specs.Says.{SolveSays, CutSays}
-use Rattle.frontier.proofs.SolveAnswers.{listed}
-use Rattle.frontier.proofs.CutAnswers.{list-cut}
+use Rattle.cutting.specs.declared.Halves as DH
+use Rattle.solving.specs.Says.{SolveSays}
+use Rattle.cutting.specs.Says.{CutSays}
+use Rattle.solving.proofs.SolveAnswers.{listed}
+use Rattle.cutting.proofs.CutAnswers.{list-cut}
 
 pub cut-as-solve : (s ss c x w c1 x1 w1 : List ℕ) (r : DH.Halves) → CutSays (cutOutcome s ss c x w) c1 x1 w1 r → r .number ≡ 0 → SolveSays (solveOutcome s c x w) c1 x1 w1 (listed 0 0 (r .count))
 unfolding solveOutcome cutOutcome workAfter

@@ -26,9 +26,6 @@ pub fn widened(ceilings: [u32; 4]) -> [u64; 4]
     ]
 }
 
-// The plan stands behind the archive's rows.
-const PLAN_AT: usize = 3225;
-
 // Plans the search of the `r` records whose places stand where a problem's records are, and answers whether the plan may be relied on.
 fn plan_source(
     s: &[u8],
@@ -40,9 +37,9 @@ fn plan_source(
     requires { ⌜ Plannable r (now sizes) (now s) (now work) × Sensible d ⌝ }
     ensures { λ ok. ⌜ Kept r (now (work .entry)) (now (work .exit)) × (ok ≡ true → PlanSays d r (now (sizes .entry)) (now (s .entry)) (now (work .entry)) (now (work .exit))) ⌝ }
 {
-    groups::copy_numbers(groups::SOURCE_AT, PLAN_AT, r, work);
-    planning::make_plan(s, sizes, r, d, &mut work[PLAN_AT..]);
-    checking::is_sound(s, sizes, r, d, &work[PLAN_AT..])
+    groups::copy_numbers(groups::SOURCE_AT, exploring::PLAN_AT, r, work);
+    planning::make_plan(s, sizes, r, d, &mut work[exploring::PLAN_AT..]);
+    checking::is_sound(s, sizes, r, d, &work[exploring::PLAN_AT..])
 }
 
 // What the second form says where it is not tried.
@@ -76,7 +73,7 @@ fn explore_source(
     if p == 0 {
         return given_up();
     }
-    let apart = planning::spreads(s, sizes, r, ceilings, &work[groups::SOURCE_AT..]);
+    let apart = spreads::spreads_of(s, sizes, r, ceilings, &work[groups::SOURCE_AT..]);
     let d = directions::choose_directions(p, apart);
     if !plan_source(s, sizes, r, d, work) {
         return given_up();

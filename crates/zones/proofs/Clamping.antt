@@ -1,6 +1,6 @@
 -- Numbers as a row has them: what fits 32 bits is itself, and the order stays. The numbers of a bound, clamped one after another.
 use mathlib.Core.Path.{_≡_, refl, _∙_}
-use mathlib.Core.Logic.{⊎-elim}
+use mathlib.Core.Logic.{_⊎_, inl, inr, ⊎-elim}
 use mathlib.Core.List.{List}
 use Prim.Native.Nat.{ℕ, zero, suc, _+_, _-_, _≤_, _<_}
 use native.Mathlib.Omega.{arith}
@@ -34,28 +34,40 @@ clamped-mono x y h =
         (λ t. rw (clamped-large a (ltb-false a wordEnd t)) (omega arith))
         (test (ltb a wordEnd))
 
--- the first i numbers of b are clamped, and zeros follow
-pub record Clamping (b least : List ℕ) (i : ℕ) : Type 0 where
+-- of the first i numbers of b those below w are clamped, and the others are zeros
+pub record Clamping (w : ℕ) (b least : List ℕ) (i : ℕ) : Type 0 where
   pub long : length least ≡ maxDirections
-  pub numbers : (j : ℕ) → j < i → getD least j 0 ≡ clamped (getD b j 0)
-  pub zeros : (j : ℕ) → i ≤ j → getD least j 0 ≡ 0
+  pub numbers : (j : ℕ) → j < i → j < w → getD least j 0 ≡ clamped (getD b j 0)
+  pub zeros : (j : ℕ) → (i ≤ j) ⊎ (w ≤ j) → getD least j 0 ≡ 0
 
 zero-at : (n j : ℕ) → getD (replicate {A = ℕ} n 0) j 0 ≡ 0
 zero-at zero j = refl
 zero-at (suc n) zero = refl
 zero-at (suc n) (suc j) = zero-at n j
 
-pub clamping-start : (b : List ℕ) → Clamping b (replicate maxDirections 0) 0
-clamping-start b = record { long = refl; numbers = λ j l. absurd (omega arith); zeros = λ j l. zero-at maxDirections j }
+pub clamping-start : (w : ℕ) (b : List ℕ) → Clamping w b (replicate maxDirections 0) 0
+clamping-start w b = record { long = refl; numbers = λ j l. absurd (omega arith); zeros = λ j l. zero-at maxDirections j }
 
-pub clamping-next : {b least : List ℕ} {i : ℕ} → Clamping b least i → i < maxDirections → (x : ℕ) → x ≡ clamped (getD b i 0) → Clamping b (set least i x) (i + 1)
-clamping-next {b} {least} {i} u l x e =
-    record {
-      long = length-set least i x ∙ u .long;
-      numbers = below-more
-          (λ j. getD (set least i x) j 0 ≡ clamped (getD b j 0))
-          i
-          (λ j h. getD-set-other least i j x 0 (λ s. omega arith) ∙ u .numbers j h)
-          (getD-set-same least i x 0 (omega (arith, u .long)) ∙ e);
-      zeros = λ j h. getD-set-other least i j x 0 (λ s. omega arith) ∙ u .zeros j (omega arith);
-    }
+module _ {w : ℕ} {b least : List ℕ} {i : ℕ} (u : Clamping w b least i) where
+  pub clamping-next : i < maxDirections → i < w → (x : ℕ) → x ≡ clamped (getD b i 0) → Clamping w b (set least i x) (i + 1)
+  clamping-next l h x e =
+      record {
+        long = length-set least i x ∙ u .long;
+        numbers = below-more
+            (λ j. j < w → getD (set least i x) j 0 ≡ clamped (getD b j 0))
+            i
+            (λ j k m. getD-set-other least i j x 0 (λ s. omega arith) ∙ u .numbers j k m)
+            (λ _. getD-set-same least i x 0 (omega (arith, u .long)) ∙ e);
+        zeros = λ j. ⊎-elim
+            (λ (k : i + 1 ≤ j). getD-set-other least i j x 0 (λ s. omega arith) ∙ u .zeros j (inl (omega arith)))
+            (λ (k : w ≤ j). getD-set-other least i j x 0 (λ s. omega arith) ∙ u .zeros j (inr k));
+      }
+
+  -- a number that is not asked for stays 0
+  pub clamping-past : w ≤ i → Clamping w b least (i + 1)
+  clamping-past h =
+      record {
+        long = u .long;
+        numbers = λ j k m. u .numbers j (omega arith) m;
+        zeros = λ j. ⊎-elim (λ (k : i + 1 ≤ j). u .zeros j (inr (omega arith))) (λ (k : w ≤ j). u .zeros j (inr k));
+      }

@@ -32,15 +32,17 @@ fn clamp(x: u64) -> u32
     4294967295
 }
 
-// The first `width` numbers of a bound, clamped, and zeros, than which no number of a row is smaller.
+// The first `width` numbers of a bound, clamped, and zeros, than which no number of a row is smaller. Always so many rounds, so that all stay in registers.
 fn clamp_bound(b: [u64; 8], width: usize) -> [u32; 8]
     requires { ⌜ width ≤ maxDirections ⌝ }
     ensures { λ r. ⌜ ((j : ℕ) → j < width → getD r j 0 ≡ clamped (getD b j 0)) × ((j : ℕ) → width ≤ j → getD r j 0 ≡ 0) ⌝ }
 {
     let mut least = [0u32; 8];
     let mut i: usize = 0;
-    while i < width {
-        least[i] = clamp(b[i]);
+    while i < ZONE_WIDTH {
+        if i < width {
+            least[i] = clamp(b[i]);
+        }
         i += 1;
     }
     least

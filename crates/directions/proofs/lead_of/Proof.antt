@@ -1,24 +1,24 @@
 -- `directions::lead_of` meets its contract.
-use borrow.Author.Tests.{eq-eqb, ne-eqb}
+use Prim.Native.Nat.{_<_}
+use native.Mathlib.Omega.{arith}
+use Rattle.directions.proofs.Widths.{lead-inside, width-few}
 use borrow.Author.Needs.{needs}
 use Rattle.directions.proofs.lead_of.Statement.{statement}
 use Rattle.directions.proofs.lead_of.Tie as tie
 
-array-read-result : tie.Need-array-read-result
-array-read-result c = search needs
+lead-at-requires : tie.Need-lead-at-requires
+lead-at-requires c κs = search needs
 
-returns : tie.Need-returns
-returns c = rw (eq-eqb _ 0 (c .if1 .taken))
+array-read-result : tie.Need-array-read-result
+array-read-result c =
+    let d = c .before .args .d in
+    omega (arith, c .lead-at .ensures, lead-inside d (c .before .pre), width-few d (c .before .pre))
 
 mul-result : tie.Need-mul-result
-mul-result c = search needs
+mul-result c = let inside : c .lead-at .result < 8 = array-read-result c in omega arith
 
-array-read-result-2 : tie.Need-array-read-result-2
-array-read-result-2 c = search needs
-
-returns-2 : tie.Need-returns-2
-returns-2 c = rw (ne-eqb _ 0 (c .if1 .left))
+returns : tie.Need-returns
+returns c = rw (c .lead-at .ensures)
 
 pub lead-of-spec : {M : Type 1} → statement M
-lead-of-spec =
-    tie.close (tie.spec array-read-result returns mul-result array-read-result-2 returns-2)
+lead-of-spec = tie.close (tie.spec lead-at-requires mul-result array-read-result returns)

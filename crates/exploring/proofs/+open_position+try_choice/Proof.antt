@@ -19,9 +19,9 @@ use Rattle.buckets.specs.Places.{numbersAt, orderIn}
 use Rattle.buckets.specs.Content.{Planned}
 use Rattle.buckets.specs.Sound.{Tested}
 use Rattle.exploring.specs.States.{planIn, Partial}
-use Rattle.exploring.specs.Rows.{Holding, nextBound, Bucket, Away}
+use Rattle.branching.specs.Rows.{Holding, nextBound, Bucket, Away}
 use Rattle.exploring.proofs.Memory.{lent-plan}
-use Rattle.exploring.proofs.Completions.{lead-inside, width-few}
+use Rattle.directions.proofs.Widths.{lead-inside, width-few}
 use Rattle.exploring.proofs.Leaving.{opened-same, dead-covers}
 use Rattle.exploring.proofs.Opening.{variable-inside, next-holding, next-exact, next-partial}
 use Rattle.exploring.proofs.Trying.{Trying, untried, tried-fewer, trying-start, trying-standing, trying-next, trying-end}
@@ -33,15 +33,15 @@ use Rattle.exploring.proofs.+open_position+try_choice.Lts-open_position
 use Rattle.exploring.proofs.try_choice.Reads as try-choice
 use Rattle.exploring.proofs.try_choice.Kinds as try-choice-kinds
 use Rattle.exploring.proofs.+open_position+try_choice.Lts-try_choice as try-choice-lts
-use Rattle.exploring.proofs.away_at.Reads as away-at-reads
-use Rattle.exploring.proofs.bucket_at.Reads as bucket-at-reads
-use Rattle.exploring.proofs.is_alive.Reads as is-alive-reads
-use Rattle.exploring.proofs.leads_of.Reads as leads-of-reads
-use Rattle.exploring.proofs.least_value.Reads as least-value-reads
-use Rattle.exploring.proofs.row_of.Reads as row-of-reads
+use Rattle.branching.proofs.away_at.Reads as away-at-reads
+use Rattle.branching.proofs.bucket_at.Reads as bucket-at-reads
+use Rattle.pruning.proofs.is_alive.Reads as is-alive-reads
+use Rattle.branching.proofs.leads_of.Reads as leads-of-reads
+use Rattle.branching.proofs.least_value.Reads as least-value-reads
+use Rattle.branching.proofs.row_of.Reads as row-of-reads
 use Rattle.exploring.proofs.take_leaf.Reads as take-leaf-reads
-use Rattle.exploring.proofs.variable_at.Reads as variable-at-reads
-use Rattle.exploring.proofs.with_value.Reads as with-value-reads
+use Rattle.branching.proofs.variable_at.Reads as variable-at-reads
+use Rattle.branching.proofs.with_value.Reads as with-value-reads
 use Rattle.exploring.proofs.+open_position+try_choice.{statement}
 use Rattle.exploring.proofs.+open_position+try_choice.Tie.{close}
 
@@ -175,17 +175,17 @@ module _ (t : ℕ) where
 
   module _ (c : Looping) where
     abbrev looping : Begun
-    looping = c .before .before .before .before .before .before .before .before .before .before .before .before .before .before .before .before .before .before .before .before
+    looping = c .before .before .before .before .before .before .before .before .before .before .before .before .before .before .before .before .before .before .before .before .before
 
     -- the choice with the value that is next
-    with-next : (y : List ℕ) → y ≡ set (looping .args .t2) (c .before .before .before .before .before .before .before .before .before .before .before .before .before .variable-at .result) (c .loop .a) → take (length (now (looping .args .sizes))) y ≡ set (choice looping) (orderIn (plan looping) (looping .args .k)) (c .loop .a)
-    with-next y e = ap (λ (u : List ℕ). take (length (now (looping .args .sizes))) u) e ∙ take-set-lt (length (now (looping .args .sizes))) (looping .args .t2) (c .before .before .before .before .before .before .before .before .before .before .before .before .before .variable-at .result) (c .loop .a) (variable-below (c .before .before .before .before .before .before .before .before .before .before .before .before .before)) ∙ ap (λ (i : ℕ). set (choice looping) i (c .loop .a)) (is-variable (c .before .before .before .before .before .before .before .before .before .before .before .before .before))
+    with-next : (y : List ℕ) → y ≡ set (looping .args .t2) (c .before .before .before .before .before .before .before .before .before .before .before .before .before .before .variable-at .result) (c .loop .a) → take (length (now (looping .args .sizes))) y ≡ set (choice looping) (orderIn (plan looping) (looping .args .k)) (c .loop .a)
+    with-next y e = ap (λ (u : List ℕ). take (length (now (looping .args .sizes))) u) e ∙ take-set-lt (length (now (looping .args .sizes))) (looping .args .t2) (c .before .before .before .before .before .before .before .before .before .before .before .before .before .before .variable-at .result) (c .loop .a) (variable-below (c .before .before .before .before .before .before .before .before .before .before .before .before .before .before)) ∙ ap (λ (i : ℕ). set (choice looping) i (c .loop .a)) (is-variable (c .before .before .before .before .before .before .before .before .before .before .before .before .before .before))
 
-    next-is : (b : List ℕ) → ((j : ℕ) → j < widthOf (looping .args .d) → getD b j 0 ≡ nextBound (looping .args .acc) (away (c .before .before .before .before)) (rows (c .before .before .before .before)) (c .loop .a) j) → Partial (looping .args .d) (looping .args .r) (now (looping .args .sizes)) (now (looping .args .s)) (plan looping) (looping .args .k + 1) (set (choice looping) (orderIn (plan looping) (looping .args .k)) (c .loop .a)) b
+    next-is : (b : List ℕ) → ((j : ℕ) → j < widthOf (looping .args .d) → getD b j 0 ≡ nextBound (looping .args .acc) (away (c .before .before .before .before .before)) (rows (c .before .before .before .before .before)) (c .loop .a) j) → Partial (looping .args .d) (looping .args .r) (now (looping .args .sizes)) (now (looping .args .s)) (plan looping) (looping .args .k + 1) (set (choice looping) (orderIn (plan looping) (looping .args .k)) (c .loop .a)) b
     next-is b read =
         let h = looping .pre .1 in
-        let bytes : (at : ℕ) → getD (now (looping .args .s)) at 0 < byteEnd = λ at. omega (arith, c .before .before .before .before .before .before .before .before .before .before .before .before .before .before .before .before .before .before .before .shared-slice-known .given at) in
-        next-partial (h .ready .sound) (h .partial) (inside (c .before .before .before .before .before .before .before .before .before .before .before .before .before .before .before .before)) (rows (c .before .before .before .before)) (away (c .before .before .before .before)) (bucket (c .before .before .before .before)) (sends (c .before .before .before .before)) (h .ready .planned) bytes (c .loop .a) (value-below (c .before .before .before .before) (c .loop .a) (c .loop .inv .0)) b read
+        let bytes : (at : ℕ) → getD (now (looping .args .s)) at 0 < byteEnd = λ at. omega (arith, c .before .before .before .before .before .before .before .before .before .before .before .before .before .before .before .before .before .before .before .before .shared-slice-known .given at) in
+        next-partial (h .ready .sound) (h .partial) (inside (c .before .before .before .before .before .before .before .before .before .before .before .before .before .before .before .before .before)) (rows (c .before .before .before .before .before)) (away (c .before .before .before .before .before)) (bucket (c .before .before .before .before .before)) (sends (c .before .before .before .before .before)) (h .ready .planned) bytes (c .loop .a) (value-below (c .before .before .before .before .before) (c .loop .a) (c .loop .inv .0)) b read
 
   -- ## open_position
 
@@ -264,67 +264,67 @@ module _ (t : ℕ) where
   open-position-leads-of-requires c κs = (c .before .before .before .before .before .before .before .before .before .before .before .before .before .before .before .before .before .pre .1 .ready .planned .sensible, size (c .before .before .before .before .before .before .before .before .before .before) .1, holding (c .before))
 
   open-position-least-value-requires : open-position-lts.Need-least-value-requires (open-calls t) (open-position-at t) open-position.Post Inv-loop μ-loop
-  open-position-least-value-requires c κs = size (c .before .before .before .before .before .before .before .before .before .before .before)
+  open-position-least-value-requires c κs = size (c .before .before .before .before .before .before .before .before .before .before .before .before)
 
   open-position-loop-holds : open-position-lts.Need-loop-holds (open-calls t) (open-position-at t) open-position.Post Inv-loop μ-loop
   open-position-loop-holds c =
-      let h = c .before .before .before .before .before .before .before .before .before .before .before .before .before .before .before .before .before .before .before .pre .1 in
-      let s = c .before .before .before in
-      let read = c .before .leads-of .ensures in
-      let lead = lead-inside (c .before .before .before .before .before .before .before .before .before .before .before .before .before .before .before .before .before .before .before .args .d) (h .ready .planned .sensible) in (
+      let h = c .before .before .before .before .before .before .before .before .before .before .before .before .before .before .before .before .before .before .before .before .pre .1 in
+      let s = c .before .before .before .before in
+      let read = c .before .before .leads-of .ensures in
+      let lead = lead-inside (c .before .before .before .before .before .before .before .before .before .before .before .before .before .before .before .before .before .before .before .before .args .d) (h .ready .planned .sensible) in (
         c .least-value .ensures .0,
         c .least-value .ensures .1,
-        trying-start h (c .before .leads-of .result) (read .0) (λ a l. read .1 a (rw (← is-variable (c .before .before .before .before .before .before .before .before .before .before .before .before)) at l) ∙ next-exact (h .ready .sound) (h .partial) (inside (c .before .before .before .before .before .before .before .before .before .before .before .before .before .before .before)) (rows s) (away s) (bucket s) (sends s) a l (leadAt (c .before .before .before .before .before .before .before .before .before .before .before .before .before .before .before .before .before .before .before .args .d)) lead),
+        trying-start h (c .before .before .leads-of .result) (read .0) (λ a l. read .1 a (rw (← is-variable (c .before .before .before .before .before .before .before .before .before .before .before .before .before)) at l) ∙ next-exact (h .ready .sound) (h .partial) (inside (c .before .before .before .before .before .before .before .before .before .before .before .before .before .before .before .before)) (rows s) (away s) (bucket s) (sends s) a l (leadAt (c .before .before .before .before .before .before .before .before .before .before .before .before .before .before .before .before .before .before .before .before .args .d)) lead),
       )
 
   open-position-mul-if2 : open-position-lts.Need-mul-if2 (open-calls t) (open-position-at t) open-position.Post Inv-loop μ-loop
-  open-position-mul-if2 c = omega (arith, c .loop .inv .0, size (c .before .before .before .before .before .before .before .before .before .before .before .before .before))
+  open-position-mul-if2 c = omega (arith, c .loop .inv .0, size (c .before .before .before .before .before .before .before .before .before .before .before .before .before .before))
 
   open-position-array-read-if2 : open-position-lts.Need-array-read-if2 (open-calls t) (open-position-at t) open-position.Post Inv-loop μ-loop
-  open-position-array-read-if2 c = omega (arith, c .loop .inv .0, size (c .before .before .before .before .before .before .before .before .before .before .before .before .before))
+  open-position-array-read-if2 c = omega (arith, c .loop .inv .0, size (c .before .before .before .before .before .before .before .before .before .before .before .before .before .before))
 
   open-position-with-value-requires : open-position-lts.Need-with-value-requires (open-calls t) (open-position-at t) open-position.Post Inv-loop μ-loop
-  open-position-with-value-requires c κs = omega (arith, variable-below (c .before .before .before .before .before .before .before .before .before .before .before .before .before .before .before), c .before .before .before .before .before .before .before .before .before .before .before .before .before .before .before .before .before .before .before .before .before .before .pre .1 .ready .planned .variables, c .before .before .loop .inv .0, size (c .before .before .before .before .before .before .before .before .before .before .before .before .before .before .before))
+  open-position-with-value-requires c κs = omega (arith, variable-below (c .before .before .before .before .before .before .before .before .before .before .before .before .before .before .before .before), c .before .before .before .before .before .before .before .before .before .before .before .before .before .before .before .before .before .before .before .before .before .before .before .pre .1 .ready .planned .variables, c .before .before .loop .inv .0, size (c .before .before .before .before .before .before .before .before .before .before .before .before .before .before .before .before))
 
   open-position-add-row-of : open-position-lts.Need-add-row-of (open-calls t) (open-position-at t) open-position.Post Inv-loop μ-loop
-  open-position-add-row-of c = omega (arith, width-few (c .before .before .before .before .before .before .before .before .before .before .before .before .before .before .before .before .before .before .before .before .before .before .before .before .before .args .d) (c .before .before .before .before .before .before .before .before .before .before .before .before .before .before .before .before .before .before .before .before .before .before .before .before .before .pre .1 .ready .planned .sensible))
+  open-position-add-row-of c = omega (arith, width-few (c .before .before .before .before .before .before .before .before .before .before .before .before .before .before .before .before .before .before .before .before .before .before .before .before .before .before .args .d) (c .before .before .before .before .before .before .before .before .before .before .before .before .before .before .before .before .before .before .before .before .before .before .before .before .before .before .pre .1 .ready .planned .sensible))
 
   open-position-row-of-requires : open-position-lts.Need-row-of-requires (open-calls t) (open-position-at t) open-position.Post Inv-loop μ-loop
   open-position-row-of-requires c κs =
       let w = c .before .before .before .before .before in
-      let h = c .before .before .before .before .before .before .before .before .before .before .before .before .before .before .before .before .before .before .before .before .before .before .before .before .before .pre .1 in
-      (omega (arith, w .loop .inv .0, size (c .before .before .before .before .before .before .before .before .before .before .before .before .before .before .before .before .before .before)), width-few (c .before .before .before .before .before .before .before .before .before .before .before .before .before .before .before .before .before .before .before .before .before .before .before .before .before .args .d) (h .ready .planned .sensible), holding (c .before .before .before .before .before .before .before .before .before) (w .loop .a) (w .loop .inv .0))
+      let h = c .before .before .before .before .before .before .before .before .before .before .before .before .before .before .before .before .before .before .before .before .before .before .before .before .before .before .pre .1 in
+      (omega (arith, w .loop .inv .0, size (c .before .before .before .before .before .before .before .before .before .before .before .before .before .before .before .before .before .before .before)), width-few (c .before .before .before .before .before .before .before .before .before .before .before .before .before .before .before .before .before .before .before .before .before .before .before .before .before .before .args .d) (h .ready .planned .sensible), holding (c .before .before .before .before .before .before .before .before .before .before) (w .loop .a) (w .loop .inv .0))
 
   open-position-add-try-choice : open-position-lts.Need-add-try-choice (open-calls t) (open-position-at t) open-position.Post Inv-loop μ-loop
-  open-position-add-try-choice c = omega (arith, inside (c .before .before .before .before .before .before .before .before .before .before .before .before .before .before .before .before .before .before .before .before .before .before), c .before .before .before .before .before .before .before .before .before .before .before .before .before .before .before .before .before .before .before .before .before .before .before .before .before .before .pre .1 .ready .planned .variables)
+  open-position-add-try-choice c = omega (arith, inside (c .before .before .before .before .before .before .before .before .before .before .before .before .before .before .before .before .before .before .before .before .before .before .before), c .before .before .before .before .before .before .before .before .before .before .before .before .before .before .before .before .before .before .before .before .before .before .before .before .before .before .before .pre .1 .ready .planned .variables)
 
   open-position-try-choice-requires : open-position-lts.Need-try-choice-requires (open-calls t) (open-position-at t) open-position.Post Inv-loop μ-loop
   open-position-try-choice-requires c κs =
       let w = c .before .before .before .before .before .before .before in
-      let b = c .before .before .before .before .before .before .before .before .before .before .before .before .before .before .before .before .before .before .before .before .before .before .before .before .before .before .before in
+      let b = c .before .before .before .before .before .before .before .before .before .before .before .before .before .before .before .before .before .before .before .before .before .before .before .before .before .before .before .before in
       let partial = next-is w (c .before .row-of .result) (c .before .row-of .ensures) in
-      (omega (arith, inside (c .before .before .before .before .before .before .before .before .before .before .before .before .before .before .before .before .before .before .before .before .before .before .before), b .pre .0), rw (with-next w (c .before .before .before .before .with-value .result) (c .before .before .before .before .with-value .ensures)) (trying-standing (b .pre .1) (w .loop .inv .2) _ (c .before .row-of .result) partial))
+      (omega (arith, inside (c .before .before .before .before .before .before .before .before .before .before .before .before .before .before .before .before .before .before .before .before .before .before .before .before), b .pre .0), rw (with-next w (c .before .before .before .before .with-value .result) (c .before .before .before .before .with-value .ensures)) (trying-standing (b .pre .1) (w .loop .inv .2) _ (c .before .row-of .result) partial))
 
   open-position-mul-leads : open-position-lts.Need-mul-leads (open-calls t) (open-position-at t) open-position.Post Inv-loop μ-loop
-  open-position-mul-leads c = omega (arith, c .before .before .before .before .before .before .before .before .before .before .loop .inv .0, size (c .before .before .before .before .before .before .before .before .before .before .before .before .before .before .before .before .before .before .before .before .before .before .before))
+  open-position-mul-leads c = omega (arith, c .before .before .before .before .before .before .before .before .before .before .loop .inv .0, size (c .before .before .before .before .before .before .before .before .before .before .before .before .before .before .before .before .before .before .before .before .before .before .before .before))
 
   open-position-array-write-leads : open-position-lts.Need-array-write-leads (open-calls t) (open-position-at t) open-position.Post Inv-loop μ-loop
-  open-position-array-write-leads c = omega (arith, c .before .before .before .before .before .before .before .before .before .before .loop .inv .0, size (c .before .before .before .before .before .before .before .before .before .before .before .before .before .before .before .before .before .before .before .before .before .before .before))
+  open-position-array-write-leads c = omega (arith, c .before .before .before .before .before .before .before .before .before .before .loop .inv .0, size (c .before .before .before .before .before .before .before .before .before .before .before .before .before .before .before .before .before .before .before .before .before .before .before .before))
 
   open-position-least-value-requires-2 : open-position-lts.Need-least-value-requires-2 (open-calls t) (open-position-at t) open-position.Post Inv-loop μ-loop
-  open-position-least-value-requires-2 c κs = size (c .before .before .before .before .before .before .before .before .before .before .before .before .before .before .before .before .before .before .before .before .before .before .before)
+  open-position-least-value-requires-2 c κs = size (c .before .before .before .before .before .before .before .before .before .before .before .before .before .before .before .before .before .before .before .before .before .before .before .before .before)
 
   open-position-loop-less : open-position-lts.Need-loop-less (open-calls t) (open-position-at t) open-position.Post Inv-loop μ-loop
   open-position-loop-less c =
-      let w = c .before .before .before .before .before .before .before .before .before .before .before .loop in
-      tried-fewer (w .leads) (w .a) (omega (arith, w .inv .0, w .inv .2 .long, size (c .before .before .before .before .before .before .before .before .before .before .before .before .before .before .before .before .before .before .before .before .before .before .before .before))) (omega (arith, c .before .before .before .before .before .before .before .before .before .if2 .taken, c .before .before .before .before .before .before .before .before .before .before .struct-known .given))
+      let w = c .before .before .before .before .before .before .before .before .before .before .before .before .loop in
+      tried-fewer (w .leads) (w .a) (omega (arith, w .inv .0, w .inv .2 .long, size (c .before .before .before .before .before .before .before .before .before .before .before .before .before .before .before .before .before .before .before .before .before .before .before .before .before .before))) (omega (arith, c .before .before .before .before .before .before .before .before .before .before .if2 .taken, c .before .before .before .before .before .before .before .before .before .before .before .struct-known .given))
 
   open-position-loop-again : open-position-lts.Need-loop-again (open-calls t) (open-position-at t) open-position.Post Inv-loop μ-loop
   open-position-loop-again c =
-      let w = c .before .before .before .before .before .before .before .before .before .before .before in
-      let b = c .before .before .before .before .before .before .before .before .before .before .before .before .before .before .before .before .before .before .before .before .before .before .before .before .before .before .before .before .before .before .before in
-      let called = c .before .before .before .try-choice in
-      let opened = rw (with-next w (c .before .before .before .before .before .before .before .before .with-value .result) (c .before .before .before .before .before .before .before .before .with-value .ensures)) at (called .ensures) in
+      let w = c .before .before .before .before .before .before .before .before .before .before .before .before in
+      let b = c .before .before .before .before .before .before .before .before .before .before .before .before .before .before .before .before .before .before .before .before .before .before .before .before .before .before .before .before .before .before .before .before .before in
+      let called = c .before .before .before .before .try-choice in
+      let opened = rw (with-next w (c .before .before .before .before .before .before .before .before .before .with-value .result) (c .before .before .before .before .before .before .before .before .before .with-value .ensures)) at (called .ensures) in
       (c .least-value2 .ensures .0, c .least-value2 .ensures .1, trying-next (b .pre .1) (w .loop .inv .2) (w .loop .a) _ (called .result) opened)
 
   open-position-same-length-2 : open-position-lts.Need-same-length-2 (open-calls t) (open-position-at t) open-position.Post Inv-loop μ-loop
@@ -333,8 +333,8 @@ module _ (t : ℕ) where
   open-position-returns-2 : open-position-lts.Need-returns-2 (open-calls t) (open-position-at t) open-position.Post Inv-loop μ-loop
   open-position-returns-2 c =
       let w = c .before .before .loop in
-      let b = c .before .before .before .before .before .before .before .before .before .before .before .before .before .before .before .before .before .before .before .before .before .before in
-      trying-end (b .pre .1) (w .inv .2) (inside (c .before .before .before .before .before .before .before .before .before .before .before .before .before .before .before .before .before .before)) (w .a) (λ v l. w .inv .1 v (rw (← is-variable (c .before .before .before .before .before .before .before .before .before .before .before .before .before .before .before)) at l)) (c .if2 .left)
+      let b = c .before .before .before .before .before .before .before .before .before .before .before .before .before .before .before .before .before .before .before .before .before .before .before in
+      trying-end (b .pre .1) (w .inv .2) (inside (c .before .before .before .before .before .before .before .before .before .before .before .before .before .before .before .before .before .before .before)) (w .a) (λ v l. w .inv .1 v (rw (← is-variable (c .before .before .before .before .before .before .before .before .before .before .before .before .before .before .before .before)) at l)) (c .if2 .left)
 
   -- ## try_choice
 

@@ -9,7 +9,7 @@ use Rattle.model.specs.Limits.{maxVariables, byteEnd}
 use Rattle.groups.specs.Layout.{listEnd}
 use Rattle.exploring.specs.States.{Ready, Still}
 use Rattle.exploring.proofs.Memory.{ready-still, zones-still, lent-plan}
-use Rattle.exploring.proofs.Zeros.{front-zeros}
+use Rattle.branching.proofs.Zeros.{front-zeros}
 use Rattle.exploring.proofs.Passes.{root-standing, root-passed}
 use borrow.Author.Needs.{needs}
 use Rattle.exploring.proofs.run_pass.Statement.{statement}

@@ -40,10 +40,10 @@ use Rattle.model.specs.Calls.{listOutcome}
 use Rattle.model.specs.declared.Point.{Point}
 use Rattle.model.proofs.Point as P
 use Rattle.problem.proofs.Walks.{sliceOf, OwnedSlice, twice}
-use Rattle.frontier.specs.declared.Answer.{Answer}
+use Rattle.solving.specs.declared.Answer.{Answer}
 use Rattle.frontier.specs.Says.{asPoints, ListSays, ListExports}
-use Rattle.frontier.proofs.Answer as N
-use Rattle.frontier.proofs.Answer.Laws as N′
+use Rattle.solving.proofs.Answer as N
+use Rattle.solving.proofs.Answer.Laws as N′
 use Rattle.frontier.proofs.ListAnswers.{list-export}
 use Rattle.frontier.proofs.Lent.{sliceAt}
 use Rattle.frontier.proofs.list_points as list

@@ -49,23 +49,24 @@ use Rattle.rows.proofs.copy_points as copy
 use Rattle.rows.proofs.copy_points.Symbol as copy-def
 use Rattle.rows.proofs.copy_points.Symbol.{name as #copy-points}
 use Rattle.rows.proofs.copy_points.Met as copy-thm
-use Rattle.frontier.specs.declared.Answer.{Answer}
-use Rattle.frontier.specs.declared.Listed.{Listed}
-use Rattle.frontier.specs.Says.{answerOf, ListedSays, asPoints, ListSays}
-use Rattle.frontier.proofs.Answer as N
-use Rattle.frontier.proofs.Answer.Laws as N′
-use Rattle.frontier.proofs.Listed as L
-use Rattle.frontier.proofs.Listed.Laws as L′
+use Rattle.solving.specs.declared.Answer.{Answer}
+use Rattle.solving.specs.declared.Listed.{Listed}
+use Rattle.solving.specs.Says.{answerOf, ListedSays}
+use Rattle.frontier.specs.Says.{asPoints, ListSays}
+use Rattle.solving.proofs.Answer as N
+use Rattle.solving.proofs.Answer.Laws as N′
+use Rattle.solving.proofs.Listed as L
+use Rattle.solving.proofs.Listed.Laws as L′
 use Rattle.frontier.proofs.ListAnswers.{list-end}
 use Rattle.frontier.proofs.Lent.{sliceAt, lends, comes-back, shares, shared-back}
-use Rattle.frontier.proofs.list_rows as find
-use Rattle.frontier.proofs.list_rows.Symbol as find-def
-use Rattle.frontier.proofs.list_rows.Symbol.{name as #list-rows}
-use Rattle.frontier.proofs.list_rows.Met as find-thm
-use Rattle.frontier.proofs.settle as end
-use Rattle.frontier.proofs.settle.Symbol as end-def
-use Rattle.frontier.proofs.settle.Symbol.{name as #settle}
-use Rattle.frontier.proofs.settle.Met as end-thm
+use Rattle.solving.proofs.list_rows as find
+use Rattle.solving.proofs.list_rows.Symbol as find-def
+use Rattle.solving.proofs.list_rows.Symbol.{name as #list-rows}
+use Rattle.solving.proofs.list_rows.Met as find-thm
+use Rattle.solving.proofs.settle as end
+use Rattle.solving.proofs.settle.Symbol as end-def
+use Rattle.solving.proofs.settle.Symbol.{name as #settle}
+use Rattle.solving.proofs.settle.Met as end-thm
 use Rattle.frontier.proofs.list_points.Key.{name as #list-points}
 use Rattle.frontier.proofs.list_points as f
 use Rattle.frontier.proofs.list_points.Statement as stated
@@ -273,6 +274,6 @@ list-points-spec 𝓤 H 𝓜 𝓖 𝓡 =
     entered 𝓤 H (tripleOf 𝓤 H A f.signature (f.spec 𝓤 H A (𝓜 .mem) (𝓡 .run)))
     (tables 𝓤 H 𝓜 𝓡 code.env .C) (tables 𝓤 H 𝓜 𝓡 code.env .Λ) #list-points code.function (code.unfolded 𝓤 H 𝓜 𝓡)
     (meets 𝓤 H A W (𝓜 .mem) (𝓡 .run) (tablesOf 𝓤 H 𝓜 (tables 𝓤 H 𝓜 𝓡 code.env))
-    (cited 𝓤 H (Find 𝓤 H A W (𝓜 .mem) (𝓡 .run)) 𝓜 𝓡 code.env #list-rows find-def.routine code.calls-frontier·list-rows (find-thm.met 𝓤 H 𝓜 𝓖 𝓡))
+    (cited 𝓤 H (Find 𝓤 H A W (𝓜 .mem) (𝓡 .run)) 𝓜 𝓡 code.env #list-rows find-def.routine code.calls-solving·list-rows (find-thm.met 𝓤 H 𝓜 𝓖 𝓡))
     (cited 𝓤 H (Copy 𝓤 H A W (𝓜 .mem) (𝓡 .run)) 𝓜 𝓡 code.env #copy-points copy-def.routine code.calls-rows·copy-points (copy-thm.met 𝓤 H 𝓜 𝓖 𝓡))
-    (cited 𝓤 H (End 𝓤 H A W (𝓜 .mem) (𝓡 .run)) 𝓜 𝓡 code.env #settle end-def.routine code.calls-frontier·settle (end-thm.met 𝓤 H 𝓜 𝓖 𝓡)))
+    (cited 𝓤 H (End 𝓤 H A W (𝓜 .mem) (𝓡 .run)) 𝓜 𝓡 code.env #settle end-def.routine code.calls-solving·settle (end-thm.met 𝓤 H 𝓜 𝓖 𝓡)))

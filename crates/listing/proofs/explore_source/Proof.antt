@@ -19,17 +19,17 @@ given-up-requires-2 c κs = search needs
 returns-2 : tie.Need-returns-2
 returns-2 c = (record { long = refl; source = refl }, gave-up _ _ _ _ _ _ (c .given-up2 .ensures))
 
-sub-spreads : tie.Need-sub-spreads
-sub-spreads c = search needs
+sub-spreads-of : tie.Need-sub-spreads-of
+sub-spreads-of c = search needs
 
-part-spreads-start : tie.Need-part-spreads-start
-part-spreads-start c = search needs
+part-spreads-of-start : tie.Need-part-spreads-of-start
+part-spreads-of-start c = search needs
 
-part-spreads-end : tie.Need-part-spreads-end
-part-spreads-end c = search needs
+part-spreads-of-end : tie.Need-part-spreads-of-end
+part-spreads-of-end c = search needs
 
-spreads-requires : tie.Need-spreads-requires
-spreads-requires c κs =
+spreads-of-requires : tie.Need-spreads-of-requires
+spreads-of-requires c κs =
     let s = c .before .before .before .before .before .before .before in
     spreads-asked (s .pre .0)
 
@@ -75,10 +75,10 @@ explore-source-spec =
     returns
     given-up-requires-2
     returns-2
-    sub-spreads
-    part-spreads-start
-    part-spreads-end
-    spreads-requires
+    sub-spreads-of
+    part-spreads-of-start
+    part-spreads-of-end
+    spreads-of-requires
     choose-directions-requires
     plan-source-requires
     given-up-requires-3

@@ -1,7 +1,7 @@
 -- `planning::end_messages` meets its contract. The invariant: only what is written anew has changed.
 use Prim.Native.Nat.{_-_}
-use Rattle.planning.specs.Arranged.{Loose}
-use Rattle.planning.proofs.Arranging.{loose-refl, loose-trans}
+use Rattle.arranging.specs.Arranged.{Loose}
+use Rattle.arranging.proofs.Arranging.{loose-refl, loose-trans}
 use borrow.Author.Needs.{needs}
 use Rattle.planning.proofs.end_messages.Statement.{statement}
 use Rattle.planning.proofs.end_messages.Tie as tie

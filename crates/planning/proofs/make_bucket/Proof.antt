@@ -1,6 +1,6 @@
 -- `planning::make_bucket` meets its contract.
 use native.Mathlib.Omega.{arith}
-use Rattle.planning.proofs.Arranging.{loose-trans, arranged-trans, arranged-loose, planned-arranged}
+use Rattle.arranging.proofs.Arranging.{loose-trans, arranged-trans, arranged-loose, planned-arranged}
 use borrow.Author.Needs.{needs}
 use Rattle.planning.proofs.make_bucket.Statement.{statement}
 use Rattle.planning.proofs.make_bucket.Tie as tie

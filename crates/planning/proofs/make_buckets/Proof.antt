@@ -1,8 +1,8 @@
 -- `planning::make_buckets` meets its contract. The invariant: the plan is rearranged since the loop began.
 use Prim.Native.Nat.{_≤_}
 use native.Mathlib.Omega.{arith}
-use Rattle.planning.specs.Arranged.{Arranged}
-use Rattle.planning.proofs.Arranging.{loose-trans, loose-arranged, arranged-refl, arranged-trans, arranged-loose, planned-arranged}
+use Rattle.arranging.specs.Arranged.{Arranged}
+use Rattle.arranging.proofs.Arranging.{loose-trans, loose-arranged, arranged-refl, arranged-trans, arranged-loose, planned-arranged}
 use borrow.Author.Needs.{needs}
 use Rattle.planning.proofs.make_buckets.Statement.{statement}
 use Rattle.planning.proofs.make_buckets.Tie as tie

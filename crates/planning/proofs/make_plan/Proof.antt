@@ -1,6 +1,6 @@
 -- `planning::make_plan` meets its contract. The slots are filled, and all that follows rearranges them.
-use Rattle.planning.proofs.Filling.{planned-filled, filled-arranged}
-use Rattle.planning.proofs.Arranging.{loose-arranged, arranged-trans, planned-arranged}
+use Rattle.arranging.proofs.Filling.{planned-filled, filled-arranged}
+use Rattle.arranging.proofs.Arranging.{loose-arranged, arranged-trans, planned-arranged}
 use borrow.Author.Needs.{needs}
 use Rattle.planning.proofs.make_plan.Statement.{statement}
 use Rattle.planning.proofs.make_plan.Tie as tie

@@ -1,5 +1,5 @@
 -- `planning::put_ends` meets its contract.
-use Rattle.planning.proofs.Arranging.{loose-trans}
+use Rattle.arranging.proofs.Arranging.{loose-trans}
 use borrow.Author.Needs.{needs}
 use Rattle.planning.proofs.put_ends.Statement.{statement}
 use Rattle.planning.proofs.put_ends.Tie as tie

@@ -1,5 +1,5 @@
 -- `planning::send_constant` meets its contract.
-use Rattle.planning.proofs.Arranging.{loose-trans}
+use Rattle.arranging.proofs.Arranging.{loose-trans}
 use borrow.Author.Needs.{needs}
 use Rattle.planning.proofs.send_constant.Statement.{statement}
 use Rattle.planning.proofs.send_constant.Tie as tie

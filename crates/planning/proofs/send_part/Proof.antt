@@ -1,5 +1,5 @@
 -- `planning::send_part` meets its contract.
-use Rattle.planning.proofs.Arranging.{loose-trans, arranged-trans, arranged-loose, planned-arranged}
+use Rattle.arranging.proofs.Arranging.{loose-trans, arranged-trans, arranged-loose, planned-arranged}
 use borrow.Author.Needs.{needs}
 use Rattle.planning.proofs.send_part.Statement.{statement}
 use Rattle.planning.proofs.send_part.Tie as tie

@@ -2,8 +2,8 @@
 use mathlib.Core.Path.{_≡_}
 use Prim.Native.Nat.{_-_}
 use lib.ListN.{length}
-use Rattle.planning.specs.Arranged.{Arranged}
-use Rattle.planning.proofs.Arranging.{arranged-refl, arranged-trans, planned-arranged}
+use Rattle.arranging.specs.Arranged.{Arranged}
+use Rattle.arranging.proofs.Arranging.{arranged-refl, arranged-trans, planned-arranged}
 use borrow.Author.Needs.{needs}
 use Rattle.planning.proofs.send_parts.Statement.{statement}
 use Rattle.planning.proofs.send_parts.Tie as tie

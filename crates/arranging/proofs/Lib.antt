@@ -1,0 +1,4 @@
+-- The laws that the functions' proofs share.
+pub mod Arranging
+pub mod Filling
+pub mod Products

@@ -1,0 +1,205 @@
+// Reads, writes and rearranges a plan that is being made, so that no record and no message is lost.
+// Every index is tested as it is used, and every number that is read is taken as it comes.
+ghost use mathlib.Core.Path.{_≡_};
+ghost use Prim.Native.Nat.{_≤_, _<_};
+ghost use lib.ListN.{length};
+ghost use Rattle.model.specs.Limits.{maxTables, byteEnd, wordEnd};
+ghost use Rattle.buckets.specs.Places.{numbersAt, maxMessages, childrenAt, looseAt};
+ghost use Rattle.buckets.specs.Messages.{countFrom};
+ghost use Rattle.buckets.proofs.Rearranging.{exchanged};
+ghost use Rattle.groups.proofs.Overwritten.{over};
+ghost use Rattle.arranging.specs.Arranged.{Loose, Arranged};
+
+// The most that a message's number may be; as a place it lies outside of every plan.
+pub const MOST_NUMBER: usize = 4294967295;
+
+// Byte `i`, or 0 behind the end.
+pub fn byte_at(s: &[u8], i: usize) -> usize
+    ensures { λ r. ⌜ r < byteEnd ⌝ }
+{
+    if i < s.len() {
+        return s[i] as usize;
+    }
+    0
+}
+
+// Number `i` of the plan, or 0 behind the end.
+pub fn get(i: usize, plan: &[u32]) -> usize
+    ensures { λ r. ⌜ r < wordEnd ⌝ }
+{
+    if i < plan.len() {
+        return plan[i] as usize;
+    }
+    0
+}
+
+// Writes number `i` of the plan, unless it is one that is only rearranged.
+pub fn put(i: usize, number: usize, plan: &mut [u32])
+    ensures { λ _. ⌜ Loose (now (plan .entry)) (now (plan .exit)) ⌝ }
+{
+    if buckets::LOOSE_AT <= i {
+        if i < plan.len() {
+            if number <= MOST_NUMBER {
+                plan[i] = number as u32;
+            }
+        }
+    }
+}
+
+// Numbers `i` and `j` change places.
+fn exchange(i: usize, j: usize, plan: &mut [u32])
+    requires { ⌜ (i < length (now plan)) × (j < length (now plan)) ⌝ }
+    ensures { λ _. ⌜ now (plan .exit) ≡ exchanged (now (plan .entry)) i j ⌝ }
+{
+    let a = plan[i];
+    let b = plan[j];
+    plan[i] = b;
+    plan[j] = a;
+}
+
+// Two of the `r` records change places.
+fn exchange_records(i: usize, j: usize, r: usize, plan: &mut [u32])
+    requires { ⌜ r ≤ maxTables ⌝ }
+    ensures { λ _. ⌜ Arranged r (now (plan .entry)) (now (plan .exit)) ⌝ }
+{
+    if i < r {
+        if j < r {
+            if buckets::LOOSE_AT <= plan.len() {
+                exchange(i, j, plan);
+            }
+        }
+    }
+}
+
+// Two slots change places.
+fn exchange_slots(i: usize, j: usize, r: usize, plan: &mut [u32])
+    requires { ⌜ r ≤ maxTables ⌝ }
+    ensures { λ _. ⌜ Arranged r (now (plan .entry)) (now (plan .exit)) ⌝ }
+{
+    if i < buckets::MAX_MESSAGES {
+        if j < buckets::MAX_MESSAGES {
+            if buckets::LOOSE_AT <= plan.len() {
+                exchange(buckets::CHILDREN_AT + i, buckets::CHILDREN_AT + j, plan);
+            }
+        }
+    }
+}
+
+// The set with position `k` alone. A set of positions has one bit for each.
+pub fn bit(k: usize) -> u32 {
+    1u32 << (k % 32)
+}
+
+// The positions of the variables of the record at `at`.
+pub fn scope_at(s: &[u8], at: usize, plan: &[u32]) -> u32 {
+    if 65535 < at {
+        return 0;
+    }
+    let a = byte_at(s, at + 3);
+    let mut set: u32 = 0;
+    let mut i: usize = 0;
+    while i < a {
+        let v = byte_at(s, at + 4 + i);
+        set = set | bit(get(buckets::POSITIONS_AT + v, plan));
+        i += 1;
+    }
+    set
+}
+
+// The position of variable `v` as a set.
+fn position_of(v: usize, plan: &[u32]) -> u32 {
+    if v < 24 {
+        return bit(get(buckets::POSITIONS_AT + v, plan));
+    }
+    0
+}
+
+// The positions that message `g` reads.
+pub fn message_scope(g: usize, plan: &[u32]) -> u32 {
+    if buckets::MAX_MESSAGES <= g {
+        return 0;
+    }
+    let at = buckets::MESSAGES_AT + buckets::MESSAGE_WIDTH * g;
+    let mut set: u32 = 0;
+    if get(at + 2, plan) != 0 {
+        set = position_of(get(at + 1, plan), plan);
+    }
+    if get(at + 4, plan) != 0 {
+        set = set | position_of(get(at + 3, plan), plan);
+    }
+    set
+}
+
+// Whether a set has all of `needed`, and nothing outside `allowed`.
+fn is_between(set: u32, needed: u32, allowed: u32) -> bool {
+    if set & needed != needed {
+        return false;
+    }
+    set & !allowed == 0
+}
+
+// Of the records from number `from` to below `to` brings those whose positions have all of `needed` and nothing outside `allowed` to the front, and answers where they end.
+pub fn gather_records(
+    s: &[u8],
+    needed: u32,
+    allowed: u32,
+    from: usize,
+    to: usize,
+    r: usize,
+    plan: &mut [u32],
+) -> usize
+    requires { ⌜ r ≤ maxTables ⌝ }
+    ensures { λ _. ⌜ Arranged r (now (plan .entry)) (now (plan .exit)) ⌝ }
+{
+    let mut end = from;
+    let mut i = from;
+    while i < to {
+        let set = scope_at(s, get(i, plan), plan);
+        if is_between(set, needed, allowed) {
+            exchange_records(end, i, r, plan);
+            end += 1;
+        }
+        i += 1;
+    }
+    end
+}
+
+// The same for the slots, by what their messages read.
+pub fn gather_slots(
+    needed: u32,
+    allowed: u32,
+    from: usize,
+    to: usize,
+    r: usize,
+    plan: &mut [u32],
+) -> usize
+    requires { ⌜ r ≤ maxTables ⌝ }
+    ensures { λ _. ⌜ Arranged r (now (plan .entry)) (now (plan .exit)) ⌝ }
+{
+    let mut end = from;
+    let mut i = from;
+    while i < to {
+        if buckets::MAX_MESSAGES <= i {
+            return end;
+        }
+        let set = message_scope(get(buckets::CHILDREN_AT + i, plan), plan);
+        if is_between(set, needed, allowed) {
+            exchange_slots(end, i, r, plan);
+            end += 1;
+        }
+        i += 1;
+    }
+    end
+}
+
+// Writes the numbers of the messages into the slots, in order.
+pub fn fill_slots(plan: &mut [u32])
+    requires { ⌜ numbersAt ≤ length (now plan) ⌝ }
+    ensures { λ _. ⌜ now (plan .exit) ≡ over (now (plan .entry)) childrenAt (countFrom 0 maxMessages) looseAt ⌝ }
+{
+    let mut i: usize = 0;
+    while i < buckets::MAX_MESSAGES {
+        plan[buckets::CHILDREN_AT + i] = i as u32;
+        i += 1;
+    }
+}

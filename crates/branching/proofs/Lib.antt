@@ -1,0 +1,2 @@
+-- The law of the choice of zeros.
+pub mod Zeros

@@ -1,0 +1,2 @@
+-- The bounds with each value.
+pub mod Rows

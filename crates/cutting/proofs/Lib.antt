@@ -1,0 +1,4 @@
+-- Laws of the cut call.
+pub mod CutRefusals
+pub mod CutAnswers
+pub mod CutEnds

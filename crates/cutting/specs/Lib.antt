@@ -1,0 +1,2 @@
+-- What the cut promises.
+pub mod Says

@@ -1,0 +1,34 @@
+-- What the cut promises: for every input, what the model's definition of the call says.
+use mathlib.Core.Path.{_≡_}
+use mathlib.Core.List.{List}
+use Prim.Native.Nat.{ℕ}
+use lib.Dec.{ltb}
+use Rattle.model.specs.Basics.{pick}
+use Rattle.model.specs.Limits.{workNeed}
+use Rattle.model.specs.Refusals.{workShort, Verdict, verdict, accepted, first}
+use Rattle.model.specs.Reading.{verdictOf, problemOf, placesOf}
+use Rattle.model.specs.Cuts.{linkedVerdict}
+use Rattle.model.specs.Calls.{CutOutcome, sidesVerdict}
+use Rattle.cutting.specs.declared.Halves as DH
+
+-- what the cut call refuses before it searches, with k numbers of work memory: 1 to 11, 12, 13, and 14 with the place of the first linked record
+unfoldable pub cutRefusal : List ℕ → List ℕ → ℕ → Verdict
+cutRefusal s sides k =
+    let q = problemOf s in
+    let short = pick (ltb k workNeed) (verdict workShort 0) accepted in
+    first (verdictOf s) (first short (first (sidesVerdict q sides) (linkedVerdict sides (q .tables) (placesOf s))))
+
+-- a refusal as an answer of the cut call
+abbrev pub uncut : ℕ → ℕ → DH.Halves
+uncut number place = record { number = number; place = place; count = 0; first = 0; second = 0 }
+
+-- the cut call: its answer with how many points each half has, and the three lent buffers on exit
+pub record CutSays (o : CutOutcome) (costs′ choices′ work′ : List ℕ) (r : DH.Halves) : Type 0 where
+  pub number : r .number ≡ o .verdict .number
+  pub place : r .place ≡ o .verdict .place
+  pub count : r .count ≡ o .count
+  pub first-half : r .first ≡ o .first-half
+  pub second-half : r .second ≡ o .second-half
+  pub costs : costs′ ≡ o .costs
+  pub choices : choices′ ≡ o .choices
+  pub work : work′ ≡ o .work

@@ -1,0 +1,81 @@
+-- `numbers::put_entry` meets its contract. The invariant: only what is written anew has changed.
+use mathlib.Core.Path.{_≡_}
+use Prim.Native.Nat.{_≤_, _-_}
+use native.Mathlib.Omega.{arith}
+use Rattle.arranging.proofs.Products.{product-small}
+use lib.ListN.{length}
+use Rattle.arranging.specs.Arranged.{Loose}
+use Rattle.arranging.proofs.Arranging.{loose-refl, loose-trans}
+use borrow.Author.Needs.{needs}
+use Rattle.numbers.proofs.put_entry.Statement.{statement}
+use Rattle.numbers.proofs.put_entry.Tie as tie
+
+abbrev Inv-loop : tie.InvT-loop
+Inv-loop e place width plan₀ numbers at j₀ plan j = Loose plan₀ plan × (length numbers ≡ 8) × (at ≤ 4294967807)
+
+abbrev μ-loop : tie.MeasureT-loop
+μ-loop e place width plan₀ numbers at j₀ plan j = width - j
+
+at-most-requires : tie.Need-at-most-requires Inv-loop μ-loop
+at-most-requires c κs = search needs
+
+mul-at : tie.Need-mul-at Inv-loop μ-loop
+mul-at c = omega (arith, product-small 8 64 (c .before .before .args .width) (c .before .before .args .e) (omega arith) (omega arith))
+
+add-at : tie.Need-add-at Inv-loop μ-loop
+add-at c = omega (arith, c .at-most .ensures, product-small 8 64 (c .before .before .args .width) (c .before .before .args .e) (omega arith) (omega arith))
+
+loop-holds : tie.Need-loop-holds Inv-loop μ-loop
+loop-holds c =
+    let start = c .before .before in
+    (loose-refl _, search needs, omega (arith, c .at-most .ensures, product-small 8 64 (start .args .width) (start .args .e) (omega arith) (omega arith)))
+
+add-put : tie.Need-add-put Inv-loop μ-loop
+add-put c = search needs
+
+mul-put : tie.Need-mul-put Inv-loop μ-loop
+mul-put c = search needs
+
+array-read-put : tie.Need-array-read-put Inv-loop μ-loop
+array-read-put c = search needs
+
+put-requires : tie.Need-put-requires Inv-loop μ-loop
+put-requires c κs = search needs
+
+add-j : tie.Need-add-j Inv-loop μ-loop
+add-j c = search needs
+
+loop-less : tie.Need-loop-less Inv-loop μ-loop
+loop-less c = search needs
+
+loop-again : tie.Need-loop-again Inv-loop μ-loop
+loop-again c =
+    let at-put = c .before .before in
+    let at-loop = at-put .before .before .before in
+    (loose-trans (at-loop .loop .inv .0) (at-put .put .ensures), at-loop .loop .inv .1, at-loop .loop .inv .2)
+
+same-length : tie.Need-same-length Inv-loop μ-loop
+same-length c = search needs
+
+returns : tie.Need-returns Inv-loop μ-loop
+returns c = search needs
+
+pub put-entry-spec : {M : Type 1} → statement M
+put-entry-spec =
+    tie.close
+    (tie.spec
+    Inv-loop
+    μ-loop
+    at-most-requires
+    mul-at
+    add-at
+    loop-holds
+    add-put
+    mul-put
+    array-read-put
+    put-requires
+    add-j
+    loop-less
+    loop-again
+    same-length
+    returns)

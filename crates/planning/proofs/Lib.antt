@@ -1,5 +1,0 @@
--- The laws that the functions' proofs share.
-pub mod Arranging
-pub mod Filling
-pub mod Products
-pub mod Choices

@@ -1,0 +1,46 @@
+-- `pruning::is_alive` meets its contract.
+use mathlib.Core.Path.{refl, sym}
+use mathlib.Core.Logic.{inl, inr}
+use native.Mathlib.Omega.{arith}
+use lib.Seq.{length-take-le}
+use denote.Ref.{now}
+use Rattle.model.proofs.Bits.{true-false}
+use borrow.Author.Needs.{needs}
+use Rattle.zones.specs.Zones.{zonesEnd}
+use Rattle.pruning.proofs.is_alive.Statement.{statement}
+use Rattle.pruning.proofs.is_alive.Tie as tie
+
+lead-of-requires : tie.Need-lead-of-requires
+lead-of-requires c κs = c .before .pre .0
+
+returns : tie.Need-returns
+returns c = λ e. inl (omega (arith, c .before .before .lead-of .ensures, c .if1 .taken))
+
+slice-aggregate-is-reached : tie.Need-slice-aggregate-is-reached
+slice-aggregate-is-reached c =
+    let s = c .before .before .before .before .before in
+    sym (length-take-le zonesEnd (now (s .args .work)) (omega (arith, s .pre .1)))
+
+is-reached-requires : tie.Need-is-reached-requires
+is-reached-requires c κs = (c .before .before .before .before .before .pre .0, c .before .before .before .before .before .pre .2)
+
+returns-2 : tie.Need-returns-2
+returns-2 c = λ e. absurd (true-false refl e)
+
+is-tied-requires : tie.Need-is-tied-requires
+is-tied-requires c κs = search needs
+
+returns-3 : tie.Need-returns-3
+returns-3 c = λ e. inr (c .before .before .is-reached .ensures (c .before .if2 .left), c .is-tied .ensures e)
+
+pub is-alive-spec : {M : Type 1} → statement M
+is-alive-spec =
+    tie.close
+    (tie.spec
+    lead-of-requires
+    returns
+    slice-aggregate-is-reached
+    is-reached-requires
+    returns-2
+    is-tied-requires
+    returns-3)

@@ -1,0 +1,70 @@
+-- `pruning::is_tied_at` meets its contract: a cost, the choice or a sum tells.
+use mathlib.Core.Path.{sym, _∙_, subst}
+use mathlib.Core.List.{List}
+use Prim.Native.Nat.{ℕ, _+_, _<_}
+use native.Mathlib.Omega.{arith}
+use lib.ListN.{getD, take}
+use borrow.Author.Tests.{not-true}
+use mir.Syntax.{w64}
+use Rattle.model.specs.Basics.{All}
+use Rattle.model.specs.Limits.{wordEnd, sumEnd}
+use Rattle.model.specs.Vectors.{atMost}
+use Rattle.model.specs.Archive.{weighted}
+use Rattle.rows.proofs.Arrays.{array-length}
+use Rattle.archive.proofs.RowReads.{front-costs, row-test, costs-small}
+use Rattle.directions.specs.Directions.{maxDirections, weightsOf}
+use denote.Ref.{now}
+use Rattle.pruning.proofs.Ties.{untied-costs, untied-sums}
+use borrow.Author.Needs.{needs}
+use Rattle.pruning.proofs.is_tied_at.Statement.{statement}
+use Rattle.pruning.proofs.is_tied_at.Tie as tie
+
+row-costs-requires : tie.Need-row-costs-requires
+row-costs-requires c κs = search needs
+
+front-of-requires : tie.Need-front-of-requires
+front-of-requires c κs = search needs
+
+is-at-most-requires : tie.Need-is-at-most-requires
+is-at-most-requires c κs = search needs
+
+returns : tie.Need-returns
+returns c =
+    let s = c .before .before .before .before .before in
+    let a = s .args in
+    let costs = row-test (a .d .objectives) (now (a .work)) (a .i) (c .before .before .before .row-costs .result) (s .pre .0 .few) (c .before .before .before .row-costs .ensures) (λ u. atMost (take (a .d .objectives) (c .before .before .front-of .result)) u) _ _ (not-true _ (c .if1 .taken)) (c .before .is-at-most .ensures) in
+    λ e. untied-costs (a .d) (a .n) (now (a .work)) (a .x) (a .b) (a .i) (s .pre .0) (s .pre .1) (s .pre .2) (rw (c .before .before .front-of .ensures) at costs)
+
+is-earlier-at-requires : tie.Need-is-earlier-at-requires
+is-earlier-at-requires c κs = search needs
+
+returns-2 : tie.Need-returns-2
+returns-2 c = λ e t. sym (c .before .is-earlier-at .ensures) ∙ not-true _ (c .if2 .taken)
+
+is-within-requires : tie.Need-is-within-requires
+is-within-requires c κs =
+    let s = c .before .before .before .before .before .before .before in
+    let a = s .args in
+    let words : (k : ℕ) → getD (now (a .work)) k 0 < wordEnd = λ k. omega (arith, c .before .before .before .before .before .before .shared-slice-known .given k) in
+    (s .pre .0, subst (All (λ v. v < sumEnd)) (sym (front-costs (a .d .objectives) (now (a .work)) _ (a .i) (s .pre .0 .few) (c .before .before .before .before .before .row-costs .ensures))) (costs-small (a .d .objectives) (now (a .work)) (a .i) words))
+
+returns-3 : tie.Need-returns-3
+returns-3 c =
+    let s = c .before .before .before .before .before .before .before .before in
+    let a = s .args in
+    let row = front-costs (a .d .objectives) (now (a .work)) _ (a .i) (s .pre .0 .few) (c .before .before .before .before .before .before .row-costs .ensures) in
+    λ e. let (k, l, less) = c .is-within .ensures e in
+    untied-sums (a .d) (a .n) (now (a .work)) (a .x) (a .b) (a .i) (s .pre .0) (s .pre .1) (s .pre .2) (sym (array-length w64 maxDirections (a .b) _ (s .good .1 .1 .0))) k l (subst (λ (u : List ℕ). weighted (weightsOf (a .d) k) u < getD (a .b) (a .d .objectives + k) 0) row less)
+
+pub is-tied-at-spec : {M : Type 1} → statement M
+is-tied-at-spec =
+    tie.close
+    (tie.spec
+    row-costs-requires
+    front-of-requires
+    is-at-most-requires
+    returns
+    is-earlier-at-requires
+    returns-2
+    is-within-requires
+    returns-3)

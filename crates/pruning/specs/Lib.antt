@@ -1,0 +1,2 @@
+-- The tests of a partial choice.
+pub mod Tests

@@ -1,0 +1,112 @@
+// The tests by which the second form of the search leaves a partial choice: by the limit, by the zones, and by archived points that could be replaced.
+ghost use mathlib.Core.Path.{_≡_};
+ghost use mathlib.Core.Bool.{false};
+ghost use Prim.Native.Nat.{ℕ, _+_, _<_, _≤_};
+ghost use lib.ListN.{length, getD, take};
+ghost use Rattle.model.specs.Basics.{All};
+ghost use Rattle.model.specs.Limits.{maxVariables, maxPoints, sumEnd};
+ghost use Rattle.model.specs.Archive.{weighted};
+ghost use Rattle.groups.specs.Layout.{listEnd};
+ghost use Rattle.directions.specs.Directions.{weightsOf, Sensible};
+ghost use Rattle.zones.specs.Zones.{Measured};
+ghost use Rattle.pruning.specs.Tests.{zonesOf};
+ghost use Rattle.pruning.specs.Tests.{Untied, Dead};
+
+// The zones are the first numbers of work memory.
+pub const ZONES_END: usize = 1024;
+
+// How many points and zones there are, and the limit: only vectors with a smaller leading sum are sought.
+pub struct Run {
+    pub points: usize,
+    pub zones: usize,
+    pub limit: u64,
+}
+
+// The first four numbers: the costs, of a bound in every direction.
+pub fn front_of(b: [u64; 8]) -> [u64; 4]
+    ensures { λ c. ⌜ c ≡ take 4 b ⌝ }
+{
+    [b[0], b[1], b[2], b[3]]
+}
+
+// Whether each sum of the bound is at most that of the costs.
+fn is_within(b: [u64; 8], costs: [u64; 4], d: directions::Directions) -> bool
+    requires { ⌜ Sensible d × All (λ c. c < sumEnd) (take (d .objectives) costs) ⌝ }
+    ensures { λ r. ⌜ (r ≡ false → (k : ℕ) × (k < d .sums) × (weighted (weightsOf d k) (take (d .objectives) costs) < getD b (d .objectives + k) 0)) ⌝ }
+{
+    let p = d.objectives;
+    let sums = d.sums;
+    let mut k: usize = 0;
+    while k < sums {
+        if directions::sum_at(costs, k, d) < b[p + k] {
+            return false;
+        }
+        k += 1;
+    }
+    true
+}
+
+// Whether a completion of the choice may have the costs of the archived point in row `i`, and be earlier.
+fn is_tied_at(
+    i: usize,
+    x: [u8; 24],
+    b: [u64; 8],
+    n: usize,
+    d: directions::Directions,
+    work: &[u32],
+) -> bool
+    requires { ⌜ Sensible d × (listEnd ≤ length (now work)) × (i ≤ maxPoints) × (n ≤ maxVariables) ⌝ }
+    ensures { λ r. ⌜ (r ≡ false → Untied d n (now (work .entry)) x b i) ⌝ }
+{
+    let costs = archive::row_costs(i, work);
+    if !vectors::is_at_most(front_of(b), costs, d.objectives) {
+        return false;
+    }
+    if !archive::is_earlier_at(x, i, n, work) {
+        return false;
+    }
+    is_within(b, costs, d)
+}
+
+// The same of the first `c` rows.
+fn is_tied(
+    x: [u8; 24],
+    b: [u64; 8],
+    c: usize,
+    n: usize,
+    d: directions::Directions,
+    work: &[u32],
+) -> bool
+    requires { ⌜ Sensible d × (listEnd ≤ length (now work)) × (c ≤ maxPoints + 1) × (n ≤ maxVariables) ⌝ }
+    ensures { λ r. ⌜ (r ≡ false → (i : ℕ) → i < c → Untied d n (now (work .entry)) x b i) ⌝ }
+{
+    let mut i: usize = 0;
+    while i < c {
+        if is_tied_at(i, x, b, n, d, work) {
+            return true;
+        }
+        i += 1;
+    }
+    false
+}
+
+// Whether completions of a choice with this bound may be new, or earlier than an archived choice with equal costs.
+pub fn is_alive(
+    x: [u8; 24],
+    b: [u64; 8],
+    run: Run,
+    n: usize,
+    d: directions::Directions,
+    work: &[u32],
+) -> bool
+    requires { ⌜ Sensible d × (listEnd ≤ length (now work)) × Measured d (zonesOf (now work)) (run .zones) × (run .points ≤ maxPoints + 1) × (n ≤ maxVariables) ⌝ }
+    ensures { λ r. ⌜ (r ≡ false → Dead d n (now (work .entry)) run x b) ⌝ }
+{
+    if directions::lead_of(b, d) >= run.limit {
+        return false;
+    }
+    if zones::is_reached(b, run.zones, d, &work[..ZONES_END]) {
+        return true;
+    }
+    is_tied(x, b, run.points, n, d, work)
+}

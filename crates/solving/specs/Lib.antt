@@ -1,0 +1,2 @@
+-- What listing a problem promises.
+pub mod Says
