@@ -73,9 +73,23 @@ extern "C" {
     ) -> u8;
 }
 
-/// The plain call as C has it: the number of refusal is the result, and `place` and `count` are
-/// written whatever they held. Callers that only want the answer use `solve_problem`.
-pub fn write_solve(
+/// What the plain call is to the linker, by either form of the search.
+type Solve = unsafe extern "C" fn(
+    *const u8,
+    usize,
+    *mut u32,
+    usize,
+    *mut u8,
+    usize,
+    *mut u32,
+    usize,
+    *mut u32,
+    *mut u32,
+) -> u8;
+
+/// Lends the buffers to one of the plain calls.
+fn lend(
+    solve: Solve,
     problem: &[u8],
     costs: &mut [u32],
     choices: &mut [u8],
@@ -88,7 +102,7 @@ pub fn write_solve(
     // so they overlap neither each other nor the problem. The call keeps no pointer after it
     // returns.
     unsafe {
-        frontier_solve(
+        solve(
             problem.as_ptr(),
             problem.len(),
             costs.as_mut_ptr(),
@@ -103,6 +117,36 @@ pub fn write_solve(
     }
 }
 
+/// What one of the plain calls answers.
+fn answer_of(
+    solve: Solve,
+    problem: &[u8],
+    costs: &mut [u32],
+    choices: &mut [u8],
+    work: &mut [u32],
+) -> Answer {
+    let (mut place, mut count) = (0, 0);
+    let number = lend(solve, problem, costs, choices, work, &mut place, &mut count);
+    Answer {
+        number,
+        place,
+        count,
+    }
+}
+
+/// The plain call as C has it: the number of refusal is the result, and `place` and `count` are
+/// written whatever they held. Callers that only want the answer use `solve_problem`.
+pub fn write_solve(
+    problem: &[u8],
+    costs: &mut [u32],
+    choices: &mut [u8],
+    work: &mut [u32],
+    place: &mut u32,
+    count: &mut u32,
+) -> u8 {
+    lend(frontier_solve, problem, costs, choices, work, place, count)
+}
+
 /// Lists the frontier into the flat buffers.
 pub fn solve_problem(
     problem: &[u8],
@@ -110,13 +154,7 @@ pub fn solve_problem(
     choices: &mut [u8],
     work: &mut [u32],
 ) -> Answer {
-    let (mut place, mut count) = (0, 0);
-    let number = write_solve(problem, costs, choices, work, &mut place, &mut count);
-    Answer {
-        number,
-        place,
-        count,
-    }
+    answer_of(frontier_solve, problem, costs, choices, work)
 }
 
 /// The plain call by the first form of the search: the same answer, later. Benchmarks and tests
@@ -127,27 +165,7 @@ pub fn solve_by_passes(
     choices: &mut [u8],
     work: &mut [u32],
 ) -> Answer {
-    let (mut place, mut count) = (0, 0);
-    // SAFETY: as in `write_solve`.
-    let number = unsafe {
-        frontier_solve_by_passes(
-            problem.as_ptr(),
-            problem.len(),
-            costs.as_mut_ptr(),
-            costs.len(),
-            choices.as_mut_ptr(),
-            choices.len(),
-            work.as_mut_ptr(),
-            work.len(),
-            &mut place,
-            &mut count,
-        )
-    };
-    Answer {
-        number,
-        place,
-        count,
-    }
+    answer_of(frontier_solve_by_passes, problem, costs, choices, work)
 }
 
 /// The cut call as C has it: the number of refusal is the result, and `place`, `count`, `first` and
@@ -164,7 +182,7 @@ pub fn write_cut(
     first: &mut u32,
     second: &mut u32,
 ) -> u8 {
-    // SAFETY: as in `write_solve`; the side list is read only, as the problem is, and the seven
+    // SAFETY: as in `lend`; the side list is read only, as the problem is, and the seven
     // that are written are exclusive.
     unsafe {
         frontier_cut(
@@ -261,7 +279,7 @@ pub fn write_points(
     place: &mut u32,
     count: &mut u32,
 ) -> u8 {
-    // SAFETY: as in `write_solve`, with one list in place of two buffers. `Point` has C's layout,
+    // SAFETY: as in `lend`, with one list in place of two buffers. `Point` has C's layout,
     // and every content of its fields is valid.
     unsafe {
         frontier_points(

@@ -26,9 +26,8 @@ use Rattle.zones.specs.Zones.{cornersIn}
 use Rattle.zones.proofs.ZoneRows.{listed-corner, corners-wide}
 use Rattle.buckets.specs.Bounds.{costsOver, Agree}
 use Rattle.pruning.specs.declared.Run as DR
-use Rattle.pruning.specs.Tests.{zonesOf}
 use Rattle.exploring.specs.States.{planIn, archiveIn, problemOf, AllCovered, Standing, OpenedFrom}
-use Rattle.pruning.specs.Tests.{Untied, Dead}
+use Rattle.pruning.specs.Tests.{zonesOf, Untied, Dead}
 use Rattle.exploring.proofs.Memory.{still-refl}
 use Rattle.directions.proofs.Widths.{lead-inside, width-few}
 use Rattle.exploring.proofs.Completions.{costs-over, costs-over-wide, completion-not-later, completion-bound, completion-above}

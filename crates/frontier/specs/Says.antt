@@ -1,4 +1,4 @@
--- What the public calls promise: for every input, what the model's definition of the call says.
+-- What the exports for C and the call for point records promise. What the other calls promise stands with their work: crates solving, cutting and bounding.
 use mathlib.Core.Path.{_≡_}
 use mathlib.Core.List.{List, [], _∷_}
 use Prim.Native.Nat.{ℕ}

@@ -9,7 +9,7 @@ use Rattle.model.specs.Limits.{maxDomain, maxObjectives}
 use Rattle.model.specs.Vectors.{added}
 use Rattle.model.proofs.Elements.{all-below}
 use Rattle.model.proofs.Sums.{added-length}
-use Rattle.vectors.proofs.Fours.{listed, take-added, added-listed}
+use Rattle.vectors.proofs.Fours.{take-added}
 use Rattle.merge.specs.Sums.{Values}
 
 added-at : (xs ys : List ℕ) (i : ℕ) → i < length xs → i < length ys → getD (added xs ys) i 0 ≡ getD xs i 0 + getD ys i 0
@@ -50,10 +50,7 @@ module _ (work : List ℕ) (a b n : ℕ) (la : a + n ≤ length work) (lb : b + 
     sums-small w = rw (← sums-at) (all-below (λ v. v < maxDomain) sums w i 0 (omega (arith, sums-long)))
 
 -- the first p of four costs from a and from b on
-pub costs-added : (work : List ℕ) (a b p : ℕ) → a + maxObjectives ≤ length work → b + maxObjectives ≤ length work → p ≤ maxObjectives → (x y : List ℕ) → x ≡ take maxObjectives (drop a work) → y ≡ take maxObjectives (drop b work) → take p (listed (λ o. getD x o 0 + getD y o 0)) ≡ addedIn work a b p
-costs-added work a b p la lb few x y ex ey =
-    let four-x : length x ≡ maxObjectives = rw ex (length-take-le maxObjectives (drop a work) (omega (arith, length-drop a work))) in
-    let four-y : length y ≡ maxObjectives = rw ey (length-take-le maxObjectives (drop b work) (omega (arith, length-drop b work))) in
-    ap (take p) (added-listed x y four-x four-y)
-    ∙ take-added p x y
-    ∙ rw (ex, ey, take-take p maxObjectives (drop a work) few, take-take p maxObjectives (drop b work) few)
+pub costs-added : (work : List ℕ) (a b p : ℕ) → p ≤ maxObjectives → take p (added (take maxObjectives (drop a work)) (take maxObjectives (drop b work))) ≡ addedIn work a b p
+costs-added work a b p few =
+    take-added p (take maxObjectives (drop a work)) (take maxObjectives (drop b work))
+    ∙ rw (take-take p maxObjectives (drop a work) few, take-take p maxObjectives (drop b work) few)

@@ -69,7 +69,7 @@ fn sum_of(work: &[u32], i: usize, j: usize, p: usize, n: usize) -> search::Best
     let choice = choice_sum(work, a + 4, b + 4, n);
     search::Best {
         found: true,
-        costs: [x[0] + y[0], x[1] + y[1], x[2] + y[2], x[3] + y[3]],
+        costs: vectors::sum(x, y),
         choice,
     }
 }

@@ -9,8 +9,7 @@ ghost use Rattle.model.specs.Archive.{weighted};
 ghost use Rattle.groups.specs.Layout.{listEnd};
 ghost use Rattle.directions.specs.Directions.{weightsOf, Sensible};
 ghost use Rattle.zones.specs.Zones.{Measured};
-ghost use Rattle.pruning.specs.Tests.{zonesOf};
-ghost use Rattle.pruning.specs.Tests.{Untied, Dead};
+ghost use Rattle.pruning.specs.Tests.{zonesOf, Untied, Dead};
 
 // The zones are the first numbers of work memory.
 pub const ZONES_END: usize = 1024;

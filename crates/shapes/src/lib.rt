@@ -20,6 +20,7 @@ pub struct Shape {
     pub place: usize,
 }
 
+// The number, or `most` where it is larger.
 pub fn at_most(x: usize, most: usize) -> usize
     ensures { λ r. ⌜ r ≤ most ⌝ }
 {

@@ -6,8 +6,10 @@ use native.Mathlib.Omega.{arith}
 use native.Mathlib.Nat.{add-zero}
 use lib.ListN.{length, getD, take, drop, length-drop}
 use lib.Seq.{take-all, getD-take, getD-drop}
-use Rattle.model.specs.Limits.{maxObjectives}
+use Rattle.model.specs.Basics.{All}
+use Rattle.model.specs.Limits.{maxObjectives, wordEnd}
 use Rattle.model.specs.Vectors.{added}
+use Rattle.vectors.specs.Fronts.{Half}
 
 abbrev pub listed : (ℕ → ℕ) → List ℕ
 listed f = f 0 ∷ f 1 ∷ f 2 ∷ f 3 ∷ []
@@ -28,6 +30,12 @@ four-from xs at h = sym (four-listed (drop at xs) (omega (arith, length-drop at 
 
 pub four-at : (xs : List ℕ) (at : ℕ) (c : List ℕ) → c ≡ take maxObjectives (drop at xs) → (o : ℕ) → o < maxObjectives → getD c o 0 ≡ getD xs (at + o) 0
 four-at xs at c e o l = rw (e, getD-take maxObjectives (drop at xs) o 0 l, getD-drop at xs o 0)
+
+-- four words from a place on are of half the range
+pub four-half : (xs : List ℕ) (at : ℕ) → at + maxObjectives ≤ length xs → ((i : ℕ) → getD xs i 0 < wordEnd) → All Half (take maxObjectives (drop at xs))
+four-half xs at l h =
+    let small : (i : ℕ) → Half (getD (drop at xs) i 0) = λ i. rw (getD-drop at xs i 0) (omega (arith, h (at + i))) in
+    rw (four-listed (drop at xs) (omega (arith, length-drop at xs))) (small 0, (small 1, (small 2, (small 3, tt))))
 
 pub at-listed : (f : ℕ → ℕ) (o : ℕ) → o < maxObjectives → getD (listed f) o 0 ≡ f o
 at-listed f zero l = refl

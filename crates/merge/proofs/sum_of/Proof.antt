@@ -1,11 +1,13 @@
 -- `merge::sum_of` meets its contract: numbers of work memory are small enough that no sum of two wraps.
-use Prim.Native.Nat.{ℕ, _+_, _<_}
+use Prim.Native.Nat.{ℕ, _+_, _≤_}
 use native.Mathlib.Omega.{arith}
-use lib.ListN.{getD}
+use lib.ListN.{length, take, drop}
 use denote.Ref.{now}
-use Rattle.model.specs.Limits.{maxObjectives, wordEnd}
+use Rattle.model.specs.Basics.{All}
+use Rattle.model.specs.Limits.{maxObjectives}
 use Rattle.rows.specs.Rows.{rowAt}
-use Rattle.vectors.proofs.Fours.{four-at}
+use Rattle.vectors.specs.Fronts.{Half}
+use Rattle.vectors.proofs.Fours.{four-half}
 use Rattle.merge.proofs.Adding.{costs-added}
 use borrow.Author.Needs.{needs}
 use Rattle.merge.proofs.sum_of.Statement.{statement}
@@ -38,56 +40,17 @@ add-choice-sum-2 c = search needs
 choice-sum-requires : tie.Need-choice-sum-requires
 choice-sum-requires c κs = search needs
 
-array-read-t16 : tie.Need-array-read-t16
-array-read-t16 c = search needs
-
-array-read-t19 : tie.Need-array-read-t19
-array-read-t19 c = search needs
-
-small : (c : tie.After-choice-sum) (o : ℕ) → o < maxObjectives → getD (c .before .before .costs-at .result) o 0 + getD (c .before .costs-at2 .result) o 0 < wordEnd + wordEnd
-small c o l =
-    let known = c .before .before .before .shared-slice-known .given in
+sum-requires : tie.Need-sum-requires
+sum-requires c κs =
     let s = c .before .before .before .before in
-    let work = now (s .args .work) in
-    omega (arith, four-at work (rowAt (s .args .i)) (c .before .before .costs-at .result) (c .before .before .costs-at .ensures) o l, four-at work (rowAt (s .args .j)) (c .before .costs-at2 .result) (c .before .costs-at2 .ensures) o l, known (rowAt (s .args .i) + o), known (rowAt (s .args .j) + o))
-
-add-t20 : tie.Need-add-t20
-add-t20 c = omega (arith, small c 0 (omega arith))
-
-array-read-t23 : tie.Need-array-read-t23
-array-read-t23 c = search needs
-
-array-read-t26 : tie.Need-array-read-t26
-array-read-t26 c = search needs
-
-add-t27 : tie.Need-add-t27
-add-t27 c = omega (arith, small c 1 (omega arith))
-
-array-read-t30 : tie.Need-array-read-t30
-array-read-t30 c = search needs
-
-array-read-t33 : tie.Need-array-read-t33
-array-read-t33 c = search needs
-
-add-t34 : tie.Need-add-t34
-add-t34 c = omega (arith, small c 2 (omega arith))
-
-array-read-t37 : tie.Need-array-read-t37
-array-read-t37 c = search needs
-
-array-read-t40 : tie.Need-array-read-t40
-array-read-t40 c = search needs
-
-add-t41 : tie.Need-add-t41
-add-t41 c = omega (arith, small c 3 (omega arith))
+    let half : (at : ℕ) → at + maxObjectives ≤ length (now (s .args .work)) → All Half (take maxObjectives (drop at (now (s .args .work)))) = λ at l. four-half (now (s .args .work)) at l (λ i. omega (arith, c .before .before .before .shared-slice-known .given i)) in
+    (rw (c .before .before .costs-at .ensures) (half (rowAt (s .args .i)) (omega arith)), rw (c .before .costs-at2 .ensures) (half (rowAt (s .args .j)) (omega arith)))
 
 returns : tie.Need-returns
 returns c =
-    let s = c .before .before .before .before in
-    let a = s .args in
-    let work = now (a .work) in
-    let costs = costs-added work (rowAt (a .i)) (rowAt (a .j)) (a .p) (omega arith) (omega arith) (s .pre .0) (c .before .before .costs-at .result) (c .before .costs-at2 .result) (c .before .before .costs-at .ensures) (c .before .costs-at2 .ensures) in
-    rw (costs, c .choice-sum .ensures)
+    let s = c .before .before .before .before .before in
+    let costs = costs-added (now (s .args .work)) (rowAt (s .args .i)) (rowAt (s .args .j)) (s .args .p) (s .pre .0) in
+    rw (c .sum .ensures, c .before .before .before .costs-at .ensures, c .before .before .costs-at2 .ensures, costs, c .before .choice-sum .ensures)
 
 pub sum-of-spec : {M : Type 1} → statement M
 sum-of-spec =
@@ -102,16 +65,5 @@ sum-of-spec =
     add-choice-sum
     add-choice-sum-2
     choice-sum-requires
-    array-read-t16
-    array-read-t19
-    add-t20
-    array-read-t23
-    array-read-t26
-    add-t27
-    array-read-t30
-    array-read-t33
-    add-t34
-    array-read-t37
-    array-read-t40
-    add-t41
+    sum-requires
     returns)

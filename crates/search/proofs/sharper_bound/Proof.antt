@@ -1,15 +1,12 @@
 -- `search::sharper_bound` meets its contract: a bound is small enough that no gain makes it wrap.
-use mathlib.Core.Path.{_≡_}
-use Prim.Native.Nat.{ℕ, _+_, _*_, _≤_, _<_}
+use Prim.Native.Nat.{_+_, _*_, _≤_}
 use native.Mathlib.Omega.{arith}
-use lib.ListN.{length, getD, drop, length-drop}
-use lib.Seq.{getD-drop}
 use denote.Ref.{now}
 use Rattle.model.specs.Basics.{All}
-use Rattle.model.specs.Limits.{maxObjectives, sumEnd}
+use Rattle.model.specs.Limits.{sumEnd}
 use Rattle.model.proofs.Elements.{all-map}
 use Rattle.vectors.specs.Fronts.{Half}
-use Rattle.vectors.proofs.Fours.{four-listed}
+use Rattle.vectors.proofs.Fours.{four-half}
 use Rattle.groups.specs.Layout.{gainsAt}
 use borrow.Author.Needs.{needs}
 use Rattle.search.proofs.sharper_bound.Statement.{statement}
@@ -28,10 +25,7 @@ costs-at-requires c κs = search needs
 gains-small : (c : tie.After-costs-at) → All Half (c .costs-at .result)
 gains-small c =
     let s = c .before .before .before in
-    let work = now (s .args .work) in
-    let at = gainsAt + 4 * s .args .x .len in
-    let small : (i : ℕ) → getD (drop at work) i 0 < 9223372036854775808 = λ i. rw (getD-drop at work i 0) (omega (arith, c .before .before .shared-slice-known .given (at + i))) in
-    rw (c .costs-at .ensures, four-listed (drop at work) (omega (arith, length-drop at work, s .pre .0, s .pre .1))) (small 0, (small 1, (small 2, (small 3, tt))))
+    rw (c .costs-at .ensures) (four-half (now (s .args .work)) (gainsAt + 4 * s .args .x .len) (omega (arith, s .pre .0, s .pre .1)) (λ i. omega (arith, c .before .before .shared-slice-known .given i)))
 
 sum-requires : tie.Need-sum-requires
 sum-requires c κs =
