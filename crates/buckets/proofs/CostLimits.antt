@@ -10,14 +10,10 @@ use Rattle.model.specs.Problems.{Word, sizeOf}
 use Rattle.model.specs.Encoding.{Byte}
 use Rattle.model.specs.Reading.{wordsIn, tableArity, tableScope, tableOf}
 use Rattle.model.specs.Costs.{entryFrom, costOf, total, totalsFrom}
-use Rattle.model.proofs.Elements.{all-at, all-drop}
+use Rattle.model.proofs.Elements.{all-at, all-each, all-drop}
 use Rattle.model.proofs.Words.{words-below}
 use Rattle.model.proofs.Totals.{total-limit}
 use Rattle.groups.specs.Groups.{tablesOver}
-
-all-bytes : (s : List ℕ) → ((i : ℕ) → getD s i 0 < byteEnd) → All Byte s
-all-bytes [] h = tt
-all-bytes (b ∷ s) h = (h 0, all-bytes s (λ i. h (suc i)))
 
 length-over : (ds s places : List ℕ) → length (tablesOver ds s places) ≡ length places
 unfolding tablesOver
@@ -49,4 +45,4 @@ module _ (ds s y : List ℕ) (bytes : All Byte s) where
 
 -- s has bytes only
 pub costs-small : (ds s y : List ℕ) → ((i : ℕ) → getD s i 0 < byteEnd) → (p o : ℕ) (places : List ℕ) → length places ≤ maxTables → All (λ c. c < sumEnd) (totalsFrom p o (costOf ds y) (tablesOver ds s places))
-costs-small ds s y bytes p o places few = totals-small ds s y (all-bytes s bytes) p o places few
+costs-small ds s y bytes p o places few = totals-small ds s y (all-each Byte 0 s bytes) p o places few

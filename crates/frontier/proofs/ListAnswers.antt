@@ -15,8 +15,8 @@ use Rattle.rows.specs.Rows.{listIn, recordOf, recordsOf}
 use Rattle.rows.proofs.RowParts.{rows-length}
 use Rattle.solving.specs.declared.Answer as DA
 use Rattle.solving.specs.declared.Listed as DI
-use Rattle.solving.specs.Says.{answerOf, listVerdict, ListedSays}
-use Rattle.frontier.specs.Says.{asPoint, asPoints, ListSays, ListExports}
+use Rattle.solving.specs.Says.{listVerdict, ListedSays}
+use Rattle.frontier.specs.Says.{asPoint, asPoints, ListExports}
 
 -- records as points: how many, one list over another, and those of points
 points-count : (rs : List DP.Point) → length (asPoints rs) ≡ length rs
@@ -52,12 +52,13 @@ over-listed false ps old = refl
 
 -- the records are written from the list in work memory, and work memory is settled
 pub list-end : (s w w1 w2 : List ℕ) (old new : List DP.Point) (r : DI.Listed) → ListedSays s (length old) w w1 r → new ≡ over (recordsOf (listIn (r .objectives) (r .variables) w1 0 (r .count))) old
-    → w2 ≡ pick (eqb (r .number) 0) (replicate (length w1) 0) w1 → ListSays (listOutcome s (asPoints old) w) new w2 (answerOf r)
+    → w2 ≡ pick (eqb (r .number) 0) (replicate (length w1) 0) w1 → ListExports s (listOutcome s (asPoints old) w) new w2 (r .number) (r .place) (r .count)
 unfolding listOutcome
 list-end s w w1 w2 old new r says e z =
     let v = listVerdict s (length old) w in
     let same : solveVerdict s w (min (length (asPoints old)) maxPoints) ≡ v = rw (points-count old) in
     record {
+      bytes = says .bytes;
       number = rw same (says .number);
       place = rw same (says .place);
       count = rw same (counted (answers v) (says .list));
@@ -73,5 +74,14 @@ list-end s w w1 w2 old new r says e z =
     counted false h = sym (rows-length (r .objectives) (r .variables) w1 0 (r .count)) ∙ ap length h
 
 -- the answer as it is handed to C
-pub list-export : (o : ListOutcome) (new : List DP.Point) (w2 : List ℕ) (a : DA.Answer) → ListSays o new w2 a → (n at k : ℕ) → (n ≡ a .number) × (at ≡ a .place) × (k ≡ a .count) → ListExports o new w2 n at k
-list-export o new w2 a says n at k e = record { number = e .0 ∙ says .number; place = e .1 ∙ says .place; count = e .2 ∙ says .count; points = says .points; work = says .work }
+pub list-export : (s : List ℕ) (o : ListOutcome) (new : List DP.Point) (w2 : List ℕ) (a : DA.Answer)
+    → ListExports s o new w2 (a .number) (a .place) (a .count) → (n at k : ℕ)
+    → (n ≡ a .number) × (at ≡ a .place) × (k ≡ a .count) → ListExports s o new w2 n at k
+list-export s o new w2 a says n at k e = record {
+  bytes = says .bytes;
+  number = e .0 ∙ says .number;
+  place = e .1 ∙ says .place;
+  count = e .2 ∙ says .count;
+  points = says .points;
+  work = says .work;
+}

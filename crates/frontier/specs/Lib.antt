@@ -1,2 +1,3 @@
--- What the public calls promise.
+-- What the public calls promise, and what a caller has by these promises.
 pub mod Says
+pub mod Demands

@@ -1,14 +1,19 @@
--- What the exports for C and the call for point records promise. What the other calls promise stands with their work: crates solving, cutting and bounding.
+-- What the public calls promise, for Rattle and for C alike: number, place, count and half sizes are those of the
+-- model's definition of the call, and so is every element of the lent buffers on exit. A slice of bytes has bytes by its
+-- type; the promise says so, because demand 1 is about byte strings.
 use mathlib.Core.Path.{_≡_}
 use mathlib.Core.List.{List, [], _∷_}
 use Prim.Native.Nat.{ℕ}
+use Rattle.model.specs.Basics.{All}
+use Rattle.model.specs.Encoding.{Byte}
 use Rattle.model.specs.Frontiers.{Point, point}
-use Rattle.model.specs.Calls.{SolveOutcome, ListOutcome, CutOutcome, boundOutcome}
+use Rattle.model.specs.Calls.{SolveOutcome, ListOutcome, CutOutcome, BoundOutcome}
 use Rattle.model.specs.declared.Point as DP
-use Rattle.solving.specs.declared.Answer as DA
 
--- the plain call for C, as SolveSays of crate solving has it: the number is the result, place and count go through references
-pub record SolveExports (o : SolveOutcome) (costs′ choices′ work′ : List ℕ) (result at points : ℕ) : Type 0 where
+-- the plain call
+pub record SolveExports (s : List ℕ) (o : SolveOutcome) (costs′ choices′ work′ : List ℕ) (result at points : ℕ)
+    : Type 0 where
+  pub bytes : All Byte s
   pub number : result ≡ o .verdict .number
   pub place : at ≡ o .verdict .place
   pub count : points ≡ o .count
@@ -24,30 +29,27 @@ unfoldable pub asPoints : List DP.Point → List Point
 asPoints [] = []
 asPoints (r ∷ rs) = asPoint r ∷ asPoints rs
 
--- the call for point records: its answer, and the two lent buffers on exit
-pub record ListSays (o : ListOutcome) (points′ : List DP.Point) (work′ : List ℕ) (r : DA.Answer) : Type 0 where
-  pub number : r .number ≡ o .verdict .number
-  pub place : r .place ≡ o .verdict .place
-  pub count : r .count ≡ o .count
-  pub points : asPoints points′ ≡ o .points
-  pub work : work′ ≡ o .work
-
--- the same for C
-pub record ListExports (o : ListOutcome) (points′ : List DP.Point) (work′ : List ℕ) (result at listed : ℕ) : Type 0 where
+-- the call for point records
+pub record ListExports (s : List ℕ) (o : ListOutcome) (points′ : List DP.Point) (work′ : List ℕ) (result at listed : ℕ)
+    : Type 0 where
+  pub bytes : All Byte s
   pub number : result ≡ o .verdict .number
   pub place : at ≡ o .verdict .place
   pub count : listed ≡ o .count
   pub points : asPoints points′ ≡ o .points
   pub work : work′ ≡ o .work
 
--- the bound call for C, as BoundSays of crate bounding has it: the number is the result, the rest goes through references
-pub record BoundExports (problem prefix : List ℕ) (result at : ℕ) (bounds : List ℕ) : Type 0 where
-  pub number : result ≡ boundOutcome problem prefix .verdict .number
-  pub place : at ≡ boundOutcome problem prefix .verdict .place
-  pub least : bounds ≡ boundOutcome problem prefix .least
+-- the bound call
+pub record BoundExports (s : List ℕ) (o : BoundOutcome) (result at : ℕ) (bounds : List ℕ) : Type 0 where
+  pub bytes : All Byte s
+  pub number : result ≡ o .verdict .number
+  pub place : at ≡ o .verdict .place
+  pub least : bounds ≡ o .least
 
--- the cut call for C, as CutSays of crate cutting has it: the number is the result, the other numbers go through references
-pub record CutExports (o : CutOutcome) (costs′ choices′ work′ : List ℕ) (result at points points-0 points-1 : ℕ) : Type 0 where
+-- the cut call, with how many points each half has
+pub record CutExports (s : List ℕ) (o : CutOutcome) (costs′ choices′ work′ : List ℕ)
+    (result at points points-0 points-1 : ℕ) : Type 0 where
+  pub bytes : All Byte s
   pub number : result ≡ o .verdict .number
   pub place : at ≡ o .verdict .place
   pub count : points ≡ o .count

@@ -1,10 +1,7 @@
 // The public calls, and their exports for C.
 ghost use mathlib.Core.Path.{_≡_};
-ghost use Rattle.model.specs.Calls.{solveOutcome, listOutcome, cutOutcome};
-ghost use Rattle.solving.specs.Says.{SolveSays};
-ghost use Rattle.bounding.specs.Says.{BoundSays};
-ghost use Rattle.cutting.specs.Says.{CutSays};
-ghost use Rattle.frontier.specs.Says.{asPoints, SolveExports, ListSays, ListExports, CutExports, BoundExports};
+ghost use Rattle.model.specs.Calls.{solveOutcome, listOutcome, cutOutcome, boundOutcome};
+ghost use Rattle.frontier.specs.Says.{asPoints, SolveExports, ListExports, CutExports, BoundExports};
 
 // The plain call.
 pub fn solve_problem(
@@ -13,7 +10,9 @@ pub fn solve_problem(
     choices: &mut [u8],
     work: &mut [u32],
 ) -> solving::Answer
-    ensures { λ r. ⌜ SolveSays (solveOutcome (now (problem .entry)) (now (costs .entry)) (now (choices .entry)) (now (work .entry))) (now (costs .exit)) (now (choices .exit)) (now (work .exit)) r ⌝ }
+    ensures { λ r. ⌜ SolveExports (now (problem .entry))
+        (solveOutcome (now (problem .entry)) (now (costs .entry)) (now (choices .entry)) (now (work .entry)))
+        (now (costs .exit)) (now (choices .exit)) (now (work .exit)) (r .number) (r .place) (r .count) ⌝ }
 {
     solving::solve_with(problem, costs, choices, work, false)
 }
@@ -25,14 +24,17 @@ pub fn solve_by_passes(
     choices: &mut [u8],
     work: &mut [u32],
 ) -> solving::Answer
-    ensures { λ r. ⌜ SolveSays (solveOutcome (now (problem .entry)) (now (costs .entry)) (now (choices .entry)) (now (work .entry))) (now (costs .exit)) (now (choices .exit)) (now (work .exit)) r ⌝ }
+    ensures { λ r. ⌜ SolveExports (now (problem .entry))
+        (solveOutcome (now (problem .entry)) (now (costs .entry)) (now (choices .entry)) (now (work .entry)))
+        (now (costs .exit)) (now (choices .exit)) (now (work .exit)) (r .number) (r .place) (r .count) ⌝ }
 {
     solving::solve_with(problem, costs, choices, work, true)
 }
 
 // An answer for C: the number is the result, place and count go through references.
 fn tell(answer: solving::Answer, place: &mut u32, count: &mut u32) -> u8
-    ensures { λ r. ⌜ (r ≡ answer .number) × (now (place .exit) ≡ answer .place) × (now (count .exit) ≡ answer .count) ⌝ }
+    ensures { λ r. ⌜ (r ≡ answer .number) × (now (place .exit) ≡ answer .place)
+        × (now (count .exit) ≡ answer .count) ⌝ }
 {
     *place = answer.place;
     *count = answer.count;
@@ -48,7 +50,9 @@ pub extern "C" fn frontier_solve(
     place: &mut u32,
     count: &mut u32,
 ) -> u8
-    ensures { λ r. ⌜ SolveExports (solveOutcome (now (problem .entry)) (now (costs .entry)) (now (choices .entry)) (now (work .entry))) (now (costs .exit)) (now (choices .exit)) (now (work .exit)) r (now (place .exit)) (now (count .exit)) ⌝ }
+    ensures { λ r. ⌜ SolveExports (now (problem .entry))
+        (solveOutcome (now (problem .entry)) (now (costs .entry)) (now (choices .entry)) (now (work .entry)))
+        (now (costs .exit)) (now (choices .exit)) (now (work .exit)) r (now (place .exit)) (now (count .exit)) ⌝ }
 {
     let answer = solve_problem(problem, costs, choices, work);
     tell(answer, place, count)
@@ -63,7 +67,9 @@ pub extern "C" fn frontier_solve_by_passes(
     place: &mut u32,
     count: &mut u32,
 ) -> u8
-    ensures { λ r. ⌜ SolveExports (solveOutcome (now (problem .entry)) (now (costs .entry)) (now (choices .entry)) (now (work .entry))) (now (costs .exit)) (now (choices .exit)) (now (work .exit)) r (now (place .exit)) (now (count .exit)) ⌝ }
+    ensures { λ r. ⌜ SolveExports (now (problem .entry))
+        (solveOutcome (now (problem .entry)) (now (costs .entry)) (now (choices .entry)) (now (work .entry)))
+        (now (costs .exit)) (now (choices .exit)) (now (work .exit)) r (now (place .exit)) (now (count .exit)) ⌝ }
 {
     let answer = solve_by_passes(problem, costs, choices, work);
     tell(answer, place, count)
@@ -71,7 +77,9 @@ pub extern "C" fn frontier_solve_by_passes(
 
 // The frontier list as point records. Proved by hand, thin over functions on plain slices.
 pub fn list_points(problem: &[u8], points: &mut [model::Point], work: &mut [u32]) -> solving::Answer
-    ensures { λ r. ⌜ ListSays (listOutcome (now (problem .entry)) (asPoints (now (points .entry))) (now (work .entry))) (now (points .exit)) (now (work .exit)) r ⌝ }
+    ensures { λ r. ⌜ ListExports (now (problem .entry))
+        (listOutcome (now (problem .entry)) (asPoints (now (points .entry))) (now (work .entry)))
+        (now (points .exit)) (now (work .exit)) (r .number) (r .place) (r .count) ⌝ }
 {
     let found = solving::list_rows(problem, points.len(), work);
     rows::copy_points(work, found.count, found.variables, found.objectives, points);
@@ -86,7 +94,9 @@ pub extern "C" fn frontier_points(
     place: &mut u32,
     count: &mut u32,
 ) -> u8
-    ensures { λ r. ⌜ ListExports (listOutcome (now (problem .entry)) (asPoints (now (points .entry))) (now (work .entry))) (now (points .exit)) (now (work .exit)) r (now (place .exit)) (now (count .exit)) ⌝ }
+    ensures { λ r. ⌜ ListExports (now (problem .entry))
+        (listOutcome (now (problem .entry)) (asPoints (now (points .entry))) (now (work .entry)))
+        (now (points .exit)) (now (work .exit)) r (now (place .exit)) (now (count .exit)) ⌝ }
 {
     let answer = list_points(problem, points, work);
     tell(answer, place, count)
@@ -94,7 +104,8 @@ pub extern "C" fn frontier_points(
 
 // The bound of a prefix: for each objective the sum of the least entries that agree with it.
 pub fn bound_prefix(problem: &[u8], prefix: &[u8]) -> bounding::Least
-    ensures { λ r. ⌜ BoundSays (now (problem .entry)) (now (prefix .entry)) r ⌝ }
+    ensures { λ r. ⌜ BoundExports (now (problem .entry)) (boundOutcome (now (problem .entry)) (now (prefix .entry)))
+        (r .number) (r .place) (r .least) ⌝ }
 {
     bounding::bound_of(problem, prefix)
 }
@@ -106,7 +117,8 @@ pub extern "C" fn frontier_bound(
     least: &mut [u64; 4],
     place: &mut u32,
 ) -> u8
-    ensures { λ r. ⌜ BoundExports (now (problem .entry)) (now (prefix .entry)) r (now (place .exit)) (now (least .exit)) ⌝ }
+    ensures { λ r. ⌜ BoundExports (now (problem .entry)) (boundOutcome (now (problem .entry)) (now (prefix .entry)))
+        r (now (place .exit)) (now (least .exit)) ⌝ }
 {
     let answer = bound_prefix(problem, prefix);
     let bounds = answer.least;
@@ -123,7 +135,11 @@ pub fn solve_cut(
     choices: &mut [u8],
     work: &mut [u32],
 ) -> cutting::Halves
-    ensures { λ r. ⌜ CutSays (cutOutcome (now (problem .entry)) (now (sides .entry)) (now (costs .entry)) (now (choices .entry)) (now (work .entry))) (now (costs .exit)) (now (choices .exit)) (now (work .exit)) r ⌝ }
+    ensures { λ r. ⌜ CutExports (now (problem .entry))
+        (cutOutcome (now (problem .entry)) (now (sides .entry))
+        (now (costs .entry)) (now (choices .entry)) (now (work .entry)))
+        (now (costs .exit)) (now (choices .exit)) (now (work .exit))
+        (r .number) (r .place) (r .count) (r .first) (r .second) ⌝ }
 {
     cutting::cut_problem(problem, sides, costs, choices, work)
 }
@@ -140,7 +156,11 @@ pub extern "C" fn frontier_cut(
     first: &mut u32,
     second: &mut u32,
 ) -> u8
-    ensures { λ r. ⌜ CutExports (cutOutcome (now (problem .entry)) (now (sides .entry)) (now (costs .entry)) (now (choices .entry)) (now (work .entry))) (now (costs .exit)) (now (choices .exit)) (now (work .exit)) r (now (place .exit)) (now (count .exit)) (now (first .exit)) (now (second .exit)) ⌝ }
+    ensures { λ r. ⌜ CutExports (now (problem .entry))
+        (cutOutcome (now (problem .entry)) (now (sides .entry))
+        (now (costs .entry)) (now (choices .entry)) (now (work .entry)))
+        (now (costs .exit)) (now (choices .exit)) (now (work .exit))
+        r (now (place .exit)) (now (count .exit)) (now (first .exit)) (now (second .exit)) ⌝ }
 {
     let answer = solve_cut(problem, sides, costs, choices, work);
     *place = answer.place;

@@ -1,21 +1,20 @@
 -- When the calls answer: exactly where no part of their verdict refuses.
 use mathlib.Core.Path.{_≡_, refl}
-use mathlib.Core.Bool.{Bool, true, false}
+use mathlib.Core.Bool.{true}
 use mathlib.Core.List.{List, [], _∷_}
 use Prim.Native.Nat.{ℕ, _≤_}
 use lib.Dec.{ltb}
 use lib.ListN.{length, getD, drop}
-use borrow.Author.Tests.{ltb-false, le-ltb, eqb-false}
-use Rattle.model.specs.Basics.{pick}
+use borrow.Author.Tests.{ltb-false, le-ltb}
 use Rattle.model.specs.Limits.{maxPoints, workNeed}
-use Rattle.model.specs.Refusals.{workShort, badSides, linked, full, verdict, accepted, first}
+use Rattle.model.specs.Refusals.{workShort, badSides, linked, full, accepted, first}
 use Rattle.model.specs.Problems.{Table, Problem}
 use Rattle.model.specs.Reading.{verdictOf, problemOf, placesOf}
 use Rattle.model.specs.Frontiers.{Point, frontier}
 use Rattle.model.specs.Cuts.{sidesOk, crosses, linkedVerdict, uncrossed, half, cutList}
 use Rattle.model.specs.Demands.{Cuttable}
 use Rattle.model.specs.Calls.{workVerdict, roomVerdict, solveVerdict, sidesVerdict, cutRoomVerdict, cutVerdict}
-use Rattle.model.proofs.Verdicts.{first-accepts, accepts-both, test-accepts}
+use Rattle.model.proofs.Verdicts.{first-accepts, accepts-both, test-accepts, picked-accepts}
 use Rattle.model.proofs.Reading.{accepted-place}
 use Rattle.model.proofs.Cut.{cut-frontier}
 use Rattle.model.proofs.Halves.{uncrossed-first, uncrossed-rest}
@@ -40,11 +39,7 @@ accepts-room room ps h = rw (le-ltb room (length ps) h) refl
 
 pub sides-accept : (q : Problem) (sides : List ℕ) → sidesVerdict q sides .number ≡ 0 → sidesOk q sides ≡ true
 unfolding sidesVerdict
-sides-accept q sides h = go (sidesOk q sides) refl h
-  where
-    go : (b : Bool) → sidesOk q sides ≡ b → pick b accepted (verdict badSides 0) .number ≡ 0 → sidesOk q sides ≡ true
-    go true e k = e
-    go false e k = absurd (eqb-false badSides 0 refl k)
+sides-accept q sides h = picked-accepts (sidesOk q sides) badSides refl h
 
 pub accepts-sides : (q : Problem) (sides : List ℕ) → sidesOk q sides ≡ true → sidesVerdict q sides ≡ accepted
 unfolding sidesVerdict

@@ -19,6 +19,11 @@ module _ {A : Type 0} (P : A → Type 0) where
   all-at (x ∷ xs) h zero d o = h .0
   all-at (x ∷ xs) h (suc i) d o = all-at xs (h .1) i d o
 
+  -- of every place of a list, also of what is read past its end
+  pub all-each : (d : A) (xs : List A) → ((i : ℕ) → P (getD xs i d)) → All P xs
+  all-each d [] h = tt
+  all-each d (x ∷ xs) h = (h 0, all-each d xs (λ i. h (suc i)))
+
   pub all-in : (xs : List A) → ((x : A) → In x xs → P x) → All P xs
   all-in [] h = tt
   all-in (x ∷ xs) h = (h x (here refl), all-in xs (λ y m. h y (there m)))

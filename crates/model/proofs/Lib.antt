@@ -58,6 +58,11 @@ pub mod Zones
 pub mod Merging
 -- the calls and the demands
 pub mod Calls
+pub mod Told
+pub mod Flat
+pub mod Buffers
+pub mod SolveBuffers
+pub mod CutBuffers
 pub mod Agreement
 pub mod Demands
 -- what is proved by computation

@@ -11,7 +11,7 @@ use Rattle.model.specs.Basics.{All}
 use Rattle.model.specs.Refusals.{leftover, accepted}
 use Rattle.model.specs.Problems.{Table, TableRules}
 use Rattle.model.specs.Encoding.{Byte, tableBytes, tablesBytes}
-use Rattle.model.specs.Reading.{tableLength, tableNumber, tableOf, tablesVerdict, tablesAt}
+use Rattle.model.specs.Reading.{tableLength, tableNumber, tableOf, tablesVerdict, tablesAt, placesAt}
 use Rattle.model.proofs.Elements.{all-drop}
 use Rattle.model.proofs.Verdicts.{test-accepts, record-accepts, accepts-record}
 use Rattle.model.proofs.TableRecord.{table-good, length-table, table-read, table-accepted, table-written}
@@ -37,6 +37,11 @@ pub length-tablesAt : (r : ℕ) (ds s : List ℕ) (at : ℕ) → length (tablesA
 unfolding tablesAt
 length-tablesAt zero ds s at = refl
 length-tablesAt (suc r) ds s at = ap suc (length-tablesAt r ds s (at + tableLength ds (drop at s)))
+
+pub length-placesAt : (r : ℕ) (ds s : List ℕ) (at : ℕ) → length (placesAt r ds s at) ≡ r
+unfolding placesAt
+length-placesAt zero ds s at = refl
+length-placesAt (suc r) ds s at = ap suc (length-placesAt r ds s (at + tableLength ds (drop at s)))
 
 -- what holds of each record whose number is 0 holds of every table
 module _ (p : ℕ) (ds s : List ℕ) (P : Table → Type 0) (each : (at : ℕ) → tableNumber p ds (drop at s) ≡ 0 → P (tableOf ds (drop at s))) where

@@ -70,6 +70,10 @@ pub test-accepts : (t : Bool) (n at : ℕ) (v : Verdict) → eqb n 0 ≡ false �
 test-accepts true n at v e h = absurd (eqb-false n 0 e h)
 test-accepts false n at v e h = (refl, h)
 
+pub picked-accepts : (t : Bool) (n : ℕ) → eqb n 0 ≡ false → pick t accepted (verdict n 0) .number ≡ 0 → t ≡ true
+picked-accepts true n e h = refl
+picked-accepts false n e h = absurd (eqb-false n 0 e h)
+
 -- the same where the first verdict is that of one record
 pub record-accepts : (at n : ℕ) (v : Verdict) → first (refusedAt at n) v .number ≡ 0 → (n ≡ 0) × (v .number ≡ 0)
 record-accepts at n v h =

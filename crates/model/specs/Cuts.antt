@@ -68,7 +68,7 @@ halfTables k ss (t ∷ ts) = keepIf (inHalf k ss (t .scope)) (halfTable k ss t) 
 unfoldable pub half : ℕ → Problem → List ℕ → Problem
 half k q ss = record { objectives = q .objectives; ceilings = q .ceilings; domains = onSide k ss (q .domains); tables = halfTables k ss (q .tables) }
 
--- each variable has the value of its half's choice
+-- "merged choice" is document 01's term: each variable has the value of its half's choice
 unfoldable pub merged : List ℕ → List ℕ → List ℕ → List ℕ
 merged [] xs ys = []
 merged (zero ∷ ss) [] ys = []

@@ -22,7 +22,7 @@ same [] (y ∷ ys) = false
 same (x ∷ xs) [] = false
 same (x ∷ xs) (y ∷ ys) = eqb x y && same xs ys
 
--- dominates: at most as large everywhere, and different
+-- "beats" is document 01's term for dominates: at most as large everywhere, and different
 abbrev pub beats : List ℕ → List ℕ → Bool
 beats xs ys = atMost xs ys && not (same xs ys)
 

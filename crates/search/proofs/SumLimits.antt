@@ -11,17 +11,13 @@ use Rattle.model.specs.Encoding.{Byte}
 use Rattle.model.specs.Reading.{wordsIn, tableArity, tableScope, tableOf}
 use Rattle.model.specs.Costs.{total}
 use Rattle.model.specs.Bounds.{leastOf}
-use Rattle.model.proofs.Elements.{all-at, all-drop}
+use Rattle.model.proofs.Elements.{all-at, all-each, all-drop}
 use Rattle.model.proofs.Words.{words-below}
 use Rattle.model.proofs.Totals.{total-limit}
 use Rattle.model.proofs.LeastEntry.{least-limit}
 use Rattle.groups.specs.Layout.{recordsAt}
 use Rattle.groups.specs.Groups.{tablesOver, placesIn}
 use Rattle.search.specs.States.{tablesIn}
-
-all-bytes : (s : List ℕ) → ((i : ℕ) → getD s i 0 < byteEnd) → All Byte s
-all-bytes [] h = tt
-all-bytes (b ∷ s) h = (h 0, all-bytes s (λ i. h (suc i)))
 
 length-over : (ds s places : List ℕ) → length (tablesOver ds s places) ≡ length places
 unfolding tablesOver
@@ -47,4 +43,4 @@ pub total-fits : (ds s work pre : List ℕ) (r o : ℕ) → r ≤ maxTables → 
 total-fits ds s work pre r o few bytes =
     let ts = tablesIn r ds s work in
     let n : length ts ≤ maxTables = omega (arith, length-over ds s (placesIn work r), length-take r (drop recordsAt work)) in
-    omega (arith, total-limit o wordEnd (leastOf ds pre) ts (all-words ds s pre (all-bytes s bytes) (placesIn work r)))
+    omega (arith, total-limit o wordEnd (leastOf ds pre) ts (all-words ds s pre (all-each Byte 0 s bytes) (placesIn work r)))

@@ -1,9 +1,8 @@
 -- A list that is in work memory and fits the lent buffers: the room by their lengths, and what copying it out asks.
 use mathlib.Core.Path.{_≡_, sym, subst}
 use mathlib.Core.List.{List}
-use Prim.Native.Nat.{ℕ, zero, suc, _*_, _≤_, min}
+use Prim.Native.Nat.{ℕ, _*_, _≤_, min}
 use native.Mathlib.Omega.{arith}
-use native.Mathlib.Nat.{le-div-iff-mul-le}
 use lib.ListN.{length}
 use Rattle.model.specs.Basics.{All}
 use Rattle.model.specs.Limits.{maxPoints, maxObjectives, maxVariables}
@@ -11,17 +10,12 @@ use Rattle.model.specs.Encoding.{Byte}
 use Rattle.model.specs.Reading.{problemOf}
 use Rattle.model.specs.Frontiers.{frontier}
 use Rattle.model.specs.Calls.{divided, roomOf}
+use Rattle.model.proofs.Flat.{divided-fits}
 use Rattle.groups.specs.Layout.{listEnd}
 use Rattle.rows.specs.Rows.{listIn}
 use Rattle.problem.specs.declared.Reading as DG
 use Rattle.problem.proofs.Accepted.{AcceptedReading}
 use Rattle.solving.proofs.SolveSteps.{objectives-are, variables-are, list-bytes}
-
--- as many points as the room fit the buffer
-fits : (k a b : ℕ) → 1 ≤ b → k ≤ divided a b → k * b ≤ a
-unfolding divided
-fits k a zero h l = absurd (omega arith)
-fits k a (suc b) h l = le-div-iff-mul-le h .0 l
 
 module _ (s : List ℕ) (r : DG.Reading) (a : AcceptedReading s r) (c x : List ℕ) where
   abbrev n : ℕ
@@ -36,7 +30,7 @@ module _ (s : List ℕ) (r : DG.Reading) (a : AcceptedReading s r) (c x : List �
 
   module _ (w : List ℕ) (k : ℕ) (memory : listEnd ≤ length w) (few : k ≤ min (divided (length c) p) (min (divided (length x) n) maxPoints)) where
     pub costs-asked : (listEnd ≤ length w) × (k ≤ maxPoints) × (p ≤ maxObjectives) × (k * p ≤ length c)
-    costs-asked = (memory, omega (arith, few), a .few-objectives .1, fits k (length c) p (a .few-objectives .0) (omega (arith, few)))
+    costs-asked = (memory, omega (arith, few), a .few-objectives .1, divided-fits k (length c) p (omega (arith, few)))
 
     pub choices-asked : listIn p n w 0 k ≡ frontier (problemOf s) → (listEnd ≤ length w) × (k ≤ maxPoints) × (n ≤ maxVariables) × (k * n ≤ length x) × All (λ t. All Byte (t .choice)) (listIn p n w 0 k)
-    choices-asked list = (memory, omega (arith, few), a .few-variables .1, fits k (length x) n (a .few-variables .0) (omega (arith, few)), subst (All (λ t. All Byte (t .choice))) (sym list) (list-bytes s r a))
+    choices-asked list = (memory, omega (arith, few), a .few-variables .1, divided-fits k (length x) n (omega (arith, few)), subst (All (λ t. All Byte (t .choice))) (sym list) (list-bytes s r a))

@@ -9,6 +9,8 @@ use lib.ListN.{length, replicate, length-replicate}
 use borrow.Author.Tests.{ne-eqb}
 use Rattle.model.specs.Limits.{maxPoints, workNeed}
 use Rattle.model.specs.Refusals.{full, Verdict, verdict, accepted}
+use Rattle.model.specs.Basics.{All}
+use Rattle.model.specs.Encoding.{Byte}
 use Rattle.model.specs.Reading.{problemOf}
 use Rattle.model.specs.Frontiers.{frontier}
 use Rattle.model.specs.Calls.{workAfter}
@@ -26,17 +28,17 @@ hold-none : (w : List ℕ) → RowsHold 0 0 0 w
 unfolding listIn
 hold-none w = record { objectives = omega arith; variables = omega arith; few = omega arith; memory = λ h. absurd (omega arith); bytes = tt }
 
-module _ (s : List ℕ) (room : ℕ) (w : List ℕ) where
+module _ (s : List ℕ) (room : ℕ) (w : List ℕ) (bytes : All Byte s) where
   pub unchanged-rows : (v : Verdict) → listVerdict s room w ≡ v → (n at : ℕ) → n ≡ v .number → at ≡ v .place → (n ≡ 0 → ⊥) → (n ≡ full → ⊥) → ListedSays s room w w (unlisted n at)
   unfolding listIn workAfter
   unchanged-rows v is n at e f h k =
       let refuses : eqb (v .number) 0 ≡ false = ne-eqb (v .number) 0 (λ z. h (e ∙ z)) in
       let other : eqb (v .number) full ≡ false = ne-eqb (v .number) full (λ z. k (e ∙ z)) in
-      record { number = rw is e; place = rw is f; list = rw (is, refuses) refl; fits = omega arith; hold = hold-none w; left = rw (is, refuses, other) refl; long = refl }
+      record { number = rw is e; place = rw is f; list = rw (is, refuses) refl; fits = omega arith; hold = hold-none w; left = rw (is, refuses, other) refl; long = refl; bytes = bytes }
 
   full-rows : listVerdict s room w ≡ verdict full 0 → ListedSays s room w (replicate (length w) 0) (unlisted full 0)
   unfolding listIn workAfter
-  full-rows is = record { number = rw is refl; place = rw is refl; list = rw is refl; fits = omega arith; hold = hold-none (replicate (length w) 0); left = rw is refl; long = length-replicate (length w) 0 }
+  full-rows is = record { number = rw is refl; place = rw is refl; list = rw is refl; fits = omega arith; hold = hold-none (replicate (length w) 0); left = rw is refl; long = length-replicate (length w) 0; bytes = bytes }
 
   module _ (r : DG.Reading) (a : AcceptedReading s r) (enough : workNeed ≤ length w) (room′ : ℕ) (room-as : room′ ≡ min room maxPoints) (f : DF.Found) (w1 : List ℕ) (says : FoundFor (problemOf s) room′ w w1 f) where
     small : room′ ≤ maxPoints
@@ -62,4 +64,5 @@ module _ (s : List ℕ) (room : ℕ) (w : List ℕ) where
           hold = rows.hold s r a room′ small w w1 enough f says t;
           left = rw is (ap (λ k. replicate k 0) (rows.kept s r a room′ small w w1 enough f says));
           long = rows.kept s r a room′ small w w1 enough f says;
+          bytes = bytes;
         }

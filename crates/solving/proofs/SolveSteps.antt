@@ -17,7 +17,7 @@ use Rattle.model.specs.Costs.{isChoice}
 use Rattle.model.specs.Frontiers.{frontier}
 use Rattle.model.specs.Calls.{padded}
 use Rattle.model.proofs.Bits.{and-left, and-right}
-use Rattle.model.proofs.Elements.{all-in, all-append, all-drop}
+use Rattle.model.proofs.Elements.{all-each, all-in, all-append, all-drop}
 use Rattle.model.proofs.Words.{length-wordsIn, words-below}
 use Rattle.model.proofs.Frontier.{frontier-best}
 use Rattle.problem.specs.declared.Reading as DG
@@ -25,11 +25,6 @@ use Rattle.problem.proofs.Accepted.{AcceptedReading}
 use Rattle.passes.specs.declared.Found as DF
 use Rattle.listing.specs.Says.{problemAt, Accepted}
 use Rattle.passes.specs.Says.{FoundFor}
-
--- elements one by one
-all-from : (P : ℕ → Type 0) (xs : List ℕ) → ((i : ℕ) → P (getD xs i 0)) → All P xs
-all-from P [] h = tt
-all-from P (x ∷ xs) h = (h 0, all-from P xs (λ i. h (suc i)))
 
 all-zeros : (n : ℕ) → All Word (replicate n 0)
 all-zeros zero = tt
@@ -88,7 +83,7 @@ module _ (s : List ℕ) (r : DG.Reading) (a : AcceptedReading s r) where
         objectives = a .few-objectives .1;
         tables = a .few-tables;
         bytes = a .short;
-        words = rw (a .ceilings) (all-append Word (wordsIn (headObjectives s) (drop 6 s)) (replicate (maxObjectives - length (wordsIn (headObjectives s) (drop 6 s))) 0) (words-below (headObjectives s) (drop 6 s) (all-drop Byte 6 s (all-from Byte s bytes))) (all-zeros (maxObjectives - length (wordsIn (headObjectives s) (drop 6 s)))));
+        words = rw (a .ceilings) (all-append Word (wordsIn (headObjectives s) (drop 6 s)) (replicate (maxObjectives - length (wordsIn (headObjectives s) (drop 6 s))) 0) (words-below (headObjectives s) (drop 6 s) (all-drop Byte 6 s (all-each Byte 0 s bytes))) (all-zeros (maxObjectives - length (wordsIn (headObjectives s) (drop 6 s)))));
         room-small = small;
         memory = omega arith;
       }

@@ -3,9 +3,10 @@ use mathlib.Core.Path.{_≡_}
 use mathlib.Core.List.{List, []}
 use Prim.Native.Nat.{ℕ, _≤_, min}
 use lib.ListN.{length, replicate}
-use Rattle.model.specs.Basics.{pick}
+use Rattle.model.specs.Basics.{pick, All}
 use Rattle.model.specs.Limits.{maxPoints}
 use Rattle.model.specs.Refusals.{Verdict}
+use Rattle.model.specs.Encoding.{Byte}
 use Rattle.model.specs.Reading.{problemOf}
 use Rattle.model.specs.Frontiers.{frontier}
 use Rattle.model.specs.Calls.{SolveOutcome, answers, workAfter, solveVerdict}
@@ -37,7 +38,8 @@ answerOf r = record { number = r .number; place = r .place; count = r .count }
 abbrev pub listVerdict : List ℕ → ℕ → List ℕ → Verdict
 listVerdict s room work = solveVerdict s work (min room maxPoints)
 
--- a list in work memory: number and place, the list where nothing is refused, what copying it out asks, and what is left in work memory where something is refused
+-- a list in work memory: number and place, the list where nothing is refused, what copying it out asks, what is left in
+-- work memory where something is refused, and what the type of the problem's bytes says
 pub record ListedSays (s : List ℕ) (room : ℕ) (work work′ : List ℕ) (r : DI.Listed) : Type 0 where
   pub number : r .number ≡ listVerdict s room work .number
   pub place : r .place ≡ listVerdict s room work .place
@@ -46,3 +48,4 @@ pub record ListedSays (s : List ℕ) (room : ℕ) (work work′ : List ℕ) (r :
   pub hold : RowsHold (r .objectives) (r .variables) (r .count) work′
   pub left : pick (answers (listVerdict s room work)) (replicate (length work′) 0) work′ ≡ workAfter (listVerdict s room work) work
   pub long : length work′ ≡ length work
+  pub bytes : All Byte s

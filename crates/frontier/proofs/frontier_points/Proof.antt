@@ -41,7 +41,7 @@ use Rattle.model.specs.declared.Point.{Point}
 use Rattle.model.proofs.Point as P
 use Rattle.problem.proofs.Walks.{sliceOf, OwnedSlice, twice}
 use Rattle.solving.specs.declared.Answer.{Answer}
-use Rattle.frontier.specs.Says.{asPoints, ListSays, ListExports}
+use Rattle.frontier.specs.Says.{asPoints, ListExports}
 use Rattle.solving.proofs.Answer as N
 use Rattle.solving.proofs.Answer.Laws as N′
 use Rattle.frontier.proofs.ListAnswers.{list-export}
@@ -139,15 +139,15 @@ module _ {M : Type 1} (𝓤 : URA M) (H : Heap 𝓤) (A : Atoms 𝓤) (W : Given
     Left = Unit {0} × (List Point × (List ℕ × Unit {0}))
 
     abbrev Listed : Left → Answer → Type 0
-    Listed us a = (length (us .1 .0) ≡ length ps) × (length (us .1 .1 .0) ≡ length w) × ListSays (listOutcome (now s) (asPoints ps) w) (us .1 .0) (us .1 .1 .0) a
+    Listed us a = (length (us .1 .0) ≡ length ps) × (length (us .1 .1 .0) ≡ length w) × ListExports (now s) (listOutcome (now s) (asPoints ps) w) (us .1 .0) (us .1 .1 .0) (a .number) (a .place) (a .count)
 
     abbrev Lists : Left → Item 𝓤
     Lists us = ‵ (finally R γ (us .1 .0)) ⊛ ‵ (finally u32 γ′ (us .1 .1 .0))
 
     told-list : (a : Answer) → ent 𝓤 (ensured 𝓤 H A list.ended (list.clauses 𝓤 H A mem run) (κ₀, (κ₁, (κ₂, tt))) (s, (sliceAt b o γ ps, (sliceAt b′ o′ γ′ w, tt))) tt a) (mean 𝓤 H A (some (λ (us : Left). Lists us ⊛ raw (fact 𝓤 (Listed us a)))))
     told-list a =
-        qed W (some (λ (us : Left). ‵ (lasts list.ended (κ₀, (κ₁, (κ₂, tt))) (s, (sliceAt b o γ ps, (sliceAt b′ o′ γ′ w, tt))) us) ⊛ raw (fact 𝓤 (ListSays (listOutcome (now s) (asPoints ps) w) (us .1 .0) (us .1 .1 .0) a))) ∷ []) ∵ pick ! (λ us. split ! $
-        fsplit ! $ drop ! $ fsplit ! $ fsplit ! $ move ! (1 ∷ []) $ feqL ! (λ long. move ! (1 ∷ []) $ fsplit ! $ fsplit ! $ move ! (1 ∷ []) $ feqL ! (λ long′. move ! (3 ∷ []) $ heard ! (ListSays (listOutcome (now s) (asPoints ps) w) (us .1 .0) (us .1 .1 .0) a) (λ e.
+        qed W (some (λ (us : Left). ‵ (lasts list.ended (κ₀, (κ₁, (κ₂, tt))) (s, (sliceAt b o γ ps, (sliceAt b′ o′ γ′ w, tt))) us) ⊛ raw (fact 𝓤 (ListExports (now s) (listOutcome (now s) (asPoints ps) w) (us .1 .0) (us .1 .1 .0) (a .number) (a .place) (a .count)))) ∷ []) ∵ pick ! (λ us. split ! $
+        fsplit ! $ drop ! $ fsplit ! $ fsplit ! $ move ! (1 ∷ []) $ feqL ! (λ long. move ! (1 ∷ []) $ fsplit ! $ fsplit ! $ move ! (1 ∷ []) $ feqL ! (λ long′. move ! (3 ∷ []) $ heard ! (ListExports (now s) (listOutcome (now s) (asPoints ps) w) (us .1 .0) (us .1 .1 .0) (a .number) (a .place) (a .count)) (λ e.
         show ! (λ (us : Left). sep 𝓤 (mean 𝓤 H A (Lists us)) (fact 𝓤 (Listed us a))) us $ says ! (long, long′, e) $ keep ! (2 ∷ 0 ∷ []) $ done !))))
 
     -- `tell`
@@ -171,7 +171,7 @@ module _ {M : Type 1} (𝓤 : URA M) (H : Heap 𝓤) (A : Atoms 𝓤) (W : Given
         qed W (some (λ (us : Told). ‵ (lasts tell.ended (κ₃, (κ₄, tt)) (a, (x, (y, tt))) us) ⊛ raw (fact 𝓤 (Same a us n))) ∷ []) ∵ pick ! (λ us. split ! $ fsplit ! $ drop ! $ fsplit ! $ move ! (1 ∷ []) $ fsplit ! $
         show ! (λ (us : Told). sep 𝓤 (mean 𝓤 H A (Lasts us)) (fact 𝓤 (Same a us n))) us $ keep ! (2 ∷ 0 ∷ 3 ∷ []) $ join ! $ done !)
 
-    exits : (n : ℕ) (v : Val) (us : Left) (ts : Told) → length (us .1 .0) ≡ length ps → length (us .1 .1 .0) ≡ length w → ListExports (listOutcome (now s) (asPoints ps) w) (us .1 .0) (us .1 .1 .0) n (ts .1 .0) (ts .1 .1 .0)
+    exits : (n : ℕ) (v : Val) (us : Left) (ts : Told) → length (us .1 .0) ≡ length ps → length (us .1 .1 .0) ≡ length w → ListExports (now s) (listOutcome (now s) (asPoints ps) w) (us .1 .0) (us .1 .1 .0) n (ts .1 .0) (ts .1 .1 .0)
         → ent 𝓤 (⋆ 𝓤 H A (‵ (u8 .own n (v ∷ [])) ∷ Tokens′ ∷ Lasts ts ∷ Tokens ∷ Lists us ∷ ‵ Problem ∷ [])) (Post v)
     exits n v us ts long long′ e =
         qed W (‵ (u8 .own n (v ∷ [])) ∷ Tokens′ ∷ Lasts ts ∷ Tokens ∷ Lists us ∷ ‵ Problem ∷ []) ∵
@@ -212,7 +212,7 @@ module _ {M : Type 1} (𝓤 : URA M) (H : Heap 𝓤) (A : Atoms 𝓤) (W : Given
         returns ! (look ! 30 refl) $ forget ! 6 refl $ forget ! 8 refl $ forget ! 10 refl $ forget ! 12 refl $ forget ! 14 refl $ forget ! 16 refl $ forget ! 18 refl $ forget ! 20 refl $ forget ! 22 refl $ forget ! 24 refl $ forget ! 26 refl $ forget ! 28 refl $ forget ! 30 refl $
         move ! (30 ∷ 31 ∷ 28 ∷ 29 ∷ 26 ∷ 27 ∷ 24 ∷ 25 ∷ 22 ∷ 23 ∷ 20 ∷ 21 ∷ 18 ∷ 19 ∷ 16 ∷ 17 ∷ 14 ∷ 15 ∷ 12 ∷ 13 ∷ 10 ∷ 11 ∷ 8 ∷ 9 ∷ 6 ∷ 7 ∷ []) $
         free1 ! $ free1 ! $ free1 ! $ free1 ! $ free1 ! $ free1 ! $ free1 ! $ free1 ! $ free1 ! $ free1 ! $ free1 ! $ free1 ! $ free1 ! $ free0 ! $
-        by ! (exits n v us ts (listed .0) (listed .1) (list-export _ _ _ a (listed .2) n _ _ same)))))))))))))))))))))))))
+        by ! (exits n v us ts (listed .0) (listed .1) (list-export _ _ _ _ a (listed .2) n _ _ same)))))))))))))))))))))))))
 
   meets : (𝓣 : Tables 𝓤 H) → Triple 𝓤 (𝓣 .C #list-points) Listing → Triple 𝓤 (𝓣 .C #tell) Tell → Meets 𝓤 H A f.signature (WpFn 𝓤 H (𝓣 .C) (𝓣 .Λ) code.function) (f.spec 𝓤 H A mem run)
   meets 𝓣 known-list known-tell =

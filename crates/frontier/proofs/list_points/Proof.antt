@@ -52,7 +52,7 @@ use Rattle.rows.proofs.copy_points.Met as copy-thm
 use Rattle.solving.specs.declared.Answer.{Answer}
 use Rattle.solving.specs.declared.Listed.{Listed}
 use Rattle.solving.specs.Says.{answerOf, ListedSays}
-use Rattle.frontier.specs.Says.{asPoints, ListSays}
+use Rattle.frontier.specs.Says.{asPoints, ListExports}
 use Rattle.solving.proofs.Answer as N
 use Rattle.solving.proofs.Answer.Laws as N′
 use Rattle.solving.proofs.Listed as L
@@ -128,7 +128,7 @@ module _ {M : Type 1} (𝓤 : URA M) (H : Heap 𝓤) (A : Atoms 𝓤) (W : Given
 
     -- what the call ends with
     abbrev Said : List Point → List ℕ → Answer → Type 0
-    Said zs w2 a = ListSays (listOutcome (now s) (asPoints ps) w) zs w2 a
+    Said zs w2 a = ListExports (now s) (listOutcome (now s) (asPoints ps) w) zs w2 (a .number) (a .place) (a .count)
 
     exits : (a : Answer) (u : Val) (zs : List Point) (w2 : List ℕ) → Said zs w2 a → length zs ≡ length ps → length w2 ≡ length w
         → ent 𝓤 (⋆ 𝓤 H A (‵ (N.the-row .own a (u ∷ [])) ∷ ‵ (flft κ₀ q₀) ∷ ‵ (flft κ₁ q₁) ∷ (‵ (flft κ₂ q₂) ⊛ ‵ ftrue) ∷ ‵ Problem ∷ ‵ (finally R γ zs) ∷ ‵ (finally u32 γ′ w2) ∷ [])) (Post u)
