@@ -22,6 +22,15 @@ pub fn table_entry(s: &[u8], at: usize, i: usize, sizes: &[u8]) -> u32
     problem::four_at(s, at + 4 + a + 4 * i)
 }
 
+// How many entries the table of the record at `at` has.
+pub fn entries_of(s: &[u8], at: usize, sizes: &[u8]) -> usize
+    requires { ⌜ Whole (now sizes) (now s) at × All DomainSize (now sizes) ⌝ }
+    ensures { λ r. ⌜ r ≡ entriesAt (now (sizes .entry)) (now (s .entry)) at ⌝ }
+{
+    let a = s[at + 3] as usize;
+    problem::size_of(s, at + 4, a, sizes)
+}
+
 // Which entry of the record at `at` a complete choice has.
 pub fn entry_index(s: &[u8], at: usize, sizes: &[u8], choice: &[u8]) -> usize
     requires { ⌜ Whole (now sizes) (now s) at × All DomainSize (now sizes) × (isChoice (now sizes) (now choice) ≡ true) ⌝ }

@@ -16,6 +16,7 @@ pub mod TableSteps
 -- walks by hand, of a reader
 pub mod Walks
 pub mod Readers
+pub mod ByReader
 -- the whole
 pub mod Parts
 pub mod Accepted

@@ -414,6 +414,14 @@ pub fn record_at(s: &[u8], at: usize, sizes: &[u8]) -> model::CostRecord
     Reader::new(s, at).cost_record(sizes)
 }
 
+// Where the record behind the accepted cost record at `at` starts, by a reader: what callers with a plain slice call.
+pub fn place_after(s: &[u8], at: usize, sizes: &[u8]) -> usize
+    requires { ⌜ Whole (now sizes) (now s) at × All DomainSize (now sizes) ⌝ }
+    ensures { λ r. ⌜ r ≡ at + tableLength (now (sizes .entry)) (drop at (now (s .entry))) ⌝ }
+{
+    Reader::new(s, at).next(sizes).at
+}
+
 // Writes where each of the `r` accepted cost records from `at` on starts over the front of a buffer.
 pub fn keep_places(s: &[u8], at: usize, r: u32, sizes: &[u8], places: &mut [u32])
     requires { ⌜ AllWhole r (now sizes) (now s) at × All DomainSize (now sizes) × (r ≤ length (now places)) × (length (now s) ≤ maxBytes) ⌝ }
@@ -424,8 +432,7 @@ pub fn keep_places(s: &[u8], at: usize, r: u32, sizes: &[u8], places: &mut [u32]
     let mut i: usize = 0;
     while i < count {
         places[i] = here as u32;
-        let t = record_at(s, here, sizes);
-        here += t.length;
+        here = place_after(s, here, sizes);
         i += 1;
     }
 }

@@ -42,13 +42,10 @@ mul-places c = omega arith
 slice-write-places : tie.Need-slice-write-places Inv-loop μ-loop
 slice-write-places c = omega (arith, c .before .loop .inv .2, c .before .before .before .before .before .pre .2)
 
-record-at-requires : tie.Need-record-at-requires Inv-loop μ-loop
-record-at-requires c κs = (ahead c .0, c .before .before .before .before .before .pre .1)
-
-add-here : tie.Need-add-here Inv-loop μ-loop
-add-here c =
-    let long = c .before .record-at .ensures .width in
-    omega (arith, long, ahead (c .before .before) .0 .long, c .before .before .before .before .before .before .before .pre .3)
+place-after-requires : tie.Need-place-after-requires Inv-loop μ-loop
+place-after-requires c κs =
+    let known = c .before .before .before .before in
+    (ahead c .0, known .before .pre .1)
 
 add-i : tie.Need-add-i Inv-loop μ-loop
 add-i c = omega arith
@@ -58,16 +55,20 @@ loop-less c = omega arith
 
 loop-again : tie.Need-loop-again Inv-loop μ-loop
 loop-again c =
-    let a = c .before .before .before .before .before .before .before .args in
-    let w = c .before .before .before .loop in
-    let rest = placesAt (a .r - (w .i + 1)) (now (a .sizes)) (now (a .s)) (w .here + tableLength (now (a .sizes)) (drop (w .here) (now (a .s)))) in
-    let long = c .before .record-at .ensures .width in
-    let room : w .i < length (w .places) = omega (arith, w .inv .2, c .before .before .before .before .before .before .before .pre .2) in
+    let w = c .before .before .loop in
+    let known = c .before .before .before .before in
+    let start = known .before .before in
+    let a = start .args in
+    let ds = now (a .sizes) in
+    let s = now (a .s) in
+    let rest = placesAt (a .r - (w .i + 1)) ds s (w .here + tableLength ds (drop (w .here) s)) in
+    let next = c .place-after .ensures in
+    let room : w .i < length (w .places) = omega (arith, w .inv .2, start .pre .2) in
     let more : a .r - w .i ≡ suc (a .r - (w .i + 1)) = omega arith in (
       omega arith,
-      rw long (ahead (c .before .before) .1),
+      rw next (ahead (c .before) .1),
       length-set (w .places) (w .i) (w .here) ∙ w .inv .2,
-      rw long (over-step (w .i) (w .here) rest (w .places) room ∙ rw (more, places-go) at (w .inv .3)),
+      rw next (over-step (w .i) (w .here) rest (w .places) room ∙ rw (more, places-go) at (w .inv .3)),
     )
 
 same-length : tie.Need-same-length Inv-loop μ-loop
@@ -89,8 +90,7 @@ keep-places-spec =
     cast-places
     mul-places
     slice-write-places
-    record-at-requires
-    add-here
+    place-after-requires
     add-i
     loop-less
     loop-again

@@ -1,41 +1,30 @@
--- `spreads::spread_at` meets its contract. The loop needs no invariant.
+-- `spreads::spread_at` meets its contract. The loop needs no invariant: what its bound is, the call before it says.
 use Prim.Native.Nat.{_-_}
+use native.Mathlib.Omega.{arith}
 use borrow.Author.Needs.{needs}
 use Rattle.spreads.proofs.spread_at.Statement.{statement}
 use Rattle.spreads.proofs.spread_at.Tie as tie
 
 abbrev Inv-loop : tie.InvT-loop
-Inv-loop s at sizes ceiling count first least₀ most₀ i₀ least most i = Unit
+Inv-loop s at sizes ceiling count least₀ most₀ i₀ least most i = Unit
 
 abbrev μ-loop : tie.MeasureT-loop
-μ-loop s at sizes ceiling count first least₀ most₀ i₀ least most i = count - i
+μ-loop s at sizes ceiling count least₀ most₀ i₀ least most i = count - i
 
-entries-at-requires : tie.Need-entries-at-requires Inv-loop μ-loop
-entries-at-requires c κs = search needs
-
-add-first : tie.Need-add-first Inv-loop μ-loop
-add-first c = search needs
-
-add-byte-at : tie.Need-add-byte-at Inv-loop μ-loop
-add-byte-at c = search needs
-
-byte-at-requires : tie.Need-byte-at-requires Inv-loop μ-loop
-byte-at-requires c κs = search needs
-
-add-first-2 : tie.Need-add-first-2 Inv-loop μ-loop
-add-first-2 c = search needs
+entries-of-requires : tie.Need-entries-of-requires Inv-loop μ-loop
+entries-of-requires c κs = c .before .before .pre
 
 loop-holds : tie.Need-loop-holds Inv-loop μ-loop
 loop-holds c = search needs
 
-mul-word-at : tie.Need-mul-word-at Inv-loop μ-loop
-mul-word-at c = search needs
+table-entry-requires : tie.Need-table-entry-requires Inv-loop μ-loop
+table-entry-requires c κs =
+    let counted = c .before .before in
+    let start = counted .before .before .before in
+    (start .pre .0, omega (arith, counted .entries-of .ensures))
 
-add-word-at : tie.Need-add-word-at Inv-loop μ-loop
-add-word-at c = search needs
-
-word-at-requires : tie.Need-word-at-requires Inv-loop μ-loop
-word-at-requires c κs = search needs
+cast-cost : tie.Need-cast-cost Inv-loop μ-loop
+cast-cost c = search needs
 
 lesser-requires : tie.Need-lesser-requires Inv-loop μ-loop
 lesser-requires c κs = search needs
@@ -64,15 +53,10 @@ spread-at-spec =
     (tie.spec
     Inv-loop
     μ-loop
-    entries-at-requires
-    add-first
-    add-byte-at
-    byte-at-requires
-    add-first-2
+    entries-of-requires
     loop-holds
-    mul-word-at
-    add-word-at
-    word-at-requires
+    table-entry-requires
+    cast-cost
     lesser-requires
     larger-requires
     add-i
