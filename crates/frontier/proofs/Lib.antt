@@ -1,5 +1,10 @@
 -- Laws that the calls' proofs cite.
 pub mod ListAnswers
-pub mod CutAsSolve
+-- the demands, by the promises alone
+pub mod Outcomes
+pub mod Demand1
+pub mod Demand2
+pub mod Demand3
+pub mod BoundLaws
 -- walks by hand
 pub mod Lent

@@ -3,10 +3,9 @@
 use mathlib.Core.Path.{_≡_}
 use mathlib.Core.Bool.{true}
 use mathlib.Core.List.{List, List·Memᴰ as In}
-use Prim.Native.Nat.{ℕ, _≤_, min}
-use lib.ListN.{length, take, replicate}
+use Prim.Native.Nat.{ℕ}
+use lib.ListN.{length, take}
 use Rattle.model.specs.Basics.{All}
-use Rattle.model.specs.Limits.{maxPoints}
 use Rattle.model.specs.Refusals.{verdict}
 use Rattle.model.specs.Problems.{Problem, Word}
 use Rattle.model.specs.Encoding.{encode}
@@ -16,7 +15,7 @@ use Rattle.model.specs.Costs.{isChoice, costsOf}
 use Rattle.model.specs.Frontiers.{Point, Is-frontier}
 use Rattle.model.specs.Bounds.{prefixOk, agrees}
 use Rattle.model.specs.Cuts.{halfSize}
-use Rattle.model.specs.Calls.{over, roomOf, flatCosts, flatChoices, pointRecords}
+use Rattle.model.specs.Calls.{over, flatCosts, flatChoices, pointRecords}
 use Rattle.model.specs.Calls.{SolveOutcome, ListOutcome, CutOutcome, BoundOutcome}
 use Rattle.model.specs.Demands.{Answerable, Cuttable}
 

@@ -120,11 +120,11 @@ pub extern "C" fn frontier_bound(
     ensures { λ r. ⌜ BoundExports (now (problem .entry)) (boundOutcome (now (problem .entry)) (now (prefix .entry)))
         r (now (place .exit)) (now (least .exit)) ⌝ }
 {
-    let answer = bound_prefix(problem, prefix);
-    let bounds = answer.least;
+    let bound = bound_prefix(problem, prefix);
+    let bounds = bound.least;
     *least = bounds;
-    *place = answer.place;
-    answer.number
+    *place = bound.place;
+    bound.number
 }
 
 // The frontier list by the cut: that of the uncut problem, for any side list that no record has on both sides.
@@ -162,10 +162,13 @@ pub extern "C" fn frontier_cut(
         (now (costs .exit)) (now (choices .exit)) (now (work .exit))
         r (now (place .exit)) (now (count .exit)) (now (first .exit)) (now (second .exit)) ⌝ }
 {
-    let answer = solve_cut(problem, sides, costs, choices, work);
-    *place = answer.place;
-    *count = answer.count;
-    *first = answer.first;
-    *second = answer.second;
-    answer.number
+    let halves = solve_cut(problem, sides, costs, choices, work);
+    *first = halves.first;
+    *second = halves.second;
+    let answer = solving::Answer {
+        number: halves.number,
+        place: halves.place,
+        count: halves.count,
+    };
+    tell(answer, place, count)
 }
