@@ -109,7 +109,7 @@ impl<'a> Cut<'a> {
         }
     }
 
-    /// What must be answered with room for a whole of this size, up to 64.
+    /// What must be answered, with room enough, where the whole has so many points.
     fn due(&self, whole: usize) -> Due {
         if self.sizes.iter().any(|&size| size > MAX_POINTS) {
             Due::HalfAbove64
