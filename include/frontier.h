@@ -1,6 +1,7 @@
 /* The variant chooser's limits, numbers of refusal and calls, for C and C++. Link libfrontier.a; it needs nothing but
- * the C library. frontier_solve lists the frontier of a problem; frontier_cut lists it by way of two halves of the
- * problem; frontier_bound bounds what a partial choice leads to; frontier_points lists the frontier into point records.
+ * the C library. There are four calls: frontier_solve lists the frontier of a problem; frontier_cut lists it by way of
+ * two halves of the problem; frontier_bound bounds what a partial choice leads to; frontier_points lists the frontier
+ * into point records. A fifth, frontier_solve_by_passes, is frontier_solve by a slower method, for measurements.
  *
  * A problem is a string of bytes. Numbers in it are unsigned and little-endian, at any address, with nothing between
  * them. It is made of records, each of which starts with a mark of two letters:

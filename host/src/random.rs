@@ -241,7 +241,7 @@ fn grouped_problem(rng: &mut Rng, shape: &Shape, parted: bool) -> (Problem, Vec<
 }
 
 /// For each variable the least variable that tables connect it with.
-fn components(problem: &Problem) -> Vec<usize> {
+pub fn components(problem: &Problem) -> Vec<usize> {
     let mut labels: Vec<usize> = (0..problem.variables()).collect();
     // Each round carries labels one table further; n rounds reach everything.
     for _ in 0..problem.variables() {

@@ -2,16 +2,17 @@
 //! told with its line and column.
 
 mod chooser_run;
+mod stored;
 
 use std::fs;
 
 use chooser_run::{root, run, run_with};
 use frontier_host::examples::{brimful, ten_problems};
-use frontier_host::night::read_night;
 use frontier_host::problem::{Problem, Table, FORBIDDEN};
 use frontier_host::random::{random_problem, Rng, Shape};
 use frontier_host::reading::read_problem;
 use frontier_host::text::{parse, write, Module, Named, Names};
+use stored::nightly;
 
 /// Asserts that these bytes, unpacked and packed again, are the same.
 fn assert_round_trip(bytes: &[u8]) {
@@ -33,10 +34,8 @@ fn random_problems_come_back_as_they_were() {
 
 #[test]
 fn the_nights_problems_come_back_as_they_were() {
-    let problems = read_night(&root().join("host/data/nightly")).expect("the folder is there");
-    assert_eq!(problems.len(), 380);
-    for problem in problems {
-        assert_round_trip(&fs::read(&problem.path).expect("the file is there"));
+    for stored in nightly() {
+        assert_round_trip(&stored.bytes);
     }
 }
 

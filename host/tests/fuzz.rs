@@ -70,14 +70,17 @@ fn bad_arguments_give_the_usage() {
 }
 
 #[test]
+#[cfg_attr(
+    not(has_libfuzzer),
+    ignore = "clang or its libFuzzer was not installed when this was built"
+)]
 fn libfuzzer_finds_nothing_in_two_seconds() {
     let script = concat!(env!("CARGO_MANIFEST_DIR"), "/../.ci/libfuzzer");
     let output = Command::new("bash").args([script, "2"]).output();
     let output = output.expect("bash starts");
     let text = String::from_utf8_lossy(&output.stdout);
     assert_eq!(output.status.code(), Some(0), "{text}");
-    let ended = ["nothing found in 2 s\n", "SKIPPED"];
-    assert!(ended.iter().any(|end| text.contains(end)), "{text}");
+    assert!(text.ends_with("nothing found in 2 s\n"), "{text}");
 }
 
 /// Starts a run that would take hours, sends it a signal, and tells how it ends.
@@ -139,26 +142,21 @@ fn a_change_of_what_is_only_read_is_found() {
     assert!(complaint.starts_with("was changed"));
 }
 
-/// Set for a process that is to touch a closed page.
+/// Set for a process that is to touch a closed page, or none.
 const TOUCH: &str = "FUZZ_TEST_TOUCH";
 
-/// Touches the byte beside a buffer where the environment asks for it, else does nothing.
-#[test]
-fn touch_a_closed_page_if_asked() {
-    let (end, beside) = match env::var(TOUCH).as_deref() {
-        Ok("upper") => (End::Upper, 3),
-        Ok("lower") => (End::Lower, -1),
-        _ => return,
-    };
+/// Reads the byte so far behind the first one of a buffer of three.
+fn touch(end: End, beside: isize) {
     let mut pages = Pages::new(100).expect("pages");
     let first = pages.lend(&[1_u8, 2, 3], end).as_ptr();
     // SAFETY: none, since this is what must end the process.
     black_box(unsafe { first.offset(beside).read_volatile() });
 }
 
-fn touching(end: &str) -> Output {
+/// This program again, with one test only, as the process that touches a byte.
+fn touching(test: &str, end: &str) -> Output {
     Command::new(env::current_exe().expect("this test has a file"))
-        .args(["--exact", "touch_a_closed_page_if_asked"])
+        .args(["--exact", test])
         .env(TOUCH, end)
         .output()
         .expect("this test starts again")
@@ -166,8 +164,15 @@ fn touching(end: &str) -> Output {
 
 #[test]
 fn a_byte_of_a_closed_page_ends_the_process() {
-    for end in ["upper", "lower"] {
-        assert_eq!(touching(end).status.signal(), Some(VIOLATION), "{end}");
+    match env::var(TOUCH).as_deref() {
+        Ok("upper") => return touch(End::Upper, 3),
+        Ok("lower") => return touch(End::Lower, -1),
+        Ok(_) => return touch(End::Upper, 2),
+        Err(_) => {} // not started again: this is the test
     }
-    assert_eq!(touching("neither").status.code(), Some(0));
+    let ended = |end: &str| touching("a_byte_of_a_closed_page_ends_the_process", end).status;
+    for end in ["upper", "lower"] {
+        assert_eq!(ended(end).signal(), Some(VIOLATION), "{end}");
+    }
+    assert_eq!(ended("neither").code(), Some(0));
 }

@@ -1,67 +1,39 @@
 //! The night's problems: all of them through one set of buffers, and the program that measures them.
 
+mod stored;
+
 use std::fs;
 use std::path::{Path, PathBuf};
 use std::process::{Command, Output};
 
-use frontier_host::night::{
-    chosen_text, fill_with_junk, night_buffers, parse_expected, read_bytes, read_night,
-    NightProblem,
-};
+use frontier_host::limits::MAX_POINTS;
+use frontier_host::night::{chosen_text, fill_with_junk, night_buffers, parse_expected};
 use frontier_host::owned::list_text;
-use frontier_host::reading::read_problem;
-
-/// The folder of the night's problems.
-const NIGHTLY: &str = concat!(env!("CARGO_MANIFEST_DIR"), "/data/nightly");
+use stored::{nightly, Stored, NIGHTLY};
 
 /// Problems with at most this many complete choices are quick for any exact search.
 const FEW_CHOICES: u64 = 2_500;
 
-/// One of the night's problems that are small, with its bytes and its expected text.
-struct Small {
-    name: String,
-    bytes: Vec<u8>,
-    expected: String,
-}
-
-fn all_problems() -> Vec<NightProblem> {
-    read_night(Path::new(NIGHTLY)).expect("the repository has the night's problems")
-}
-
 /// The night's problems with few choices, in their order.
-fn small_problems() -> Vec<Small> {
-    let mut small = Vec::new();
-    for problem in all_problems() {
-        let bytes = read_bytes(&problem.path).expect("a file that was listed");
-        let reading = read_problem(&bytes).expect("a valid problem");
-        if reading.problem.choices() <= FEW_CHOICES {
-            let expected = problem.expected.expect("an expected text");
-            let name = problem.name;
-            small.push(Small {
-                name,
-                bytes,
-                expected,
-            });
-        }
-    }
+fn small_problems() -> Vec<Stored> {
+    let mut small = nightly();
+    small.retain(|stored| stored.problem.choices() <= FEW_CHOICES);
+    assert_eq!(small.len(), 56);
     small
 }
 
 #[test]
 fn every_problem_is_valid_and_has_its_text() {
-    let problems = all_problems();
-    assert_eq!(problems.len(), 380);
-    for problem in problems {
-        let bytes = read_bytes(&problem.path).expect("a file that was listed");
-        let read = read_problem(&bytes).map(|reading| reading.problem);
-        let read = read.unwrap_or_else(|refusal| panic!("{}: {refusal:?}", problem.name));
-        let named = format!("_p{}_n{:02}_", read.objectives(), read.variables());
-        assert!(problem.name.contains(&named), "{}", problem.name);
-        let text = problem.expected.expect("an expected text");
-        let sizes = format!("{} variables {}\n", read.objectives(), read.variables());
-        let told = text.contains(&sizes) || text == "refused 15 at 0\n";
-        assert!(told, "{}: {text}", problem.name);
+    let mut above_64 = 0;
+    for stored in nightly() {
+        let (p, n) = (stored.problem.objectives(), stored.problem.variables());
+        let named = format!("_p{p}_n{n:02}_");
+        assert!(stored.name.contains(&named), "{}", stored.name);
+        // It asserts that the text has these sizes and as many points as it says.
+        let (_, size) = stored.frontier();
+        above_64 += usize::from(size > MAX_POINTS);
     }
+    assert_eq!(above_64, 77);
 }
 
 #[test]
@@ -75,22 +47,19 @@ fn the_brute_force_gives_the_expected_texts_of_small_problems() {
 #[test]
 fn the_whole_night_through_one_set_of_buffers() {
     let mut lent = night_buffers();
-    for problem in all_problems() {
-        let name = &problem.name;
-        let bytes = read_bytes(&problem.path).expect("a file that was listed");
-        let text = chosen_text(&mut lent, &bytes);
-        assert_eq!(Some(text), problem.expected, "{name}");
-        assert!(lent.work.iter().all(|&number| number == 0), "{name}");
+    for stored in nightly() {
+        let text = chosen_text(&mut lent, &stored.bytes);
+        assert_eq!(text, stored.expected, "{}", stored.name);
+        let cleared = lent.work.iter().all(|&number| number == 0);
+        assert!(cleared, "{}", stored.name);
     }
 }
 
 /// Backwards and with junk in the buffers before each call; the small ones, which are quick.
 #[test]
 fn small_problems_in_other_buffers() {
-    let small = small_problems();
-    assert!(small.len() >= 40, "{} problems are small", small.len());
     let mut lent = night_buffers();
-    for small in small.iter().rev() {
+    for small in small_problems().iter().rev() {
         fill_with_junk(&mut lent);
         let text = chosen_text(&mut lent, &small.bytes);
         assert_eq!(text, small.expected, "{}", small.name);
@@ -111,7 +80,7 @@ fn expected_texts_are_parsed_or_complained_about() {
 
 /// A folder of its own for a test, with these small problems and expected texts for them; a line
 /// of the texts can be changed.
-fn folder_of(name: &str, small: &[Small], change: impl Fn(&str) -> String) -> PathBuf {
+fn folder_of(name: &str, small: &[Stored], change: impl Fn(&str) -> String) -> PathBuf {
     let folder = Path::new(env!("CARGO_TARGET_TMPDIR")).join(name);
     fs::create_dir_all(&folder).expect("a folder can be made");
     let mut expected = String::new();
@@ -162,7 +131,7 @@ fn a_run_counts_its_answers() {
 fn a_difference_is_told_and_gives_status_1() {
     let small = small_problems();
     let change = |text: &str| text.replacen("points 2 ", "points 3 ", 1);
-    let changed = |small: &&Small| change(&small.expected) != small.expected;
+    let changed = |small: &&Stored| change(&small.expected) != small.expected;
     let differ = small[..25].iter().filter(changed).count();
     assert!(differ > 0);
     let folder = folder_of("night_wrong", &small[..25], change);

@@ -1,5 +1,7 @@
 //! The plain search: against the brute force with every setting, and on the night's problems.
 
+mod stored;
+
 use std::ops::Range;
 use std::path::Path;
 use std::time::Duration;
@@ -7,14 +9,11 @@ use std::time::Duration;
 use frontier_host::brute::Answer;
 use frontier_host::limits::LEAST_WORK;
 use frontier_host::mixed::compare_seeds;
-use frontier_host::night::{night_buffers, read_bytes, read_night};
+use frontier_host::night::{night_buffers, read_bytes};
 use frontier_host::owned::answer_text;
 use frontier_host::plain::{solve_problem, solve_within, Settings};
 use frontier_host::refusal::FULL;
-
-/// The folders of problems.
-const NIGHTLY: &str = concat!(env!("CARGO_MANIFEST_DIR"), "/data/nightly");
-const STRESS: &str = concat!(env!("CARGO_MANIFEST_DIR"), "/data/stress");
+use stored::{nightly, STRESS};
 
 fn settings(text: &str) -> Settings {
     Settings::parse(text).expect("settings")
@@ -85,21 +84,20 @@ const NIGHT_NODES: u64 = 15_973_673;
 #[test]
 fn the_night_has_its_expected_texts() {
     let mut nodes = 0;
-    for problem in read_night(Path::new(NIGHTLY)).expect("the night's problems") {
-        let bytes = read_bytes(&problem.path).expect("a file that was listed");
+    for stored in nightly() {
         let mut lent = night_buffers();
         let (costs, choices) = (&mut lent.costs, &mut lent.choices);
         let outcome = solve_within(
             None,
             &Settings::default(),
-            &bytes,
+            &stored.bytes,
             costs,
             choices,
             LEAST_WORK,
         );
         let answer = outcome.answer.expect("no limit");
-        let text = answer_text(&lent, &bytes, answer);
-        assert_eq!(Some(text), problem.expected, "{}", problem.name);
+        let text = answer_text(&lent, &stored.bytes, answer);
+        assert_eq!(text, stored.expected, "{}", stored.name);
         nodes += outcome.nodes;
     }
     assert_eq!(nodes, NIGHT_NODES);

@@ -1,6 +1,6 @@
 //! What every element of the lent buffers must be after a call.
 
-use frontier_host::brute::{Answer, Point};
+use frontier_host::brute::{Answer, Halves, Point};
 use frontier_host::limits::{LEAST_WORK, MAX_POINTS};
 use frontier_host::owned::{Buffers, Listed};
 use frontier_host::problem::Problem;
@@ -44,6 +44,23 @@ impl Known<'_> {
         ensure(after.costs == costs, || "cost buffer".into())?;
         ensure(after.choices == choices, || "choice buffer".into())?;
         check_work(&before.work, &after.work, answer)
+    }
+
+    /// Checks what a cut answers that its sides allow: half sizes, which are 0 after a refusal, and
+    /// the rest as after a flat call.
+    pub fn check_cut(
+        &self,
+        sizes: [u32; 2],
+        before: &Buffers,
+        after: &Buffers,
+        cut: Halves,
+    ) -> Verdict {
+        let listed = cut.answer.number == 0;
+        let due = if listed { sizes } else { [0, 0] };
+        ensure([cut.first, cut.second] == due, || {
+            format!("{cut:?} for half sizes {sizes:?}")
+        })?;
+        self.check_flat(before, after, cut.answer)
     }
 
     /// Checks an answer and every element of a point list against those before the call.

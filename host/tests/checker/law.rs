@@ -194,28 +194,19 @@ pub fn cut_law(case: &mut Case, sides: &[u8], cutter: Cutter) -> Verdict {
         };
         let mut lent = before.clone();
         let cut = lent.lend_cut(cutter, &case.bytes, sides);
-        let answered = if cut.answer.number == 0 {
-            sizes
-        } else {
-            [0, 0]
-        };
-        ensure([cut.first, cut.second] == answered, || {
-            format!("sides {sides:?}: {cut:?} for half sizes {sizes:?}")
-        })?;
         let enough = before.work.len() >= LEAST_WORK;
-        if let Some(refusal) = refused.filter(|_| enough) {
-            let kept = cut.answer == refusal.into() && lent == before;
-            ensure(kept, || {
-                format!("sides {sides:?}: {cut:?}, not {refusal:?}")
-            })?;
-            continue;
-        }
         let known = Known {
             problem: &case.problem,
             list: &list,
             size,
         };
-        known.check_flat(&before, &lent, cut.answer)?;
+        let verdict = match refused.filter(|_| enough) {
+            None => known.check_cut(sizes, &before, &lent, cut),
+            Some(refusal) => ensure(cut == refusal.into() && lent == before, || {
+                format!("{cut:?}, not {refusal:?}")
+            }),
+        };
+        verdict.map_err(|complaint| format!("sides {sides:?}: {complaint}"))?;
     }
     Ok(())
 }
