@@ -1,5 +1,5 @@
 -- A complete choice: its bound is its costs, it is the only completion of itself, and taking it in covers it.
-use mathlib.Core.Path.{_≡_, sym, ap, _∙_, subst}
+use mathlib.Core.Path.{_≡_, refl, sym, ap, _∙_, subst}
 use mathlib.Core.Bool.{true, false}
 use mathlib.Core.List.{List, List·Memᴰ as In}
 use Prim.Native.Nat.{ℕ, _<_}
@@ -27,12 +27,15 @@ use Rattle.directions.specs.declared.Directions as DD
 use Rattle.directions.proofs.DirectionLaws.{directions-costs, directions-lead}
 use Rattle.zones.specs.Zones.{zonesEnd, cornersIn, Measured, SplitAt}
 use Rattle.zones.proofs.ZoneRows.{corners-wide}
-use Rattle.buckets.specs.Bounds.{costsOver, Agree}
+use Rattle.buckets.specs.Bounds.{costsOver}
 use Rattle.buckets.proofs.Sums.{totals-length}
 use Rattle.buckets.proofs.Bounds.{bound-exact}
 use Rattle.pruning.specs.declared.Run as DR
 use Rattle.pruning.specs.Tests.{zonesOf}
-use Rattle.exploring.specs.States.{planIn, archiveIn, problemOf, AllCovered, Standing, OpenedFrom}
+use Rattle.exploring.specs.declared.Node as DN
+use Rattle.exploring.specs.States.{planIn, archiveIn, problemOf, leaf, Completes, AllCovered}
+use Rattle.exploring.specs.States.{Standing, OpenedFrom}
+use Rattle.exploring.proofs.Nodes.{is-leaf}
 use Rattle.exploring.proofs.Memory.{still-trans, framed-zones, framed-still, zones-still, zones-rows}
 use Rattle.directions.proofs.Widths.{lead-inside, width-few}
 use Rattle.exploring.proofs.Completions.{costs-over, costs-over-wide}
@@ -42,9 +45,21 @@ use Rattle.exploring.proofs.Zoning.{zoned-split}
 pub weighed : {p n room : ℕ} {ws us v x : List ℕ} {points limit : ℕ} {work : List ℕ} {t : DT.Taken} {work′ : List ℕ} → us ≡ ws → Takes p n room us v x points limit work t work′ → Takes p n room ws v x points limit work t work′
 weighed {p} {n} {room} {ws} {us} {v} {x} {points} {limit} {work} {t} {work′} e h = subst (λ (u : List ℕ). Takes p n room u v x points limit work t work′) e h
 
-module _ {d : DD.Directions} {r room : ℕ} {ceilings ds s work : List ℕ} {run : DR.Run} {x acc : List ℕ} (h : Standing d r room ceilings ds s work run (length ds) x acc) (wide : maxDirections ≡ length acc) where
+-- a partial choice with no variable left
+pub leaf-standing :
+    {d : DD.Directions} {r room : ℕ} {ceilings ds s work : List ℕ} {run : DR.Run} {node : DN.Node} →
+    Standing d r room ceilings ds s work run node → node .depth ≡ length ds →
+    Standing d r room ceilings ds s work run (leaf ds (node .choice) (node .bound))
+leaf-standing {ds = ds} {node = node} h e = rw (is-leaf ds node e) at h
+
+module _
+    {d : DD.Directions} {r room : ℕ} {ceilings ds s work : List ℕ} {run : DR.Run} {values acc : List ℕ}
+    (h : Standing d r room ceilings ds s work run (leaf ds values acc)) (wide : maxDirections ≡ length acc) where
   abbrev problem : Problem
   problem = problemOf d r ceilings ds s work
+
+  abbrev x : List ℕ
+  x = take (length ds) values
 
   abbrev costs : List ℕ
   costs = take (d .objectives) acc
@@ -76,26 +91,37 @@ module _ {d : DD.Directions} {r room : ℕ} {ceilings ds s work : List ℕ} {run
   leaf-wide = ap length in-front ∙ source-wide
 
   pub leaf-lead : getD acc (leadAt d) 0 ≡ weighted (leadWeights d) (take (d .objectives) acc)
-  leaf-lead = exact-at (leadAt d) (lead-inside d sensible) ∙ directions-lead d source-costs sensible source-wide ∙ ap (λ (u : List ℕ). weighted (leadWeights d) u) (sym in-front)
+  leaf-lead =
+      exact-at (leadAt d) (lead-inside d sensible) ∙ directions-lead d source-costs sensible source-wide
+      ∙ ap (λ (u : List ℕ). weighted (leadWeights d) u) (sym in-front)
 
-  only-choice : (y : List ℕ) → isChoice ds y ≡ true → Agree (planIn work) (length ds) x y → x ≡ y
+  only-choice : (y : List ℕ) → isChoice ds y ≡ true → Completes (planIn work) (length ds) (leaf ds values acc) y → x ≡ y
   only-choice y c g =
       let long = choice-length ds x (h .partial .choice) in
-      ext-getD 0 x y (long ∙ sym (choice-length ds y c)) (λ v l. g v l (h .ready .sound .tested .ordered .position v (omega arith)))
+      ext-getD 0 x y (long ∙ sym (choice-length ds y c))
+      (λ v l. g v l (h .ready .sound .tested .ordered .position v (omega arith)))
 
-  leaf-only : (y : Point) → Reached problem y → Agree (planIn work) (length ds) x (y .choice) → y ≡ point costs x
+  leaf-only :
+      (y : Point) → Reached problem y → Completes (planIn work) (length ds) (leaf ds values acc) (y .choice) →
+      y ≡ point costs x
   leaf-only y m g =
       let e : x ≡ y .choice = only-choice (y .choice) (m .complete) g in
       point-eq (m .exact ∙ ap (λ (u : List ℕ). costsOf problem u) (sym e) ∙ sym leaf-costs) (sym e)
 
   -- what covers the point covers the completions
-  leaf-covers : (archive : List Point) (limit : ℕ) → (Reached problem (point costs x) → Covered (leadWeights d) archive limit (point costs x)) → AllCovered problem d (Agree (planIn work) (length ds) x) archive limit
+  leaf-covers :
+      (archive : List Point) (limit : ℕ) →
+      (Reached problem (point costs x) → Covered (leadWeights d) archive limit (point costs x)) →
+      AllCovered problem d (Completes (planIn work) (length ds) (leaf ds values acc)) archive limit
   leaf-covers archive limit c y m g =
       let e = leaf-only y m g in
       subst (λ (u : Point). Covered (leadWeights d) archive limit u) (sym e) (c (subst (λ (u : Point). Reached problem u) e m))
 
   -- over a ceiling
-  pub over-covers : under (take (d .objectives) acc) (take (d .objectives) ceilings) ≡ false → AllCovered problem d (Agree (planIn work) (length ds) x) (archiveIn d (length ds) work run) (run .limit)
+  pub over-covers :
+      under (take (d .objectives) acc) (take (d .objectives) ceilings) ≡ false →
+      AllCovered problem d (Completes (planIn work) (length ds) (leaf ds values acc)) (archiveIn d (length ds) work run)
+      (run .limit)
   over-covers o = leaf-covers _ _ (λ m. absurd (true-false (reached-under problem (point costs x) m) o))
 
   leaf-reached : under costs (take (d .objectives) ceilings) ≡ true → Reached problem (point costs x)
@@ -103,15 +129,21 @@ module _ {d : DD.Directions} {r room : ℕ} {ceilings ds s work : List ℕ} {run
   leaf-reached u = record { complete = h .partial .choice; allowed = rw (← leaf-costs) u; exact = leaf-costs }
 
   -- taken in
-  module _ (allowed : under (take (d .objectives) acc) (take (d .objectives) ceilings) ≡ true) (early : getD acc (leadAt d) 0 < run .limit) (v values : List ℕ) (front : take (d .objectives) v ≡ take (d .objectives) acc) (chosen : take (length ds) values ≡ x) (t : DT.Taken) (work′ : List ℕ) (takes : Takes (d .objectives) (length ds) room (leadWeights d) v values (run .points) (run .limit) work t work′) where
+  module _
+      (allowed : under (take (d .objectives) acc) (take (d .objectives) ceilings) ≡ true)
+      (early : getD acc (leadAt d) 0 < run .limit)
+      (v : List ℕ) (front : take (d .objectives) v ≡ take (d .objectives) acc) (t : DT.Taken) (work′ : List ℕ)
+      (takes :
+      Takes (d .objectives) (length ds) room (leadWeights d) v values (run .points) (run .limit) work t
+      work′) where
     abbrev taken : List Point
     taken = listIn (d .objectives) (length ds) work′ 0 (t .points)
 
     abbrev run-after : ℕ → DR.Run
     run-after m = record { points = t .points; zones = m; limit = t .limit }
 
-    same-point : point (take (d .objectives) v) (take (length ds) values) ≡ point costs x
-    same-point = point-eq front chosen
+    same-point : point (take (d .objectives) v) x ≡ point costs x
+    same-point = point-eq front refl
 
     met : Archived problem (leadWeights d) taken (t .limit) × Follows (leadWeights d) (archiveIn d (length ds) work run) (run .limit) taken (t .limit) × Covered (leadWeights d) taken (t .limit) (point costs x)
     met =
@@ -124,7 +156,9 @@ module _ {d : DD.Directions} {r room : ℕ} {ceilings ds s work : List ℕ} {run
     measured : Measured d (zonesOf work′) (run .zones)
     measured = rw (framed-zones (takes .frame)) (h .running .measured)
 
-    pub leaf-kept : OpenedFrom d r room ceilings ds s (length ds) x work run work′ (record { points = t .points; zones = run .zones; limit = t .limit })
+    pub leaf-kept :
+        OpenedFrom d r room ceilings ds s (leaf ds values acc) work run work′
+        (record { points = t .points; zones = run .zones; limit = t .limit })
     leaf-kept =
         record {
           still = framed-still (takes .frame) r (h .ready .planned .few);
@@ -144,7 +178,9 @@ module _ {d : DD.Directions} {r room : ℕ} {ceilings ds s work : List ℕ} {run
       zoned-after : Zoned (d .objectives) (take (d .objectives) ceilings) (leadWeights d) taken (t .limit) (cornersIn (d .objectives) (zonesOf work″) 0 m)
       zoned-after = zoned-split (d .objectives) (take (d .objectives) ceilings) (leadWeights d) taken (t .limit) (cornersIn (d .objectives) (zonesOf work′) 0 (run .zones)) (cornersIn (d .objectives) (zonesOf work″) 0 m) (corners-wide sensible measured) (point costs x) inside leaf-wide (rw front at parts) zoned
 
-      pub leaf-split : OpenedFrom d r room ceilings ds s (length ds) x work run work″ (record { points = t .points; zones = m; limit = t .limit })
+      pub leaf-split :
+          OpenedFrom d r room ceilings ds s (leaf ds values acc) work run work″
+          (record { points = t .points; zones = m; limit = t .limit })
       leaf-split =
           record {
             still = still-trans (framed-still (takes .frame) r (h .ready .planned .few)) (zones-still work′ work″ long behind r);

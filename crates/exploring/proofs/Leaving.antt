@@ -24,24 +24,38 @@ use Rattle.directions.specs.declared.Directions as DD
 use Rattle.directions.proofs.DirectionLaws.{directions-mono, directions-lead}
 use Rattle.zones.specs.Zones.{cornersIn}
 use Rattle.zones.proofs.ZoneRows.{listed-corner, corners-wide}
-use Rattle.buckets.specs.Bounds.{costsOver, Agree}
+use Rattle.buckets.specs.Bounds.{costsOver}
 use Rattle.pruning.specs.declared.Run as DR
-use Rattle.exploring.specs.States.{planIn, archiveIn, problemOf, AllCovered, Standing, OpenedFrom}
+use Rattle.exploring.specs.declared.Node as DN
+use Rattle.exploring.specs.States.{planIn, archiveIn, problemOf, Completes, AllCovered, Standing, OpenedFrom}
 use Rattle.pruning.specs.Tests.{zonesOf, Untied, Dead}
 use Rattle.exploring.proofs.Memory.{still-refl}
 use Rattle.directions.proofs.Widths.{lead-inside, width-few}
 use Rattle.exploring.proofs.Completions.{costs-over, costs-over-wide, completion-not-later, completion-bound, completion-above}
 
-module _ {d : DD.Directions} {r room : ℕ} {ceilings ds s work : List ℕ} {run : DR.Run} {k : ℕ} {x acc : List ℕ} (h : Standing d r room ceilings ds s work run k x acc) where
+module _
+    {d : DD.Directions} {r room : ℕ} {ceilings ds s work : List ℕ} {run : DR.Run} {node : DN.Node}
+    (h : Standing d r room ceilings ds s work run node) where
   abbrev problem : Problem
   problem = problemOf d r ceilings ds s work
 
   abbrev archive : List Point
   archive = archiveIn d (length ds) work run
 
+  abbrev acc : List ℕ
+  acc = node .bound
+
   -- nothing was done, and nothing had to be
-  pub opened-same : AllCovered problem d (Agree (planIn work) k x) archive (run .limit) → OpenedFrom d r room ceilings ds s k x work run work run
-  opened-same c = record { still = still-refl r work; running = h .running; follows = follows-refl (leadWeights d) archive (run .limit); covered = c }
+  pub opened-same :
+      AllCovered problem d (Completes (planIn work) (length ds) node) archive (run .limit) →
+      OpenedFrom d r room ceilings ds s node work run work run
+  opened-same c =
+      record {
+        still = still-refl r work;
+        running = h .running;
+        follows = follows-refl (leadWeights d) archive (run .limit);
+        covered = c;
+      }
 
   module _ (y : Point) (m : Reached problem y) where
     -- its costs, by the records' places
@@ -52,30 +66,49 @@ module _ {d : DD.Directions} {r room : ℕ} {ceilings ds s work : List ℕ} {run
     lead-exact = rw (← exact) (directions-lead d (y .costs) (h .ready .planned .sensible) (reached-width problem y m))
 
   -- by the leading sum alone
-  pub late-covers : run .limit ≤ getD acc (leadAt d) 0 → AllCovered problem d (Agree (planIn work) k x) archive (run .limit)
-  late-covers l y m g = inl (omega (arith, completion-bound (h .ready .sound) (h .partial) (y .choice) (m .complete) g (leadAt d) (lead-inside d (h .ready .planned .sensible)), lead-exact y m))
+  pub late-covers :
+      run .limit ≤ getD (node .bound) (leadAt d) 0 →
+      AllCovered problem d (Completes (planIn work) (length ds) node) archive (run .limit)
+  late-covers l y m g =
+      let lead = lead-inside d (h .ready .planned .sensible) in
+      let below = completion-bound (h .ready .sound) (h .partial) (y .choice) (m .complete) g (leadAt d) lead in
+      inl (omega (arith, below, lead-exact y m))
 
-  module _ (wide : maxDirections ≡ length acc) where
+  module _ (wide : maxDirections ≡ length (node .bound)) where
     enough : widthOf d ≤ length acc
     enough = omega (arith, width-few d (h .ready .planned .sensible))
 
     -- an archived point that may have the costs of a completion has a choice that is not later
-    untied-not-later : (y : Point) → Reached problem y → Agree (planIn work) k x (y .choice) → (v : List ℕ) → take (length ds) v ≡ x → ((i : ℕ) → i < run .points → Untied d (length ds) work v acc i) → (a : Point) → In a archive → AtMost (take (widthOf d) acc) (directionsOf d (a .costs)) → NotLater (a .choice) (y .choice)
-    untied-not-later y m g v e none a i low =
+    untied-not-later :
+        (y : Point) → Reached problem y → Completes (planIn work) (length ds) node (y .choice) →
+        ((i : ℕ) → i < run .points → Untied d (length ds) work (node .choice) acc i) →
+        (a : Point) → In a archive → AtMost (take (widthOf d) acc) (directionsOf d (a .costs)) →
+        NotLater (a .choice) (y .choice)
+    untied-not-later y m g none a i low =
         let (j, l, is) = listed-row (d .objectives) (length ds) work (run .points) a i in
         let costs : a .costs ≡ costsIn (d .objectives) work j = ap (λ (t : Point). t .costs) is in
         let choice : a .choice ≡ valuesIn (length ds) work j = ap (λ (t : Point). t .choice) is in
         let inside : j ≤ maxPoints = omega (arith, h .running .few, h .ready .room-small) in
         let later = none j l (at-most-test _ _ (rw costs at low)) in
-        rw choice (completion-not-later (h .ready .sound) (h .partial) (y .choice) (m .complete) g (valuesIn (length ds) work j) (values-long work j (omega (arith, h .ready .long)) (length ds) (h .ready .planned .variables)) (rw e at later))
+        let long = values-long work j (omega (arith, h .ready .long)) (length ds) (h .ready .planned .variables) in
+        let after = completion-not-later (h .ready .sound) (h .partial) (y .choice) (m .complete) g in
+        rw choice (after (valuesIn (length ds) work j) long later)
 
-    pub dead-covers : (v : List ℕ) → take (length ds) v ≡ x → Dead d (length ds) work run v acc → AllCovered problem d (Agree (planIn work) k x) archive (run .limit)
-    dead-covers v e (inl l) y m g = late-covers l y m g
-    dead-covers v e (inr (unreached, untied)) y m g =
+    pub dead-covers :
+        Dead d (length ds) work run (node .choice) (node .bound) →
+        AllCovered problem d (Completes (planIn work) (length ds) node) archive (run .limit)
+    dead-covers (inl l) y m g = late-covers l y m g
+    dead-covers (inr (unreached, untied)) y m g =
         let b = take (widthOf d) acc in
-        let above : AtMost b (directionsOf d (y .costs)) = rw (exact y m) (completion-above (h .ready .sound) (h .partial) (y .choice) (m .complete) g enough) in
-        let long : length b ≡ length (directionsOf d (y .costs)) = length-take-le (widthOf d) acc enough ∙ sym (rw (← exact y m) at (costs-over-wide d ds s (sourceIn work r) (y .choice))) in
-        dead-covered (leadWeights d) archive (run .limit) (cornersIn (d .objectives) (zonesOf work) 0 (run .zones)) (directionsOf d) (directions-mono d) (h .running .zoned)
+        let zones = cornersIn (d .objectives) (zonesOf work) 0 (run .zones) in
+        let above : AtMost b (directionsOf d (y .costs)) =
+        rw (exact y m) (completion-above (h .ready .sound) (h .partial) (y .choice) (m .complete) g enough) in
+        let wide-costs = costs-over-wide d ds s (sourceIn work r) (y .choice) in
+        let long : length b ≡ length (directionsOf d (y .costs)) =
+        length-take-le (widthOf d) acc enough ∙ sym (rw (← exact y m) at wide-costs) in
+        dead-covered (leadWeights d) archive (run .limit) zones (directionsOf d) (directions-mono d) (h .running .zoned)
         (corners-wide (h .ready .planned .sensible) (h .running .measured)) y m b long above
-        (λ t i low. let (j, l, is) = listed-corner (d .objectives) (zonesOf work) (run .zones) t i in true-false (at-most-test _ _ (subst (λ (u : List ℕ). AtMost b (directionsOf d u)) is low)) (unreached j l))
-        (untied-not-later y m g v e untied)
+        (λ t i low.
+        let (j, l, is) = listed-corner (d .objectives) (zonesOf work) (run .zones) t i in
+        true-false (at-most-test _ _ (subst (λ (u : List ℕ). AtMost b (directionsOf d u)) is low)) (unreached j l))
+        (untied-not-later y m g untied)

@@ -1,4 +1,5 @@
 -- Laws of the search.
+pub mod Nodes
 pub mod Memory
 pub mod Completions
 pub mod Leaving

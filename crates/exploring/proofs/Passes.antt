@@ -12,7 +12,7 @@ use mir.Val.{Val}
 use denote.Laws.{Is}
 use denote.Struct.Declared.{row}
 use Rattle.model.specs.Basics.{All}
-use Rattle.model.specs.Limits.{byteEnd, wordEnd}
+use Rattle.model.specs.Limits.{maxVariables, byteEnd, wordEnd}
 use Rattle.model.specs.Problems.{Problem, Word}
 use Rattle.model.specs.Frontiers.{Point, sorted, frontier, Reached}
 use Rattle.model.specs.Archive.{weighted, Distinct}
@@ -34,10 +34,16 @@ use Rattle.buckets.specs.Bounds.{baseAt, boundAt}
 use Rattle.buckets.proofs.Bounds.{bound-limit}
 use Rattle.pruning.specs.declared.Run as DR
 use Rattle.exploring.specs.declared.Explored as DE
-use Rattle.exploring.specs.States.{noLimit, planIn, archiveIn, problemOf, Ready, Running, Partial, Still, Standing, OpenedFrom, Between, Passed, ExploredSays}
+use Rattle.exploring.specs.declared.Node as DN
+use Rattle.exploring.specs.States.{noLimit, planIn, archiveIn, problemOf, Ready, Running, Partial, Still}
+use Rattle.exploring.specs.States.{Standing, OpenedFrom, Between, Passed, ExploredSays}
 use Rattle.exploring.specs.Passes.{ZonesWritten, ZonesHold}
 use Rattle.exploring.proofs.Memory.{still-trans, problem-still, ready-still, framed-still, zones-still, zones-rows}
-use Rattle.branching.proofs.Zeros.{zeros-at, zeros-choice}
+use Rattle.branching.proofs.Zeros.{zeros-at, zeros-choice, front-zeros}
+
+-- the empty choice with its bound
+abbrev pub rootNode : List ℕ → DN.Node
+rootNode b = record { depth = 0; choice = replicate maxVariables 0; bound = b }
 
 module _ {d : DD.Directions} {r room : ℕ} {ceilings ds s work : List ℕ} (h : Ready d r room ceilings ds s work) where
   abbrev problem : Problem
@@ -79,21 +85,33 @@ module _ {d : DD.Directions} {r room : ℕ} {ceilings ds s work : List ℕ} (h :
     running : Running problem d room (length ds) work′ run
     running = record { few = between .few; archived = rw same-points (between .archived); distinct = rw same-points (between .distinct); measured = written .measured; zoned = rw same-points (hold (length ds) noLimit (leadWeights d)) }
 
-    pub root-standing : ((at : ℕ) → getD s at 0 < byteEnd) → (b : List ℕ) → ((j : ℕ) → j < widthOf d → getD b j 0 ≡ baseAt d ds s (planIn work′) r (replicate (length ds) 0) j) → Standing d r room ceilings ds s work′ (record { points = points; zones = m; limit = noLimit }) 0 (replicate (length ds) 0) b
+    pub root-standing :
+        ((at : ℕ) → getD s at 0 < byteEnd) → (b : List ℕ) →
+        ((j : ℕ) → j < widthOf d → getD b j 0 ≡ baseAt d ds s (planIn work′) r (replicate (length ds) 0) j) →
+        Standing d r room ceilings ds s work′ (record { points = points; zones = m; limit = noLimit }) (rootNode b)
     root-standing bytes b is =
+        let zeros : take {A = ℕ} (length ds) (replicate maxVariables 0) ≡ replicate (length ds) 0 =
+        front-zeros (length ds) maxVariables (h .planned .variables) in
         record {
           ready = ready-still zones-kept d room ceilings ds s h;
-          running = subst (λ (q : Problem). Running q d room (length ds) work′ run) (sym (problem-still zones-kept d room ceilings ds s)) running;
-          partial = subst (λ (l : List ℕ). Partial d r ds s l 0 (replicate (length ds) 0) b) (sym (zones-kept .plan)) (root-partial bytes b (subst (λ (l : List ℕ). (j : ℕ) → j < widthOf d → getD b j 0 ≡ baseAt d ds s l r (replicate (length ds) 0) j) (zones-kept .plan) is));
+          running =
+              subst (λ (q : Problem). Running q d room (length ds) work′ run)
+              (sym (problem-still zones-kept d room ceilings ds s)) running;
+          partial = rw (zeros, zones-kept .plan) (root-partial bytes b (rw (zones-kept .plan) at is));
         }
 
     -- every choice completes the empty one
-    pub root-passed : (work″ : List ℕ) (run″ : DR.Run) → OpenedFrom d r room ceilings ds s 0 (replicate (length ds) 0) work′ (record { points = points; zones = m; limit = noLimit }) work″ run″ → Passed (problemOf d r ceilings ds s work) d r room (length ds) work work″ run″
-    root-passed work″ run″ o =
+    pub root-passed :
+        (b work″ : List ℕ) (run″ : DR.Run) →
+        OpenedFrom d r room ceilings ds s (rootNode b) work′ (record { points = points; zones = m; limit = noLimit })
+        work″ run″ →
+        Passed (problemOf d r ceilings ds s work) d r room (length ds) work work″ run″
+    root-passed b work″ run″ o =
         record {
           still = still-trans zones-kept (o .still);
           running = subst (λ (q : Problem). Running q d room (length ds) work″ run″) same-problem (o .running);
-          covered = λ y m′. o .covered y (subst (λ (q : Problem). Reached q y) (sym same-problem) m′) (λ v l p. absurd (omega arith));
+          covered = λ y m′.
+              o .covered y (subst (λ (q : Problem). Reached q y) (sym same-problem) m′) (λ v l p. absurd (omega arith));
         }
       where
         same-problem : problemOf d r ceilings ds s work′ ≡ problem

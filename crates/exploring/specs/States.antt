@@ -4,7 +4,7 @@ use mathlib.Core.Bool.{true, false, not}
 use mathlib.Core.List.{List}
 use Prim.Native.Nat.{ℕ, _+_, _≤_, _<_}
 use lib.Dec.{ltb}
-use lib.ListN.{length, getD, drop}
+use lib.ListN.{length, getD, take, drop, set}
 use Rattle.model.specs.Basics.{All, when}
 use Rattle.model.specs.Limits.{maxPoints}
 use Rattle.model.specs.Problems.{Problem, Word}
@@ -23,6 +23,7 @@ use Rattle.buckets.specs.Content.{Planned}
 use Rattle.buckets.specs.Sound.{Sound}
 use Rattle.pruning.specs.declared.Run as DR
 use Rattle.pruning.specs.Tests.{zonesOf}
+use Rattle.exploring.specs.declared.Node as DN
 use Rattle.exploring.specs.declared.Explored as DE
 
 -- the plan begins behind the archive
@@ -65,6 +66,18 @@ pub record Partial (d : DD.Directions) (r : ℕ) (ds s plan : List ℕ) (k : ℕ
   pub exact : (j : ℕ) → j < widthOf d → getD acc j 0 ≡ boundAt d ds s plan r k x j
   pub small : (j : ℕ) → j < widthOf d → getD acc j 0 < directionEnd
 
+-- a partial choice with the value a of one more variable, v, and the bound that it then has
+abbrev pub extended : DN.Node → ℕ → ℕ → List ℕ → DN.Node
+extended node v a bound = record { depth = node .depth + 1; choice = set (node .choice) v a; bound = bound }
+
+-- a complete choice, as a partial choice with no variable left
+abbrev pub leaf : List ℕ → List ℕ → List ℕ → DN.Node
+leaf ds x bound = record { depth = length ds; choice = x; bound = bound }
+
+-- y has the values of a partial choice
+abbrev pub Completes : List ℕ → ℕ → DN.Node → List ℕ → Type 0
+Completes plan n node y = Agree plan (node .depth) (take n (node .choice)) y
+
 -- what stays
 pub record Still (r : ℕ) (work work′ : List ℕ) : Type 0 where
   pub long : length work′ ≡ length work
@@ -76,20 +89,25 @@ abbrev pub AllCovered : Problem → DD.Directions → (List ℕ → Type 0) → 
 AllCovered q d among archive limit = (y : Point) → Reached q y → among (y .choice) → Covered (leadWeights d) archive limit y
 
 -- what opening a partial choice ensures: the completions are covered, and what was covered stays so
-pub record Opened (q : Problem) (d : DD.Directions) (r room n k : ℕ) (plan x work : List ℕ) (run : DR.Run) (work′ : List ℕ) (run′ : DR.Run) : Type 0 where
+pub record Opened
+    (q : Problem) (d : DD.Directions) (r room n : ℕ) (plan : List ℕ) (node : DN.Node)
+    (work : List ℕ) (run : DR.Run) (work′ : List ℕ) (run′ : DR.Run) : Type 0 where
   pub still : Still r work work′
   pub running : Running q d room n work′ run′
   pub follows : Follows (leadWeights d) (archiveIn d n work run) (run .limit) (archiveIn d n work′ run′) (run′ .limit)
-  pub covered : AllCovered q d (Agree plan k x) (archiveIn d n work′ run′) (run′ .limit)
+  pub covered : AllCovered q d (Completes plan n node) (archiveIn d n work′ run′) (run′ .limit)
 
 -- what opening a partial choice relies on
-pub record Standing (d : DD.Directions) (r room : ℕ) (ceilings ds s work : List ℕ) (run : DR.Run) (k : ℕ) (x acc : List ℕ) : Type 0 where
+pub record Standing
+    (d : DD.Directions) (r room : ℕ) (ceilings ds s work : List ℕ) (run : DR.Run) (node : DN.Node) : Type 0 where
   pub ready : Ready d r room ceilings ds s work
   pub running : Running (problemOf d r ceilings ds s work) d room (length ds) work run
-  pub partial : Partial d r ds s (planIn work) k x acc
+  pub partial : Partial d r ds s (planIn work) (node .depth) (take (length ds) (node .choice)) (node .bound)
 
-abbrev pub OpenedFrom : DD.Directions → ℕ → ℕ → List ℕ → List ℕ → List ℕ → ℕ → List ℕ → List ℕ → DR.Run → List ℕ → DR.Run → Type 0
-OpenedFrom d r room ceilings ds s k x work run work′ run′ = Opened (problemOf d r ceilings ds s work) d r room (length ds) k (planIn work) x work run work′ run′
+abbrev pub OpenedFrom :
+    DD.Directions → ℕ → ℕ → List ℕ → List ℕ → List ℕ → DN.Node → List ℕ → DR.Run → List ℕ → DR.Run → Type 0
+OpenedFrom d r room ceilings ds s node work run work′ run′ =
+    Opened (problemOf d r ceilings ds s work) d r room (length ds) (planIn work) node work run work′ run′
 
 -- between passes: an archive of so many points; the limit that it had is of no more interest, so that it is stated with none
 pub record Between (q : Problem) (d : DD.Directions) (room n : ℕ) (work : List ℕ) (points : ℕ) : Type 0 where

@@ -1,16 +1,18 @@
 // The second form of the search: passes of branch and bound over a plan, into an archive, until one has left nothing out.
+ghost use mathlib.Core.Path.{_≡_};
 ghost use mathlib.Core.List.{List};
-ghost use Prim.Native.Nat.{ℕ, _+_, _≤_};
-ghost use lib.ListN.{length, take};
+ghost use Prim.Native.Nat.{ℕ, _+_, _<_, _≤_};
+ghost use lib.ListN.{length};
 ghost use Rattle.model.specs.Basics.{All};
-ghost use Rattle.model.specs.Limits.{maxPoints};
+ghost use Rattle.model.specs.Limits.{maxVariables, maxDomain, maxPoints};
 ghost use Rattle.model.specs.Problems.{Word};
 ghost use Rattle.model.specs.Frontiers.{frontier};
 ghost use Rattle.groups.specs.Layout.{listEnd};
 ghost use Rattle.directions.specs.Directions.{Sensible};
 ghost use Rattle.zones.specs.Zones.{Measured};
 ghost use Rattle.pruning.specs.Tests.{zonesOf};
-ghost use Rattle.exploring.specs.States.{problemOf, Ready, Standing, OpenedFrom, Between, Passed, ExploredSays};
+ghost use Rattle.exploring.specs.States.{problemOf, extended, leaf, Ready, Standing, OpenedFrom};
+ghost use Rattle.exploring.specs.States.{Between, Passed, ExploredSays};
 ghost use Rattle.exploring.specs.Passes.{ZonesWritten, ZonesHold};
 
 // The plan begins behind the archive.
@@ -29,10 +31,36 @@ pub struct Explored {
     pub count: usize,
 }
 
-// A complete choice is met: it is taken into the archive, and where it is new out of the zones, unless it is over a ceiling or not below the limit.
+// A partial choice: values for the variables at the first `depth` positions, and its bound in every direction.
+pub struct Node {
+    pub depth: usize,
+    pub choice: [u8; 24],
+    pub bound: [u64; 8],
+}
+
+impl Node {
+    // One more variable has its value: the next partial choice, with the bound that it then has.
+    fn with(self, variable: usize, value: usize, bound: [u64; 8]) -> Node
+        requires { ⌜ (self .depth < maxVariables) × (variable < maxVariables) × (value < maxDomain) ⌝ }
+        ensures { λ next. ⌜ next ≡ extended self variable value bound ⌝ }
+    {
+        let x = self.choice;
+        let choice = branching::with_value(x, variable, value);
+        let depth = self.depth + 1;
+        Node {
+            depth,
+            choice,
+            bound,
+        }
+    }
+}
+
+// A complete choice is met: it is taken into the archive, and where it is new out of the zones.
+// Not so where it is over a ceiling or not below the limit. It comes in parts: were it a node, the compiler would copy
+// every node byte by byte, because the bytes of a choice are read one by one here.
 fn take_leaf(
     x: [u8; 24],
-    acc: [u64; 8],
+    bound: [u64; 8],
     run: pruning::Run,
     s: &[u8],
     sizes: &[u8],
@@ -42,15 +70,16 @@ fn take_leaf(
     d: directions::Directions,
     work: &mut [u32],
 ) -> pruning::Run
-    requires { ⌜ Standing d r room ceilings (now sizes) (now s) (now work) run (length (now sizes)) (take (length (now sizes)) x) acc ⌝ }
-    ensures { λ t. ⌜ OpenedFrom d r room ceilings (now (sizes .entry)) (now (s .entry)) (length (now (sizes .entry))) (take (length (now (sizes .entry))) x) (now (work .entry)) run (now (work .exit)) t ⌝ }
+    requires { ⌜ Standing d r room ceilings (now sizes) (now s) (now work) run (leaf (now sizes) x bound) ⌝ }
+    ensures { λ t. ⌜ OpenedFrom d r room ceilings (now (sizes .entry)) (now (s .entry))
+        (leaf (now (sizes .entry)) x bound) (now (work .entry)) run (now (work .exit)) t ⌝ }
 {
     let p = d.objectives;
-    let costs = pruning::front_of(acc);
+    let costs = pruning::front_of(bound);
     if !vectors::is_under(costs, ceilings, p) {
         return run;
     }
-    if directions::lead_of(acc, d) >= run.limit {
+    if directions::lead_of(bound, d) >= run.limit {
         return run;
     }
     let weights = directions::lead_weights(d);
@@ -97,9 +126,7 @@ fn start_zones(c: usize, ceilings: [u64; 4], d: directions::Directions, work: &m
 
 // Opens a partial choice where its completions may be new, or earlier than an archived choice with equal costs.
 fn try_choice(
-    k: usize,
-    x: [u8; 24],
-    acc: [u64; 8],
+    node: Node,
     run: pruning::Run,
     s: &[u8],
     sizes: &[u8],
@@ -109,21 +136,23 @@ fn try_choice(
     d: directions::Directions,
     work: &mut [u32],
 ) -> pruning::Run
-    requires { ⌜ Standing d r room ceilings (now sizes) (now s) (now work) run k (take (length (now sizes)) x) acc ⌝ }
-    ensures { λ t. ⌜ OpenedFrom d r room ceilings (now (sizes .entry)) (now (s .entry)) k (take (length (now (sizes .entry))) x) (now (work .entry)) run (now (work .exit)) t ⌝ }
+    requires { ⌜ Standing d r room ceilings (now sizes) (now s) (now work) run node ⌝ }
+    ensures { λ t. ⌜ OpenedFrom d r room ceilings (now (sizes .entry)) (now (s .entry)) node
+        (now (work .entry)) run (now (work .exit)) t ⌝ }
 {
     let n = sizes.len();
-    if pruning::is_alive(x, acc, run, n, d, work) {
-        return open_position(k, x, acc, run, s, sizes, r, ceilings, room, d, work);
+    let x = node.choice;
+    let bound = node.bound;
+    if pruning::is_alive(x, bound, run, n, d, work) {
+        return open_position(node, run, s, sizes, r, ceilings, room, d, work);
     }
     run
 }
 
-// Tries each value of the variable at position `k`, by rising leading sums of the bound, as long as these are below the limit. A complete choice is met.
+// Tries each value of the variable at the next position, by rising leading sums of the bound, as long as these are
+// below the limit. A complete choice is met.
 fn open_position(
-    k: usize,
-    x: [u8; 24],
-    acc: [u64; 8],
+    node: Node,
     run: pruning::Run,
     s: &[u8],
     sizes: &[u8],
@@ -133,24 +162,28 @@ fn open_position(
     d: directions::Directions,
     work: &mut [u32],
 ) -> pruning::Run
-    requires { ⌜ Standing d r room ceilings (now sizes) (now s) (now work) run k (take (length (now sizes)) x) acc ⌝ }
-    ensures { λ t. ⌜ OpenedFrom d r room ceilings (now (sizes .entry)) (now (s .entry)) k (take (length (now (sizes .entry))) x) (now (work .entry)) run (now (work .exit)) t ⌝ }
+    requires { ⌜ Standing d r room ceilings (now sizes) (now s) (now work) run node ⌝ }
+    ensures { λ t. ⌜ OpenedFrom d r room ceilings (now (sizes .entry)) (now (s .entry)) node
+        (now (work .entry)) run (now (work .exit)) t ⌝ }
 {
     let n = sizes.len();
+    let k = node.depth;
+    let x = node.choice;
+    let bound = node.bound;
     if k == n {
-        return take_leaf(x, acc, run, s, sizes, r, ceilings, room, d, work);
+        return take_leaf(x, bound, run, s, sizes, r, ceilings, room, d, work);
     }
     let v = branching::variable_at(k, &work[PLAN_AT..]);
     let size = sizes[v] as usize;
     let rows = branching::bucket_at(k, v, &x[..n], s, sizes, r, d, &work[PLAN_AT..]);
     let away = branching::away_at(k, &x[..n], s, sizes, r, d, &work[PLAN_AT..]);
-    let mut leads = branching::leads_of(&rows, acc, away, size, d);
+    let mut leads = branching::leads_of(&rows, bound, away, size, d);
     let mut a = branching::least_value(&leads, size);
     let mut t = run;
     while leads[a] < t.limit {
-        let y = branching::with_value(x, v, a);
-        let b = branching::row_of(&rows, a, acc, away, d.objectives + d.sums);
-        t = try_choice(k + 1, y, b, t, s, sizes, r, ceilings, room, d, work);
+        let b = branching::row_of(&rows, a, bound, away, d.objectives + d.sums);
+        let next = node.with(v, a, b);
+        t = try_choice(next, t, s, sizes, r, ceilings, room, d, work);
         leads[a] = NO_LIMIT;
         a = branching::least_value(&leads, size);
     }
@@ -172,25 +205,18 @@ fn run_pass(
     ensures { λ t. ⌜ Passed (problemOf d r ceilings (now (sizes .entry)) (now (s .entry)) (now (work .entry))) d r room (length (now (sizes .entry))) (now (work .entry)) (now (work .exit)) t ⌝ }
 {
     let m = start_zones(points, ceilings, d, work);
-    let base = branching::root_bound(s, sizes, r, d, &work[PLAN_AT..]);
+    let bound = branching::root_bound(s, sizes, r, d, &work[PLAN_AT..]);
+    let node = Node {
+        depth: 0,
+        choice: [0u8; 24],
+        bound,
+    };
     let run = pruning::Run {
         points,
         zones: m,
         limit: NO_LIMIT,
     };
-    try_choice(
-        0,
-        [0u8; 24],
-        base,
-        run,
-        s,
-        sizes,
-        r,
-        ceilings,
-        room,
-        d,
-        work,
-    )
+    try_choice(node, run, s, sizes, r, ceilings, room, d, work)
 }
 
 // The frontier list of the problem whose records stand in the plan, in the archive's rows.

@@ -3,6 +3,21 @@ ghost use mathlib.Core.Path.{_≡_};
 ghost use Rattle.model.specs.Calls.{solveOutcome, listOutcome, cutOutcome, boundOutcome};
 ghost use Rattle.frontier.specs.Says.{asPoints, SolveExports, ListExports, CutExports, BoundExports};
 
+// The plain call by the second form of the search, or by the first one alone.
+fn solve_as(
+    problem: &[u8],
+    costs: &mut [u32],
+    choices: &mut [u8],
+    work: &mut [u32],
+    first_form: bool,
+) -> solving::Answer
+    ensures { λ r. ⌜ SolveExports (now (problem .entry))
+        (solveOutcome (now (problem .entry)) (now (costs .entry)) (now (choices .entry)) (now (work .entry)))
+        (now (costs .exit)) (now (choices .exit)) (now (work .exit)) (r .number) (r .place) (r .count) ⌝ }
+{
+    solving::solve_with(problem, costs, choices, work, first_form)
+}
+
 // The plain call.
 pub fn solve_problem(
     problem: &[u8],
@@ -14,7 +29,7 @@ pub fn solve_problem(
         (solveOutcome (now (problem .entry)) (now (costs .entry)) (now (choices .entry)) (now (work .entry)))
         (now (costs .exit)) (now (choices .exit)) (now (work .exit)) (r .number) (r .place) (r .count) ⌝ }
 {
-    solving::solve_with(problem, costs, choices, work, false)
+    solve_as(problem, costs, choices, work, false)
 }
 
 // The plain call by the first form of the search alone: the same answer, later. Benchmarks compare with it.
@@ -28,7 +43,7 @@ pub fn solve_by_passes(
         (solveOutcome (now (problem .entry)) (now (costs .entry)) (now (choices .entry)) (now (work .entry)))
         (now (costs .exit)) (now (choices .exit)) (now (work .exit)) (r .number) (r .place) (r .count) ⌝ }
 {
-    solving::solve_with(problem, costs, choices, work, true)
+    solve_as(problem, costs, choices, work, true)
 }
 
 // An answer for C: the number is the result, place and count go through references.

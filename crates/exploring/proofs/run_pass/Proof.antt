@@ -1,15 +1,13 @@
 -- `exploring::run_pass` meets its contract: the pass begins at the empty choice.
-use mathlib.Core.Path.{_≡_}
 use mathlib.Core.List.{List}
 use Prim.Native.Nat.{ℕ, _<_}
 use native.Mathlib.Omega.{arith}
-use lib.ListN.{length, getD, take, replicate, length-drop}
+use lib.ListN.{getD, length-drop}
 use denote.Ref.{now}
-use Rattle.model.specs.Limits.{maxVariables, byteEnd}
+use Rattle.model.specs.Limits.{byteEnd}
 use Rattle.groups.specs.Layout.{listEnd}
 use Rattle.exploring.specs.States.{Ready, Still}
 use Rattle.exploring.proofs.Memory.{ready-still, zones-still, lent-plan}
-use Rattle.branching.proofs.Zeros.{front-zeros}
 use Rattle.exploring.proofs.Passes.{root-standing, root-passed}
 use borrow.Author.Needs.{needs}
 use Rattle.exploring.proofs.run_pass.Statement.{statement}
@@ -18,7 +16,9 @@ use Rattle.exploring.proofs.run_pass.Tie as tie
 -- memory once the zones are made, and the plan as it is lent
 module _ (c : tie.After-start-zones) where
   abbrev begun : tie.Start
-  begun = c .before .before .before .before .before
+  begun =
+      let lent = c .before in
+      lent .before .before .before .before
 
   abbrev made : List ℕ
   made = c .start-zones .last .1 .1 .1 .0
@@ -29,8 +29,11 @@ module _ (c : tie.After-start-zones) where
   ready : Ready (begun .args .d) (begun .args .r) (begun .args .room) (begun .args .ceilings) (now (begun .args .sizes)) (now (begun .args .s)) made
   ready = ready-still kept (begun .args .d) (begun .args .room) (begun .args .ceilings) (now (begun .args .sizes)) (now (begun .args .s)) (begun .pre .0)
 
-  zeros : take {A = ℕ} (length (now (begun .args .sizes))) (replicate maxVariables 0) ≡ replicate (length (now (begun .args .sizes))) 0
-  zeros = front-zeros (length (now (begun .args .sizes))) maxVariables (ready .planned .variables)
+-- the zones, from where the bound of the empty choice is known
+abbrev zoned : tie.After-root-bound → tie.After-start-zones
+zoned c =
+    let lent = c .before .before in
+    lent .before .before .before
 
 start-zones-requires : tie.Need-start-zones-requires
 start-zones-requires c κs =
@@ -54,20 +57,27 @@ root-bound-requires c κs =
 
 try-choice-requires : tie.Need-try-choice-requires
 try-choice-requires c κs =
-    let z = c .before .before .before .before .before .before in
+    let rooted = c .before in
+    let z = zoned rooted in
     let s = begun z in
-    let bytes : (at : ℕ) → getD (now (s .args .s)) at 0 < byteEnd = λ at. omega (arith, c .before .before .before .before .before .before .before .before .before .before .shared-slice-known .given at) in
-    let base = rw (lent-plan (made z)) at (c .before .root-bound .ensures) in
-    rw (zeros z) (root-standing (s .pre .0) (s .pre .1) (z .start-zones .ensures .0) (z .start-zones .ensures .1) bytes (c .before .root-bound .result) base)
+    let known = z .before .before .before .before .shared-slice-known .given in
+    let bytes : (at : ℕ) → getD (now (s .args .s)) at 0 < byteEnd = λ at. omega (arith, known at) in
+    let bound = rw (lent-plan (made z)) at (rooted .root-bound .ensures) in
+    let zones = z .start-zones .ensures in
+    root-standing (s .pre .0) (s .pre .1) (zones .0) (zones .1) bytes (rooted .root-bound .result) bound
 
 same-length : tie.Need-same-length
 same-length c = search needs
 
 returns : tie.Need-returns
 returns c =
-    let z = c .before .before .before .before .before .before .before .before .before in
+    let rooted = c .before .before .before .before in
+    let z = zoned rooted in
     let s = begun z in
-    root-passed (s .pre .0) (s .pre .1) (z .start-zones .ensures .0) (z .start-zones .ensures .1) _ (c .before .before .try-choice .result) (rw (zeros z) at (c .before .before .try-choice .ensures))
+    let zones = z .start-zones .ensures in
+    let called = c .before .before .try-choice in
+    root-passed (s .pre .0) (s .pre .1) (zones .0) (zones .1)
+    (rooted .root-bound .result) _ (called .result) (called .ensures)
 
 pub run-pass-spec : {M : Type 1} → statement M
 run-pass-spec =

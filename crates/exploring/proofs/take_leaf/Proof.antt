@@ -1,10 +1,10 @@
 -- `exploring::take_leaf` meets its contract.
-use mathlib.Core.Path.{_≡_, refl, sym, ap, _∙_, subst}
+use mathlib.Core.Path.{_≡_, sym, ap, _∙_, subst}
 use mathlib.Core.Bool.{Bool, true, false}
 use mathlib.Core.List.{List, _++_}
-use Prim.Native.Nat.{ℕ, _≤_}
+use Prim.Native.Nat.{ℕ, _≤_, _<_}
 use native.Mathlib.Omega.{arith}
-use lib.ListN.{length, take, drop}
+use lib.ListN.{length, getD, take, drop}
 use lib.Seq.{length-take-le, take-take}
 use borrow.Author.Tests.{not-true, not-false}
 use mir.Syntax.{w64}
@@ -14,10 +14,9 @@ use Rattle.model.specs.Problems.{Word}
 use Rattle.model.specs.Vectors.{under}
 use Rattle.model.proofs.Elements.{all-take}
 use Rattle.model.proofs.Frontier.{under-words}
-use Rattle.vectors.specs.Fronts.{frontUnder}
 use Rattle.rows.proofs.Arrays.{array-length}
 use Rattle.archive.specs.Changes.{maxWeight}
-use Rattle.directions.specs.Directions.{maxDirections}
+use Rattle.directions.specs.Directions.{maxDirections, leadAt}
 use Rattle.groups.specs.Layout.{listEnd}
 use Rattle.zones.specs.Zones.{zonesEnd}
 use Rattle.exploring.proofs.Memory.{framed-zones, lent-front, lent-behind}
@@ -29,25 +28,83 @@ use Rattle.exploring.proofs.take_leaf.Statement.{statement}
 use Rattle.exploring.proofs.take_leaf.Tie as tie
 
 module _ (s : tie.Start) where
-  long-acc : maxDirections ≡ length (s .args .acc)
-  long-acc = sym (array-length w64 maxDirections (s .args .acc) _ (s .good .1 .0))
+  abbrev p : ℕ
+  p = s .args .d .objectives
+
+  abbrev acc : List ℕ
+  acc = s .args .bound
+
+  abbrev ceilings : List ℕ
+  ceilings = s .args .ceilings
 
   abbrev few : s .args .d .objectives ≤ maxObjectives
   few = s .pre .ready .planned .sensible .few
 
-  -- the first four numbers of the bound have the costs
-  module _ (front : List ℕ) (e : front ≡ take maxObjectives (s .args .acc)) where
-    costs : take (s .args .d .objectives) front ≡ take (s .args .d .objectives) (s .args .acc)
-    costs = ap (λ (u : List ℕ). take (s .args .d .objectives) u) e ∙ take-take (s .args .d .objectives) maxObjectives (s .args .acc) few
+  wide : maxDirections ≡ length acc
+  wide = sym (array-length w64 maxDirections acc _ (s .good .1 .0))
 
-    tested : (met t : Bool) → met ≡ frontUnder (s .args .d .objectives) front (s .args .ceilings) → met ≡ t → under (take (s .args .d .objectives) (s .args .acc)) (take (s .args .d .objectives) (s .args .ceilings)) ≡ t
-    tested met t says is = ap (λ (u : List ℕ). under u (take (s .args .d .objectives) (s .args .ceilings))) (sym costs) ∙ sym says ∙ is
+  long-ceilings : length (take p ceilings) ≡ p
+  long-ceilings =
+      let four = array-length w64 maxObjectives ceilings _ (s .good .1 .1 .1 .1 .1 .1 .0) in
+      length-take-le p ceilings (omega (arith, few, four))
 
-    words : (met : Bool) → met ≡ frontUnder (s .args .d .objectives) front (s .args .ceilings) → met ≡ true → All Word (take (s .args .d .objectives) front)
-    words met says is =
-        let p = s .args .d .objectives in
-        let long : length (take p (s .args .ceilings)) ≡ p = length-take-le p (s .args .ceilings) (omega (arith, few, array-length w64 maxObjectives (s .args .ceilings) _ (s .good .1 .1 .1 .1 .1 .1 .0))) in
-        subst (All Word) (sym costs) (under-words (take p (s .args .acc)) (take p (s .args .ceilings)) (leaf-wide (s .pre) long-acc ∙ sym long) (tested met true says is) (all-take Word p (s .args .ceilings) (s .pre .ready .words)))
+-- the costs, which are the first numbers of the bound, were held to the ceilings
+module _ (c : tie.After-is-under) where
+  abbrev front : List ℕ
+  front = c .before .front-of .result
+
+  abbrev entry : tie.Start
+  entry =
+      let read = c .before in
+      read .before .before .before .before
+
+  costs : take (p entry) front ≡ take (p entry) (acc entry)
+  costs =
+      ap (λ (u : List ℕ). take (p entry) u) (c .before .front-of .ensures)
+      ∙ take-take (p entry) maxObjectives (acc entry) (few entry)
+
+  met : (t : Bool) → c .is-under .result ≡ t → under (take (p entry) (acc entry)) (take (p entry) (ceilings entry)) ≡ t
+  met t is =
+      ap (λ (u : List ℕ). under u (take (p entry) (ceilings entry))) (sym costs) ∙ sym (c .is-under .ensures) ∙ is
+
+-- it is under the ceilings and below the limit
+module _ (c : tie.Else2) where
+  abbrev tested : tie.After-is-under
+  tested = c .before .before .before .before
+
+  abbrev begun : tie.Start
+  begun = entry tested
+
+  allowed : under (take (p begun) (acc begun)) (take (p begun) (ceilings begun)) ≡ true
+  allowed = met tested true (not-false _ (c .before .before .before .if1 .left))
+
+  early : getD (acc begun) (leadAt (begun .args .d)) 0 < begun .args .run .limit
+  early = omega (arith, c .before .before .lead-of .ensures, c .if2 .left)
+
+  words : All Word (take (p begun) (front tested))
+  words =
+      let n = p begun in
+      let limits = all-take Word n (ceilings begun) (begun .pre .ready .words) in
+      let long = leaf-wide (begun .pre) (wide begun) ∙ sym (long-ceilings begun) in
+      subst (All Word) (sym (costs tested))
+      (under-words (take n (acc begun)) (take n (ceilings begun)) long allowed limits)
+
+-- it was met by the archive
+module _ (c : tie.After-take-point) where
+  abbrev weights : tie.After-lead-weights
+  weights = c .before .before
+
+  abbrev taking : tie.Else2
+  taking = weights .before
+
+  abbrev start : tie.Start
+  start = begun taking
+
+  abbrev after : List ℕ
+  after = c .take-point .last .1 .1 .1 .1 .1 .1 .1 .1 .0
+
+  memory : listEnd ≤ length after
+  memory = omega (arith, start .pre .ready .long, c .take-point .ensures .frame .long)
 
 front-of-requires : tie.Need-front-of-requires
 front-of-requires c κs = search needs
@@ -57,71 +114,88 @@ is-under-requires c κs = search needs
 
 returns : tie.Need-returns
 returns c =
-    let s = c .before .before .before .before .before .before in
-    opened-same (s .pre) (over-covers (s .pre) (long-acc s) (tested s _ (c .before .before .front-of .ensures) _ false (c .before .is-under .ensures) (not-true _ (c .if1 .taken))))
+    let t = c .before in
+    let s = entry t in
+    opened-same (s .pre) (over-covers (s .pre) (wide s) (met t false (not-true _ (c .if1 .taken))))
 
 lead-of-requires : tie.Need-lead-of-requires
 lead-of-requires c κs = search needs
 
 returns-2 : tie.Need-returns-2
 returns-2 c =
-    let s = c .before .before .before .before .before .before .before .before .before in
-    opened-same (s .pre) (late-covers (s .pre) (omega (arith, c .before .before .lead-of .ensures, c .if2 .taken)))
+    let h = entry (c .before .before .before .before) .pre in
+    opened-same h (late-covers h (omega (arith, c .before .before .lead-of .ensures, c .if2 .taken)))
 
 lead-weights-requires : tie.Need-lead-weights-requires
 lead-weights-requires c κs = search needs
 
 take-point-requires : tie.Need-take-point-requires
 take-point-requires c κs =
-    let s = c .before .before .before .before .before .before .before .before .before .before .before in
-    let h = s .pre in
-    let weights = c .before .lead-weights .ensures in
-    (omega (arith, h .ready .long), h .running .few, h .ready .room-small, few s, h .ready .planned .variables, words s _ (c .before .before .before .before .before .before .before .front-of .ensures) _ (c .before .before .before .before .before .before .is-under .ensures) (not-false _ (c .before .before .before .before .before .if1 .left)), all-take (λ w. w ≤ maxWeight) (s .args .d .objectives) _ (weights .1), h .running .distinct)
+    let w = c .before in
+    let s = begun (w .before) in
+    let h = s .pre in (
+      omega (arith, h .ready .long),
+      h .running .few,
+      h .ready .room-small,
+      few s,
+      h .ready .planned .variables,
+      words (w .before),
+      all-take (λ u. u ≤ maxWeight) (p s) _ (w .lead-weights .ensures .1),
+      h .running .distinct,
+    )
 
 same-length : tie.Need-same-length
 same-length c = search needs
 
 returns-3 : tie.Need-returns-3
 returns-3 c =
-    let s = c .before .before .before .before .before .before .before .before .before .before .before .before .before .before .before .before in
-    let front = c .before .before .before .before .before .before .before .before .before .before .before .before .front-of in
-    let under = c .before .before .before .before .before .before .before .before .before .before .before .is-under in
-    let early = c .before .before .before .before .before .before .before in
-    let take = c .before .before .before .before .take-point in
-    leaf-kept (s .pre) (long-acc s) (tested s _ (front .ensures) _ true (under .ensures) (not-false _ (c .before .before .before .before .before .before .before .before .before .before .if1 .left))) (omega (arith, early .before .before .lead-of .ensures, early .if2 .left)) _ (s .args .x) (costs s _ (front .ensures)) refl (take .result) _ (weighed (c .before .before .before .before .before .before .lead-weights .ensures .0) (take .ensures))
+    let t = c .before .before .before .before in
+    let e = taking t in
+    let s = start t in
+    let takes = weighed (weights t .lead-weights .ensures .0) (t .take-point .ensures) in
+    leaf-kept (s .pre) (wide s) (allowed e) (early e) _ (costs (tested e))
+    (t .take-point .result) _ takes
 
 slice-relend-prefix-split-zones : tie.Need-slice-relend-prefix-split-zones
 slice-relend-prefix-split-zones c = search needs
 
 slice-aggregate-split-zones : tie.Need-slice-aggregate-split-zones
 slice-aggregate-split-zones c =
-    let s = c .before .before .before .before .before .before .before .before .before .before .before .before .before .before .before .before .before in
-    let take = c .before .before .before .before .before .take-point in
-    sym (length-take-le zonesEnd (take .last .1 .1 .1 .1 .1 .1 .1 .1 .0) (omega (arith, s .pre .ready .long, take .ensures .frame .long)))
+    let e = c .before in
+    let t = e .before .before .before .before in
+    sym (length-take-le zonesEnd (after t) (omega (arith, memory t)))
 
 split-zones-requires : tie.Need-split-zones-requires
 split-zones-requires c κs =
-    let s = c .before .before .before .before .before .before .before .before .before .before .before .before .before .before .before .before .before in
-    let take = c .before .before .before .before .before .take-point in
-    (s .pre .ready .planned .sensible, rw (framed-zones (take .ensures .frame)) (s .pre .running .measured), words s _ (c .before .before .before .before .before .before .before .before .before .before .before .before .before .front-of .ensures) _ (c .before .before .before .before .before .before .before .before .before .before .before .before .is-under .ensures) (not-false _ (c .before .before .before .before .before .before .before .before .before .before .before .if1 .left)))
+    let e = c .before in
+    let t = e .before .before .before .before in
+    let h = start t .pre in
+    let same = framed-zones (t .take-point .ensures .frame) in
+    (h .ready .planned .sensible, rw same (h .running .measured), words (taking t))
 
 same-length-2 : tie.Need-same-length-2
 same-length-2 c = search needs
 
 returns-4 : tie.Need-returns-4
 returns-4 c =
-    let s = c .before .before .before .before .before .before .before .before .before .before .before .before .before .before .before .before .before .before .before .before in
-    let a = s .args in
-    let front = c .before .before .before .before .before .before .before .before .before .before .before .before .before .before .before .before .front-of in
-    let under = c .before .before .before .before .before .before .before .before .before .before .before .before .before .before .before .is-under in
-    let early = c .before .before .before .before .before .before .before .before .before .before .before in
-    let take = c .before .before .before .before .before .before .before .before .take-point in
-    let work = take .last .1 .1 .1 .1 .1 .1 .1 .1 .0 in
-    let split = c .before .before .split-zones in
-    let z = split .last .1 .1 .1 .0 in
-    let memory : listEnd ≤ length work = omega (arith, s .pre .ready .long, take .ensures .frame .long) in
-    let long = lent-long (a .d) work z (split .result) (split .ensures .1) memory (split .ensures .0) in
-    leaf-split (s .pre) (long-acc s) (tested s _ (front .ensures) _ true (under .ensures) (not-false _ (c .before .before .before .before .before .before .before .before .before .before .before .before .before .before .if1 .left))) (omega (arith, early .before .before .lead-of .ensures, early .if2 .left)) (front .result) (a .x) (costs s _ (front .ensures)) refl (take .result) work (weighed (c .before .before .before .before .before .before .before .before .before .before .lead-weights .ensures .0) (take .ensures)) (not-false _ (c .before .before .before .before .if3 .left)) (z ++ drop zonesEnd work) (split .result) (lent-same (a .d) work z (split .result) (split .ensures .1) memory (split .ensures .0)) (lent-behind z (drop zonesEnd work) long) (lent-measured (a .d) work z (split .result) (split .ensures .1) memory (split .ensures .0)) (rw (lent-front z (drop zonesEnd work) long) (split .ensures .2))
+    let split = c .before .before in
+    let z = split .split-zones .last .1 .1 .1 .0 in
+    let m = split .split-zones .result in
+    let says = split .split-zones .ensures in
+    let added = split .before .before in
+    let t = added .before .before .before .before in
+    let e = taking t in
+    let s = start t in
+    let d = s .args .d in
+    let work = after t in
+    let takes = weighed (weights t .lead-weights .ensures .0) (t .take-point .ensures) in
+    let long = lent-long d work z m (says .1) (memory t) (says .0) in
+    leaf-split (s .pre) (wide s) (allowed e) (early e) (front (tested e)) (costs (tested e))
+    (t .take-point .result) work takes (not-false _ (added .if3 .left)) (z ++ drop zonesEnd work) m
+    (lent-same d work z m (says .1) (memory t) (says .0))
+    (lent-behind z (drop zonesEnd work) long)
+    (lent-measured d work z m (says .1) (memory t) (says .0))
+    (rw (lent-front z (drop zonesEnd work) long) (says .2))
 
 pub take-leaf-spec : {M : Type 1} → statement M
 take-leaf-spec =

@@ -1,0 +1,31 @@
+-- `frontier_cut` meets its contract: what `solve_cut` promises, handed to C.
+use borrow.Author.Needs.{needs}
+use Rattle.frontier.proofs.Promises.{cut-export}
+use Rattle.frontier.proofs.frontier_cut.Statement.{statement}
+use Rattle.frontier.proofs.frontier_cut.Tie as tie
+
+solve-cut-requires : tie.Need-solve-cut-requires
+solve-cut-requires c κs = search needs
+
+tell-requires : tie.Need-tell-requires
+tell-requires c κs = search needs
+
+same-length : tie.Need-same-length
+same-length c = search needs
+
+same-length-2 : tie.Need-same-length-2
+same-length-2 c = search needs
+
+same-length-3 : tie.Need-same-length-3
+same-length-3 c = search needs
+
+returns : tie.Need-returns
+returns c =
+    let copied : tie.After-work = c .before .before .before .before in
+    let known : tie.After-slice-known4 = copied .before .before .before in
+    let cut : tie.After-solve-cut = known .before .before in
+    cut-export (cut .solve-cut .result) (cut .solve-cut .ensures) _ _ _ (c .tell .ensures)
+
+pub frontier-cut-spec : {M : Type 1} → statement M
+frontier-cut-spec =
+    tie.close (tie.spec solve-cut-requires tell-requires same-length same-length-2 same-length-3 returns)

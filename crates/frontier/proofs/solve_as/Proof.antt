@@ -1,0 +1,32 @@
+-- `solve_as` meets its contract: it promises what `solve_with` does, and that the problem's elements are bytes.
+use native.Mathlib.Omega.{arith}
+use denote.Ref.{now}
+use borrow.Author.Needs.{needs}
+use Rattle.frontier.proofs.Promises.{solve-promise}
+use Rattle.frontier.proofs.solve_as.Statement.{statement}
+use Rattle.frontier.proofs.solve_as.Tie as tie
+
+solve-with-requires : tie.Need-solve-with-requires
+solve-with-requires c κs = search needs
+
+same-length : tie.Need-same-length
+same-length c = search needs
+
+same-length-2 : tie.Need-same-length-2
+same-length-2 c = search needs
+
+same-length-3 : tie.Need-same-length-3
+same-length-3 c = search needs
+
+returns : tie.Need-returns
+returns c =
+    let copied : tie.After-choices = c .before .before .before in
+    let solved : tie.After-solve-with = copied .before .before .before in
+    let lent : tie.After-slice-known3 = solved .before .before .before .before in
+    let known : tie.After-shared-slice-known = lent .before .before .before in
+    let s = now (known .before .args .problem) in
+    solve-promise s (λ i. omega (arith, known .shared-slice-known .given i)) _ (solved .solve-with .result)
+    (solved .solve-with .ensures)
+
+pub solve-as-spec : {M : Type 1} → statement M
+solve-as-spec = tie.close (tie.spec solve-with-requires same-length same-length-2 same-length-3 returns)

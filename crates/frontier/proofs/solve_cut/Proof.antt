@@ -1,0 +1,32 @@
+-- `solve_cut` meets its contract: it promises what `cut_problem` does, and that the problem's elements are bytes.
+use native.Mathlib.Omega.{arith}
+use denote.Ref.{now}
+use borrow.Author.Needs.{needs}
+use Rattle.frontier.proofs.Promises.{cut-promise}
+use Rattle.frontier.proofs.solve_cut.Statement.{statement}
+use Rattle.frontier.proofs.solve_cut.Tie as tie
+
+cut-problem-requires : tie.Need-cut-problem-requires
+cut-problem-requires c κs = search needs
+
+same-length : tie.Need-same-length
+same-length c = search needs
+
+same-length-2 : tie.Need-same-length-2
+same-length-2 c = search needs
+
+same-length-3 : tie.Need-same-length-3
+same-length-3 c = search needs
+
+returns : tie.Need-returns
+returns c =
+    let copied : tie.After-choices = c .before .before .before in
+    let cut : tie.After-cut-problem = copied .before .before .before in
+    let lent : tie.After-slice-known3 = cut .before .before .before .before in
+    let known : tie.After-shared-slice-known = lent .before .before .before .before in
+    let s = now (known .before .args .problem) in
+    cut-promise s (λ i. omega (arith, known .shared-slice-known .given i)) _ (cut .cut-problem .result)
+    (cut .cut-problem .ensures)
+
+pub solve-cut-spec : {M : Type 1} → statement M
+solve-cut-spec = tie.close (tie.spec cut-problem-requires same-length same-length-2 same-length-3 returns)
