@@ -67,7 +67,13 @@ halfTables k ss (t ∷ ts) = keepIf (inHalf k ss (t .scope)) (halfTable k ss t) 
 
 -- half k: its variables in order, its records, all ceilings
 unfoldable pub half : ℕ → Problem → List ℕ → Problem
-half k q ss = record { objectives = q .objectives; ceilings = q .ceilings; domains = onSide k ss (q .domains); tables = halfTables k ss (q .tables) }
+half k q ss =
+    record {
+      objectives = q .objectives;
+      ceilings = q .ceilings;
+      domains = onSide k ss (q .domains);
+      tables = halfTables k ss (q .tables);
+    }
 
 -- "merged choice" is document 01's term: each variable has the value of its half's choice
 unfoldable pub merged : List ℕ → List ℕ → List ℕ → List ℕ

@@ -398,7 +398,9 @@ impl<'a> Reader<'a> {
     // The reader behind the accepted cost record at its place.
     pub fn next(self, sizes: &[u8]) -> Reader<'a>
         requires { ⌜ Whole (now sizes) (now (self .bytes)) (self .at) × All DomainSize (now sizes) ⌝ }
-        ensures { λ r. ⌜ (r .bytes ≡ self .entry .bytes) × (r .at ≡ self .entry .at + tableLength (now (sizes .entry)) (drop (self .entry .at) (now (self .entry .bytes)))) ⌝ }
+        ensures { λ r. ⌜ (r .bytes ≡ self .entry .bytes)
+            × (r .at ≡ self .entry .at
+            + tableLength (now (sizes .entry)) (drop (self .entry .at) (now (self .entry .bytes)))) ⌝ }
     {
         let at = next_place(self.bytes, self.at, sizes);
         Reader {

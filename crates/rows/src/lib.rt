@@ -142,7 +142,8 @@ pub fn point_at(work: &[u32], row: usize, n: usize, p: usize) -> model::Point
 // Writes the records of the first `k` rows over the start of a list of records. Proved by hand.
 pub fn copy_points(work: &[u32], k: usize, n: usize, p: usize, points: &mut [model::Point])
     requires { ⌜ (k ≤ length (now points)) × RowsHold p n k (now work) ⌝ }
-    ensures { λ _. ⌜ now (points .exit) ≡ over (recordsOf (listIn p n (now (work .entry)) 0 k)) (now (points .entry)) ⌝ }
+    ensures { λ _. ⌜ now (points .exit)
+        ≡ over (recordsOf (listIn p n (now (work .entry)) 0 k)) (now (points .entry)) ⌝ }
 {
     let mut row: usize = 0;
     while row < k {
