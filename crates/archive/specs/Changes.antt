@@ -34,14 +34,17 @@ pub record Dropping (p c : ℕ) (v work : List ℕ) (i left : ℕ) (work′ : Li
   pub fewer : left ≤ c
   pub unbeaten : (j : ℕ) → j < i → atMost (take p v) (costsIn p work′ j) ≡ false
   pub old : (j : ℕ) → j < left → (k : ℕ) × (k < c) × (rowIn work′ j ≡ rowIn work k)
-  pub kept : (k : ℕ) → k < c → atMost (take p v) (costsIn p work k) ≡ false → (j : ℕ) × (j < left) × (rowIn work′ j ≡ rowIn work k)
+  pub kept : (k : ℕ) → k < c → atMost (take p v) (costsIn p work k) ≡ false
+      → (j : ℕ) × (j < left) × (rowIn work′ j ≡ rowIn work k)
   pub apart : Apart p work c → Apart p work′ left
 
--- the choice x with the costs v against row i, whose costs match them: the row does as well, or it takes the earlier choice
+-- the choice x with the costs v against row i, whose costs match them: the row does as well,
+-- or it takes the earlier choice
 abbrev pub Kept : ℕ → ℕ → List ℕ → List ℕ → List ℕ → ℕ → List ℕ → Type 0
 Kept p n v x work i work′ =
     ((work′ ≡ work) × Serves (pointIn p n work i) (point (take p v) (take n x)))
-    ⊎ ((take p v ≡ costsIn p work i) × (earlier (take n x) (valuesIn n work i) ≡ true) × RowWritten work i (point (padded maxObjectives (take p v)) x) work′)
+    ⊎ ((take p v ≡ costsIn p work i) × (earlier (take n x) (valuesIn n work i) ≡ true)
+    × RowWritten work i (point (padded maxObjectives (take p v)) x) work′)
 
 -- the new point has the largest sum: it is not stored
 pub record Refused (p c : ℕ) (ws v work : List ℕ) (t : DT.Taken) (work′ : List ℕ) : Type 0 where

@@ -21,10 +21,12 @@ Meets ws archive limit y archive′ limit′ =
     → Archived q ws archive′ limit′ × Follows ws archive limit archive′ limit′ × Covered ws archive′ limit′ y
 
 -- the choice x with the costs v is met; the limit falls only where the archive is full
-pub record Takes (p n room : ℕ) (ws v x : List ℕ) (points limit : ℕ) (work : List ℕ) (t : DT.Taken) (work′ : List ℕ) : Type 0 where
+pub record Takes (p n room : ℕ) (ws v x : List ℕ) (points limit : ℕ) (work : List ℕ) (t : DT.Taken) (work′ : List ℕ)
+    : Type 0 where
   pub few : t .points ≤ room + 1
   pub frame : Framed work work′
   pub distinct : Distinct (listIn p n work′ 0 (t .points))
-  pub meets : Meets ws (listIn p n work 0 points) limit (point (take p v) (take n x)) (listIn p n work′ 0 (t .points)) (t .limit)
+  pub meets : Meets ws (listIn p n work 0 points) limit (point (take p v) (take n x))
+      (listIn p n work′ 0 (t .points)) (t .limit)
   pub falls : (t .limit ≡ limit) ⊎ (t .points ≡ room + 1)
   pub stored : t .added ≡ true → In (point (take p v) (take n x)) (listIn p n work′ 0 (t .points))

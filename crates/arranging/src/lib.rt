@@ -138,7 +138,8 @@ fn is_between(set: u32, needed: u32, allowed: u32) -> bool {
     set & !allowed == 0
 }
 
-// Of the records from number `from` to below `to` brings those whose positions have all of `needed` and nothing outside `allowed` to the front, and answers where they end.
+// Of the records from number `from` to below `to` brings those whose positions have all of `needed` and nothing outside
+// `allowed` to the front, and answers where they end.
 pub fn gather_records(
     s: &[u8],
     needed: u32,

@@ -1,4 +1,5 @@
--- The bounds of a partial choice with each value of its next variable, from rows of what that value's bucket holds: the bound so far, and what the bucket holds beyond what it sent.
+-- The bounds of a partial choice with each value of its next variable, from rows of what that value's bucket holds: the
+-- bound so far, and what the bucket holds beyond what it sent.
 use mathlib.Core.List.{List}
 use Prim.Native.Nat.{ℕ, _+_, _-_, _*_, _≤_, _<_}
 use lib.ListN.{getD}
@@ -13,7 +14,8 @@ wideEnd = 18446744073709551616
 
 -- in w directions no more was sent than the bucket holds with value a, and nothing wraps
 abbrev pub Holding : ℕ → List ℕ → List ℕ → List ℕ → ℕ → Type 0
-Holding w acc away rows a = (j : ℕ) → j < w → (getD away j 0 ≤ getD rows (8 * a + j) 0) × (getD acc j 0 + getD rows (8 * a + j) 0 < wideEnd)
+Holding w acc away rows a =
+    (j : ℕ) → j < w → (getD away j 0 ≤ getD rows (8 * a + j) 0) × (getD acc j 0 + getD rows (8 * a + j) 0 < wideEnd)
 
 -- the bound with value a, in direction j
 abbrev pub nextBound : List ℕ → List ℕ → List ℕ → ℕ → ℕ → ℕ
@@ -21,7 +23,8 @@ nextBound acc away rows a j = getD acc j 0 + (getD rows (8 * a + j) 0 - getD awa
 
 -- the bucket of position k, for each value of its variable v, and what it sends
 abbrev pub Bucket : DD.Directions → List ℕ → List ℕ → List ℕ → ℕ → ℕ → List ℕ → List ℕ → Type 0
-Bucket d ds s plan k v x rows = Filled d ds s plan (recordEnd plan (k + 1)) (recordEnd plan k) (childEnd plan (k + 1)) (childEnd plan k) v x rows
+Bucket d ds s plan k v x rows =
+    Filled d ds s plan (recordEnd plan (k + 1)) (recordEnd plan k) (childEnd plan (k + 1)) (childEnd plan k) v x rows
 
 abbrev pub Away : DD.Directions → List ℕ → ℕ → List ℕ → List ℕ → Type 0
 Away d plan k x away = Summed (widthOf d) plan (messageEnd plan (k + 1)) (messageEnd plan k) x away

@@ -23,7 +23,9 @@ pub fn bucket_at(
     d: directions::Directions,
     plan: &[u32],
 ) -> [u64; 64]
-    requires { ⌜ Planned d r (now sizes) (now s) (now plan) × Tested d r (now sizes) (now s) (now plan) × (numbersAt ≤ length (now plan)) × (k < length (now sizes)) × (v < length (now sizes)) × (isChoice (now sizes) (now x) ≡ true) ⌝ }
+    requires { ⌜ Planned d r (now sizes) (now s) (now plan) × Tested d r (now sizes) (now s) (now plan)
+        × (numbersAt ≤ length (now plan)) × (k < length (now sizes)) × (v < length (now sizes))
+        × (isChoice (now sizes) (now x) ≡ true) ⌝ }
     ensures { λ rows. ⌜ Bucket d (now (sizes .entry)) (now (s .entry)) (now (plan .entry)) k v (now (x .entry)) rows ⌝ }
 {
     let next = k + 1;
@@ -44,7 +46,8 @@ pub fn away_at(
     d: directions::Directions,
     plan: &[u32],
 ) -> [u64; 8]
-    requires { ⌜ Planned d r (now sizes) (now s) (now plan) × Tested d r (now sizes) (now s) (now plan) × (numbersAt ≤ length (now plan)) × (k < length (now sizes)) ⌝ }
+    requires { ⌜ Planned d r (now sizes) (now s) (now plan) × Tested d r (now sizes) (now s) (now plan)
+        × (numbersAt ≤ length (now plan)) × (k < length (now sizes)) ⌝ }
     ensures { λ t. ⌜ Away d (now (plan .entry)) k (now (x .entry)) t ⌝ }
 {
     let next = k + 1;
@@ -79,7 +82,8 @@ pub fn leads_of(
     d: directions::Directions,
 ) -> [u64; 8]
     requires { ⌜ Sensible d × (size ≤ maxDomain) × ((a : ℕ) → a < size → Holding (widthOf d) acc away (now rows) a) ⌝ }
-    ensures { λ l. ⌜ (length l ≡ maxDomain) × ((a : ℕ) → a < size → getD l a 0 ≡ nextBound acc away (now (rows .entry)) a (leadAt d)) ⌝ }
+    ensures { λ l. ⌜ (length l ≡ maxDomain)
+        × ((a : ℕ) → a < size → getD l a 0 ≡ nextBound acc away (now (rows .entry)) a (leadAt d)) ⌝ }
 {
     let lead = directions::lead_at(d);
     let mut leads = [0u64; 8];
@@ -94,7 +98,8 @@ pub fn leads_of(
 // The first of `size` values with the least lead.
 pub fn least_value(leads: &[u64; 8], size: usize) -> usize
     requires { ⌜ (1 ≤ size) × (size ≤ maxDomain) ⌝ }
-    ensures { λ a. ⌜ (a < size) × ((b : ℕ) → b < size → getD (now (leads .entry)) a 0 ≤ getD (now (leads .entry)) b 0) ⌝ }
+    ensures { λ a. ⌜ (a < size)
+        × ((b : ℕ) → b < size → getD (now (leads .entry)) a 0 ≤ getD (now (leads .entry)) b 0) ⌝ }
 {
     let mut least: usize = 0;
     let mut a: usize = 1;
@@ -125,8 +130,11 @@ pub fn root_bound(
     d: directions::Directions,
     plan: &[u32],
 ) -> [u64; 8]
-    requires { ⌜ Planned d r (now sizes) (now s) (now plan) × Tested d r (now sizes) (now s) (now plan) × (numbersAt ≤ length (now plan)) × (1 ≤ length (now sizes)) ⌝ }
-    ensures { λ b. ⌜ ((j : ℕ) → j < widthOf d → getD b j 0 ≡ baseAt d (now (sizes .entry)) (now (s .entry)) (now (plan .entry)) r (replicate (length (now (sizes .entry))) 0) j) ⌝ }
+    requires { ⌜ Planned d r (now sizes) (now s) (now plan) × Tested d r (now sizes) (now s) (now plan)
+        × (numbersAt ≤ length (now plan)) × (1 ≤ length (now sizes)) ⌝ }
+    ensures { λ b. ⌜ ((j : ℕ) → j < widthOf d
+        → getD b j 0 ≡ baseAt d (now (sizes .entry)) (now (s .entry)) (now (plan .entry)) r
+        (replicate (length (now (sizes .entry))) 0) j) ⌝ }
 {
     let zeros = [0u8; 24];
     let n = sizes.len();

@@ -39,7 +39,10 @@ pub record MessageSays (w : ℕ) (plan : List ℕ) (g v : ℕ) (x : List ℕ) (r
 
 -- the entry of the record at `at`, as v runs through its values: it is in the table
 abbrev pub EntrySays : List ℕ → List ℕ → ℕ → ℕ → List ℕ → DR.Run → Type 0
-EntrySays ds s at v x r = (a : ℕ) → a < getD ds v 0 → (entryFrom 0 ds (scopeAt s at) (set x v a) ≡ r .first + a * r .stride) × (r .first + a * r .stride < entriesAt ds s at)
+EntrySays ds s at v x r =
+    (a : ℕ) → a < getD ds v 0
+    → (entryFrom 0 ds (scopeAt s at) (set x v a) ≡ r .first + a * r .stride)
+    × (r .first + a * r .stride < entriesAt ds s at)
 
 -- n numbers from `at` on are f's, the others are as before; a row has eight
 pub record PartFilled (f : ℕ → ℕ) (at n : ℕ) (before after : List ℕ) : Type 0 where
@@ -60,16 +63,22 @@ Addable size rows = (64 ≤ length rows) × ((a j : ℕ) → a < size → j < 8 
 
 -- a number for each value and direction was added to their rows
 abbrev pub RowsAdded : ℕ → (ℕ → ℕ → ℕ) → List ℕ → List ℕ → Type 0
-RowsAdded size f before after = (a j : ℕ) → a < size → j < 8 → getD after (8 * a + j) 0 ≡ getD before (8 * a + j) 0 + f a j
+RowsAdded size f before after =
+    (a j : ℕ) → a < size → j < 8 → getD after (8 * a + j) 0 ≡ getD before (8 * a + j) 0 + f a j
 
 -- the messages in some slots were added to the rows of v's values
 pub record Received (w : ℕ) (plan : List ℕ) (first last v size : ℕ) (x before after : List ℕ) : Type 0 where
   pub sums : RowsAdded size (λ a j. receivedOver w plan first last (set x v a) j) before after
-  pub small : (a j : ℕ) → a < size → j < 8 → getD after (8 * a + j) 0 ≤ getD before (8 * a + j) 0 + wordEnd * maxMessages
+  pub small : (a j : ℕ) → a < size → j < 8
+      → getD after (8 * a + j) 0 ≤ getD before (8 * a + j) 0 + wordEnd * maxMessages
 
 -- four totals for each value of v: the record at `at` was added to its objective's
 abbrev pub RecordAdded : List ℕ → List ℕ → ℕ → ℕ → List ℕ → List ℕ → List ℕ → Type 0
-RecordAdded ds s at v x before after = (a o : ℕ) → a < getD ds v 0 → o < 4 → (getD after (4 * a + o) 0 ≡ getD before (4 * a + o) 0 + when (eqb (tableObjective (drop at s)) o) (costOf ds (set x v a) (tableAt ds s at))) × (getD after (4 * a + o) 0 < getD before (4 * a + o) 0 + wordEnd)
+RecordAdded ds s at v x before after =
+    (a o : ℕ) → a < getD ds v 0 → o < 4
+    → (getD after (4 * a + o) 0
+    ≡ getD before (4 * a + o) 0 + when (eqb (tableObjective (drop at s)) o) (costOf ds (set x v a) (tableAt ds s at)))
+    × (getD after (4 * a + o) 0 < getD before (4 * a + o) 0 + wordEnd)
 
 -- zeros alone
 abbrev pub Blank : List ℕ → Type 0
@@ -77,12 +86,18 @@ Blank xs = (i : ℕ) → getD xs i 0 ≡ 0
 
 -- the totals of the records from number `from` to below `to`
 abbrev pub Totalled : List ℕ → List ℕ → List ℕ → ℕ → ℕ → ℕ → List ℕ → List ℕ → Type 0
-Totalled ds s plan from to v x t = (a o : ℕ) → a < getD ds v 0 → o < 4 → (getD t (4 * a + o) 0 ≡ total o (costOf ds (set x v a)) (tablesOver ds s (placesOver plan from to))) × (getD t (4 * a + o) 0 < sumEnd)
+Totalled ds s plan from to v x t =
+    (a o : ℕ) → a < getD ds v 0 → o < 4
+    → (getD t (4 * a + o) 0 ≡ total o (costOf ds (set x v a)) (tablesOver ds s (placesOver plan from to)))
+    × (getD t (4 * a + o) 0 < sumEnd)
 
 -- sum i of four costs, by its row of a table of weights
 abbrev pub fourSum : List ℕ → ℕ → ℕ → ℕ → ℕ → ℕ → ℕ
-fourSum ws a b c e i = getD ws (4 * i) 0 * a + getD ws (4 * i + 1) 0 * b + getD ws (4 * i + 2) 0 * c + getD ws (4 * i + 3) 0 * e
+fourSum ws a b c e i =
+    getD ws (4 * i) 0 * a + getD ws (4 * i + 1) 0 * b + getD ws (4 * i + 2) 0 * c + getD ws (4 * i + 3) 0 * e
 
 -- the totals of each value in every direction
 abbrev pub Directed : DD.Directions → ℕ → List ℕ → List ℕ → Type 0
-Directed d size totals rows = (a j : ℕ) → a < size → j < 8 → getD rows (8 * a + j) 0 ≡ getD (directionsOf d (take (d .objectives) (take 4 (drop (4 * a) totals)))) j 0
+Directed d size totals rows =
+    (a j : ℕ) → a < size → j < 8
+    → getD rows (8 * a + j) 0 ≡ getD (directionsOf d (take (d .objectives) (take 4 (drop (4 * a) totals)))) j 0

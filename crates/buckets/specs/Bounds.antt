@@ -1,4 +1,5 @@
--- The bound of a partial choice: what its first positions' buckets hold, less what they sent on ahead. It reads the values of these positions only.
+-- The bound of a partial choice: what its first positions' buckets hold, less what they sent on ahead. It reads the
+-- values of these positions only.
 use mathlib.Core.Path.{_≡_}
 use mathlib.Core.List.{List}
 use Prim.Native.Nat.{ℕ, zero, suc, _+_, _-_, _<_}
@@ -22,11 +23,13 @@ recordsOver d ds s plan from to y j = getD (directionsOf d (costsOver d ds s (pl
 
 -- what some records and some received messages hold together
 abbrev pub contentOver : DD.Directions → List ℕ → List ℕ → List ℕ → ℕ → ℕ → ℕ → ℕ → List ℕ → ℕ → ℕ
-contentOver d ds s plan from to first last y j = recordsOver d ds s plan from to y j + receivedOver (widthOf d) plan first last y j
+contentOver d ds s plan from to first last y j =
+    recordsOver d ds s plan from to y j + receivedOver (widthOf d) plan first last y j
 
 -- the bucket of position k, what it sends, and what no variable decides
 abbrev pub contentAt : DD.Directions → List ℕ → List ℕ → List ℕ → ℕ → List ℕ → ℕ → ℕ
-contentAt d ds s plan k y j = contentOver d ds s plan (recordEnd plan (k + 1)) (recordEnd plan k) (childEnd plan (k + 1)) (childEnd plan k) y j
+contentAt d ds s plan k y j =
+    contentOver d ds s plan (recordEnd plan (k + 1)) (recordEnd plan k) (childEnd plan (k + 1)) (childEnd plan k) y j
 
 abbrev pub sentAt : DD.Directions → List ℕ → ℕ → List ℕ → ℕ → ℕ
 sentAt d plan k y j = sentOver (widthOf d) plan (messageEnd plan (k + 1)) (messageEnd plan k) y j

@@ -39,9 +39,13 @@ pub record Ranged (r from to first last : ℕ) : Type 0 where
   pub children : first ≤ last
   pub children-end : last ≤ maxMessages
 
--- rows of eight numbers, one for each value of the variable v: what the records and the received messages hold at the choice x with that value
+-- rows of eight numbers, one for each value of the variable v: what the records and the received messages hold at the
+-- choice x with that value
 abbrev pub Filled : DD.Directions → List ℕ → List ℕ → List ℕ → ℕ → ℕ → ℕ → ℕ → ℕ → List ℕ → List ℕ → Type 0
-Filled d ds s plan from to first last v x rows = (a j : ℕ) → a < getD ds v 0 → j < widthOf d → (getD rows (8 * a + j) 0 ≡ contentOver d ds s plan from to first last (set x v a) j) × (getD rows (8 * a + j) 0 < contentEnd)
+Filled d ds s plan from to first last v x rows =
+    (a j : ℕ) → a < getD ds v 0 → j < widthOf d
+    → (getD rows (8 * a + j) 0 ≡ contentOver d ds s plan from to first last (set x v a) j)
+    × (getD rows (8 * a + j) 0 < contentEnd)
 
 -- the messages from number `from` to below `to` at a choice, in each of w directions
 abbrev pub Summed : ℕ → List ℕ → ℕ → ℕ → List ℕ → List ℕ → Type 0

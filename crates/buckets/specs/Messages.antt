@@ -1,4 +1,5 @@
--- What messages are worth: a message has a number for each direction and each pair of values of two variables; what lies outside the plan counts as 0.
+-- What messages are worth: a message has a number for each direction and each pair of values of two variables; what
+-- lies outside the plan counts as 0.
 use mathlib.Core.List.{List, [], _∷_}
 use Prim.Native.Nat.{ℕ, zero, suc, _+_, _*_, _-_}
 use lib.ListN.{getD, take, drop}

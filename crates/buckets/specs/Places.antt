@@ -1,5 +1,6 @@
--- Where things stand in a plan: a part of work memory that says in which order variables are searched, which records each position completes, and which
--- messages are sent. Positions count from the first variable that is searched. The first numbers are the records' places.
+-- Where things stand in a plan: a part of work memory that says in which order variables are searched, which records
+-- each position completes, and which messages are sent. Positions count from the first variable that is searched. The
+-- first numbers are the records' places.
 use mathlib.Core.List.{List}
 use Prim.Native.Nat.{ℕ, _+_, _*_}
 use lib.ListN.{getD}
@@ -32,7 +33,8 @@ childEndsAt = 449
 abbrev pub messageEndsAt : ℕ
 messageEndsAt = 474
 
--- seven numbers for each message: where its numbers start, two variables with their strides, and where the records and the received messages of its part end
+-- seven numbers for each message: where its numbers start, two variables with their strides, and where the records and
+-- the received messages of its part end
 abbrev pub messagesAt : ℕ
 messagesAt = 499
 

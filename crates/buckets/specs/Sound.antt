@@ -1,4 +1,5 @@
--- What the search relies on of a plan. Most of it is tested before the search (crate checking), so that nothing depends on how the plan was made.
+-- What the search relies on of a plan. Most of it is tested before the search (crate checking), so that nothing depends
+-- on how the plan was made.
 use mathlib.Core.Path.{_≡_}
 use mathlib.Core.Logic.{_⊎_}
 use mathlib.Core.Bool.{true}
@@ -11,13 +12,16 @@ use Rattle.model.specs.Reading.{tableScope}
 use Rattle.problem.specs.Records.{Whole}
 use Rattle.directions.specs.Directions.{widthOf}
 use Rattle.directions.specs.declared.Directions as DD
-use Rattle.buckets.specs.Places.{maxMessages, childrenAt, orderIn, positionIn, recordEnd, childEnd, messageEnd, fieldIn}
+use Rattle.buckets.specs.Places.{maxMessages, childrenAt, orderIn, positionIn}
+use Rattle.buckets.specs.Places.{recordEnd, childEnd, messageEnd, fieldIn}
 use Rattle.buckets.specs.Messages.{sumOver, countFrom, childrenOver}
 use Rattle.buckets.specs.Bounds.{placesOver, contentAt, sentAt}
 
 -- message g reads only variables at positions before k: a variable with stride 0 is not read
 abbrev pub ReadsBefore : List ℕ → ℕ → ℕ → Type 0
-ReadsBefore plan k g = ((fieldIn plan g 2 ≡ 0) ⊎ (positionIn plan (fieldIn plan g 1) < k)) × ((fieldIn plan g 4 ≡ 0) ⊎ (positionIn plan (fieldIn plan g 3) < k))
+ReadsBefore plan k g =
+    ((fieldIn plan g 2 ≡ 0) ⊎ (positionIn plan (fieldIn plan g 1) < k))
+    × ((fieldIn plan g 4 ≡ 0) ⊎ (positionIn plan (fieldIn plan g 3) < k))
 
 -- the record at `at` has only such variables
 abbrev pub ScopeBefore : List ℕ → List ℕ → ℕ → ℕ → Type 0
@@ -46,11 +50,14 @@ pub record Ends (n r : ℕ) (plan : List ℕ) : Type 0 where
 pub record Early (n r : ℕ) (s plan : List ℕ) : Type 0 where
   pub records : (k : ℕ) → k ≤ n → All (ScopeBefore s plan k) (placesOver plan (recordEnd plan k) r)
   pub children : (k : ℕ) → k ≤ n → All (ReadsBefore plan k) (childrenOver plan (childEnd plan k) maxMessages)
-  pub sent : (k : ℕ) → k < n → All (ReadsBefore plan k) (countFrom (messageEnd plan (k + 1)) (messageEnd plan k - messageEnd plan (k + 1)))
+  pub sent : (k : ℕ) → k < n
+      → All (ReadsBefore plan k) (countFrom (messageEnd plan (k + 1)) (messageEnd plan k - messageEnd plan (k + 1)))
 
 -- no bucket sends more than it holds
 abbrev pub Holds : DD.Directions → List ℕ → List ℕ → List ℕ → Type 0
-Holds d ds s plan = (k : ℕ) → k < length ds → (y : List ℕ) → isChoice ds y ≡ true → (j : ℕ) → j < widthOf d → sentAt d plan k y j ≤ contentAt d ds s plan k y j
+Holds d ds s plan =
+    (k : ℕ) → k < length ds → (y : List ℕ) → isChoice ds y ≡ true → (j : ℕ) → j < widthOf d
+    → sentAt d plan k y j ≤ contentAt d ds s plan k y j
 
 -- the tested part
 pub record Tested (d : DD.Directions) (r : ℕ) (ds s plan : List ℕ) : Type 0 where

@@ -1,4 +1,5 @@
-// Buckets of the second form of the search: what the records and messages of a position hold for each of its variable's values, and what it sends.
+// Buckets of the second form of the search: what the records and messages of a position hold for each of its variable's
+// values, and what it sends.
 ghost use mathlib.Core.Path.{_≡_};
 ghost use mathlib.Core.Bool.{true};
 ghost use Prim.Native.Nat.{ℕ, _+_, _*_, _<_, _≤_};
@@ -14,7 +15,9 @@ ghost use Rattle.directions.specs.Directions.{maxSums, directionsOf, directionE
 ghost use Rattle.buckets.specs.Places.{maxMessages, looseAt};
 ghost use Rattle.buckets.specs.Messages.{messageAt};
 ghost use Rattle.buckets.specs.Content.{Planned, Ranged, Filled, Summed};
-ghost use Rattle.buckets.specs.Adding.{addEnd, messageStart, TermSays, MessageSays, EntrySays, PartFilled, RowFilled, RowAdded, Addable, RowsAdded, Received, RecordAdded, Blank, Totalled, fourSum, Directed};
+ghost use Rattle.buckets.specs.Adding.{addEnd, messageStart, TermSays, MessageSays, EntrySays, PartFilled};
+ghost use Rattle.buckets.specs.Adding.{RowFilled, RowAdded, Addable, RowsAdded, Received, RecordAdded, Blank};
+ghost use Rattle.buckets.specs.Adding.{Totalled, fourSum, Directed};
 
 // Where things stand in a plan, as specs/Places says.
 pub const CHILDREN_AT: usize = 256;
@@ -118,7 +121,8 @@ pub fn message_start(g: usize, choice: &[u8], width: usize, plan: &[u32]) -> usi
 
 // Adds eight numbers of the plan, all of which exist, to the row at `at`.
 fn add_inside(start: usize, at: usize, plan: &[u32], rows: &mut [u64])
-    requires { ⌜ (start + 8 ≤ length (now plan)) × (at + 8 ≤ length (now rows)) × ((j : ℕ) → j < 8 → getD (now rows) (at + j) 0 < addEnd) ⌝ }
+    requires { ⌜ (start + 8 ≤ length (now plan)) × (at + 8 ≤ length (now rows))
+        × ((j : ℕ) → j < 8 → getD (now rows) (at + j) 0 < addEnd) ⌝ }
     ensures { λ _. ⌜ RowAdded (now (plan .entry)) start at (now (rows .entry)) (now (rows .exit)) ⌝ }
 {
     let mut j: usize = 0;
@@ -130,7 +134,8 @@ fn add_inside(start: usize, at: usize, plan: &[u32], rows: &mut [u64])
 
 // The same where some of them lie past the end of the plan and count as 0.
 fn add_partly(start: usize, at: usize, plan: &[u32], rows: &mut [u64])
-    requires { ⌜ (start < addEnd) × (at + 8 ≤ length (now rows)) × ((j : ℕ) → j < 8 → getD (now rows) (at + j) 0 < addEnd) ⌝ }
+    requires { ⌜ (start < addEnd) × (at + 8 ≤ length (now rows))
+        × ((j : ℕ) → j < 8 → getD (now rows) (at + j) 0 < addEnd) ⌝ }
     ensures { λ _. ⌜ RowAdded (now (plan .entry)) start at (now (rows .entry)) (now (rows .exit)) ⌝ }
 {
     let mut j: usize = 0;
@@ -140,9 +145,11 @@ fn add_partly(start: usize, at: usize, plan: &[u32], rows: &mut [u64])
     }
 }
 
-// Adds eight numbers of the plan to the row at `at`. One test for all of them: this is the innermost part of the search.
+// Adds eight numbers of the plan to the row at `at`. One test for all of them:
+// this is the innermost part of the search.
 fn add_row(start: usize, at: usize, plan: &[u32], rows: &mut [u64])
-    requires { ⌜ (start < addEnd) × (at + 8 ≤ length (now rows)) × ((j : ℕ) → j < 8 → getD (now rows) (at + j) 0 < addEnd) ⌝ }
+    requires { ⌜ (start < addEnd) × (at + 8 ≤ length (now rows))
+        × ((j : ℕ) → j < 8 → getD (now rows) (at + j) 0 < addEnd) ⌝ }
     ensures { λ _. ⌜ RowAdded (now (plan .entry)) start at (now (rows .entry)) (now (rows .exit)) ⌝ }
 {
     if start + 8 <= plan.len() {
@@ -162,8 +169,10 @@ fn add_message(
     plan: &[u32],
     rows: &mut [u64],
 )
-    requires { ⌜ (g < wordEnd) × (v < length (now choice)) × (size ≤ maxDomain) × (width ≤ 8) × Addable size (now rows) ⌝ }
-    ensures { λ _. ⌜ RowsAdded size (λ a j. messageAt width (now (plan .entry)) (set (now (choice .entry)) v a) j g) (now (rows .entry)) (now (rows .exit)) ⌝ }
+    requires { ⌜ (g < wordEnd) × (v < length (now choice)) × (size ≤ maxDomain) × (width ≤ 8)
+        × Addable size (now rows) ⌝ }
+    ensures { λ _. ⌜ RowsAdded size (λ a j. messageAt width (now (plan .entry)) (set (now (choice .entry)) v a) j g)
+        (now (rows .entry)) (now (rows .exit)) ⌝ }
 {
     let r = message_run(g, v, choice, width, plan);
     let first = r.first;
@@ -186,8 +195,11 @@ fn add_received(
     plan: &[u32],
     rows: &mut [u64],
 )
-    requires { ⌜ (first ≤ last) × (last ≤ maxMessages) × (looseAt ≤ length (now plan)) × (v < length (now choice)) × (size ≤ maxDomain) × (width ≤ 8) × (64 ≤ length (now rows)) × ((a j : ℕ) → a < size → j < 8 → getD (now rows) (8 * a + j) 0 < directionEnd) ⌝ }
-    ensures { λ _. ⌜ Received width (now (plan .entry)) first last v size (now (choice .entry)) (now (rows .entry)) (now (rows .exit)) ⌝ }
+    requires { ⌜ (first ≤ last) × (last ≤ maxMessages) × (looseAt ≤ length (now plan)) × (v < length (now choice))
+        × (size ≤ maxDomain) × (width ≤ 8) × (64 ≤ length (now rows))
+        × ((a j : ℕ) → a < size → j < 8 → getD (now rows) (8 * a + j) 0 < directionEnd) ⌝ }
+    ensures { λ _. ⌜ Received width (now (plan .entry)) first last v size (now (choice .entry))
+        (now (rows .entry)) (now (rows .exit)) ⌝ }
 {
     let mut i = first;
     while i < last {
@@ -199,7 +211,8 @@ fn add_received(
 
 // Which entry the record at `at` has, as `v` runs through its values.
 fn entry_run(s: &[u8], at: usize, v: usize, sizes: &[u8], choice: &[u8]) -> Run
-    requires { ⌜ Whole (now sizes) (now s) at × All DomainSize (now sizes) × (v < length (now sizes)) × (isChoice (now sizes) (now choice) ≡ true) ⌝ }
+    requires { ⌜ Whole (now sizes) (now s) at × All DomainSize (now sizes) × (v < length (now sizes))
+        × (isChoice (now sizes) (now choice) ≡ true) ⌝ }
     ensures { λ r. ⌜ EntrySays (now (sizes .entry)) (now (s .entry)) at v (now (choice .entry)) r ⌝ }
 {
     let a = s[at + 3] as usize;
@@ -219,8 +232,11 @@ fn entry_run(s: &[u8], at: usize, v: usize, sizes: &[u8], choice: &[u8]) -> Run
 
 // Adds the record at `at` to the totals of each value of `v`: four to a value.
 fn add_record(s: &[u8], at: usize, v: usize, sizes: &[u8], choice: &[u8], totals: &mut [u64])
-    requires { ⌜ Whole (now sizes) (now s) at × All DomainSize (now sizes) × (v < length (now sizes)) × (isChoice (now sizes) (now choice) ≡ true) × (32 ≤ length (now totals)) × ((a o : ℕ) → a < getD (now sizes) v 0 → o < 4 → getD (now totals) (4 * a + o) 0 < addEnd) ⌝ }
-    ensures { λ _. ⌜ RecordAdded (now (sizes .entry)) (now (s .entry)) at v (now (choice .entry)) (now (totals .entry)) (now (totals .exit)) ⌝ }
+    requires { ⌜ Whole (now sizes) (now s) at × All DomainSize (now sizes) × (v < length (now sizes))
+        × (isChoice (now sizes) (now choice) ≡ true) × (32 ≤ length (now totals))
+        × ((a o : ℕ) → a < getD (now sizes) v 0 → o < 4 → getD (now totals) (4 * a + o) 0 < addEnd) ⌝ }
+    ensures { λ _. ⌜ RecordAdded (now (sizes .entry)) (now (s .entry)) at v (now (choice .entry))
+        (now (totals .entry)) (now (totals .exit)) ⌝ }
 {
     let size = sizes[v] as usize;
     let o = s[at + 2] as usize;
@@ -236,7 +252,8 @@ fn add_record(s: &[u8], at: usize, v: usize, sizes: &[u8], choice: &[u8], totals
     }
 }
 
-// Fills in what the records from number `from` to below `to` cost in each objective, for each value of `v`: four totals to a value.
+// Fills in what the records from number `from` to below `to` cost in each objective, for each value of `v`:
+// four totals to a value.
 fn fill_totals(
     s: &[u8],
     sizes: &[u8],
@@ -247,8 +264,11 @@ fn fill_totals(
     plan: &[u32],
     totals: &mut [u64],
 )
-    requires { ⌜ All DomainSize (now sizes) × (from ≤ to) × (to ≤ maxTables) × (to ≤ length (now plan)) × ((i : ℕ) → i < to → Whole (now sizes) (now s) (getD (now plan) i 0)) × (v < length (now sizes)) × (isChoice (now sizes) (now choice) ≡ true) × (32 ≤ length (now totals)) × Blank (now totals) ⌝ }
-    ensures { λ _. ⌜ Totalled (now (sizes .entry)) (now (s .entry)) (now (plan .entry)) from to v (now (choice .entry)) (now (totals .exit)) ⌝ }
+    requires { ⌜ All DomainSize (now sizes) × (from ≤ to) × (to ≤ maxTables) × (to ≤ length (now plan))
+        × ((i : ℕ) → i < to → Whole (now sizes) (now s) (getD (now plan) i 0)) × (v < length (now sizes))
+        × (isChoice (now sizes) (now choice) ≡ true) × (32 ≤ length (now totals)) × Blank (now totals) ⌝ }
+    ensures { λ _. ⌜ Totalled (now (sizes .entry)) (now (s .entry)) (now (plan .entry)) from to v (now (choice .entry))
+        (now (totals .exit)) ⌝ }
 {
     let mut i = from;
     while i < to {
@@ -270,7 +290,8 @@ fn counted(o: usize, p: usize, cost: u64) -> u64
 
 // Sum `i` of four costs.
 fn sum_at(i: usize, weights: &[u64], a: u64, b: u64, c: u64, e: u64) -> u64
-    requires { ⌜ (4 * i + 4 ≤ length (now weights)) × All (λ w. w ≤ maxWeight) (now weights) × (a < sumEnd) × (b < sumEnd) × (c < sumEnd) × (e < sumEnd) ⌝ }
+    requires { ⌜ (4 * i + 4 ≤ length (now weights)) × All (λ w. w ≤ maxWeight) (now weights) × (a < sumEnd)
+        × (b < sumEnd) × (c < sumEnd) × (e < sumEnd) ⌝ }
     ensures { λ r. ⌜ r ≡ fourSum (now (weights .entry)) a b c e i ⌝ }
 {
     let at = 4 * i;
@@ -288,8 +309,10 @@ fn put_sums(
     e: u64,
     rows: &mut [u64],
 )
-    requires { ⌜ (4 * sums ≤ length (now weights)) × All (λ w. w ≤ maxWeight) (now weights) × (a < sumEnd) × (b < sumEnd) × (c < sumEnd) × (e < sumEnd) × (at + sums ≤ length (now rows)) ⌝ }
-    ensures { λ _. ⌜ PartFilled (fourSum (now (weights .entry)) a b c e) at sums (now (rows .entry)) (now (rows .exit)) ⌝ }
+    requires { ⌜ (4 * sums ≤ length (now weights)) × All (λ w. w ≤ maxWeight) (now weights) × (a < sumEnd)
+        × (b < sumEnd) × (c < sumEnd) × (e < sumEnd) × (at + sums ≤ length (now rows)) ⌝ }
+    ensures { λ _. ⌜ PartFilled (fourSum (now (weights .entry)) a b c e) at sums
+        (now (rows .entry)) (now (rows .exit)) ⌝ }
 {
     let mut i: usize = 0;
     while i < sums {
@@ -298,7 +321,8 @@ fn put_sums(
     }
 }
 
-// Writes the totals of value `a` in every direction to its row, which holds zeros. As numbers and not as an array: so they stay in registers.
+// Writes the totals of value `a` in every direction to its row, which holds zeros. As numbers and not as an array: so
+// they stay in registers.
 fn put_directions(
     a: usize,
     totals: &[u64],
@@ -307,8 +331,13 @@ fn put_directions(
     weights: &[u64],
     rows: &mut [u64],
 )
-    requires { ⌜ (4 * a + 4 ≤ length (now totals)) × ((o : ℕ) → o < 4 → getD (now totals) (4 * a + o) 0 < sumEnd) × (p ≤ maxObjectives) × (sums ≤ maxSums) × (16 ≤ length (now weights)) × All (λ w. w ≤ maxWeight) (now weights) × (8 * a + 8 ≤ length (now rows)) × ((i : ℕ) → 8 * a ≤ i → getD (now rows) i 0 ≡ 0) ⌝ }
-    ensures { λ _. ⌜ RowFilled (λ j. getD (directionsOf (record { objectives = p; sums = sums; weights = now (weights .entry) }) (take p (take 4 (drop (4 * a) (now (totals .entry)))))) j 0) (8 * a) (now (rows .entry)) (now (rows .exit)) ⌝ }
+    requires { ⌜ (4 * a + 4 ≤ length (now totals)) × ((o : ℕ) → o < 4 → getD (now totals) (4 * a + o) 0 < sumEnd)
+        × (p ≤ maxObjectives) × (sums ≤ maxSums) × (16 ≤ length (now weights)) × All (λ w. w ≤ maxWeight) (now weights)
+        × (8 * a + 8 ≤ length (now rows)) × ((i : ℕ) → 8 * a ≤ i → getD (now rows) i 0 ≡ 0) ⌝ }
+    ensures { λ _. ⌜ RowFilled
+        (λ j. getD (directionsOf (record { objectives = p; sums = sums; weights = now (weights .entry) })
+        (take p (take 4 (drop (4 * a) (now (totals .entry)))))) j 0)
+        (8 * a) (now (rows .entry)) (now (rows .exit)) ⌝ }
 {
     let from = 4 * a;
     let at = 8 * a;
@@ -325,7 +354,9 @@ fn put_directions(
 
 // The totals of each value in every direction, in rows of eight.
 fn put_rows(totals: &[u64], size: usize, d: directions::Directions, rows: &mut [u64])
-    requires { ⌜ Sensible d × (size ≤ maxDomain) × (32 ≤ length (now totals)) × ((a o : ℕ) → a < size → o < 4 → getD (now totals) (4 * a + o) 0 < sumEnd) × (64 ≤ length (now rows)) × Blank (now rows) ⌝ }
+    requires { ⌜ Sensible d × (size ≤ maxDomain) × (32 ≤ length (now totals))
+        × ((a o : ℕ) → a < size → o < 4 → getD (now totals) (4 * a + o) 0 < sumEnd) × (64 ≤ length (now rows))
+        × Blank (now rows) ⌝ }
     ensures { λ _. ⌜ Directed d size (now (totals .entry)) (now (rows .exit)) ⌝ }
 {
     let p = d.objectives;
@@ -338,8 +369,9 @@ fn put_rows(totals: &[u64], size: usize, d: directions::Directions, rows: &mut [
     }
 }
 
-// What the records from number `from` to below `to` and the messages received in slots `first` to below `last` hold together, for each value of the variable `v`
-// and in every direction: rows of eight numbers. The other variables' values are those of `choice`.
+// What the records from number `from` to below `to` and the messages received in slots `first` to below `last` hold
+// together, for each value of the variable `v` and in every direction: rows of eight numbers. The other variables'
+// values are those of `choice`.
 pub fn content(
     s: &[u8],
     sizes: &[u8],
@@ -353,8 +385,10 @@ pub fn content(
     d: directions::Directions,
     plan: &[u32],
 ) -> [u64; 64]
-    requires { ⌜ Planned d r (now sizes) (now s) (now plan) × Ranged r from to first last × (v < length (now sizes)) × (isChoice (now sizes) (now choice) ≡ true) ⌝ }
-    ensures { λ rows. ⌜ Filled d (now (sizes .entry)) (now (s .entry)) (now (plan .entry)) from to first last v (now (choice .entry)) rows ⌝ }
+    requires { ⌜ Planned d r (now sizes) (now s) (now plan) × Ranged r from to first last × (v < length (now sizes))
+        × (isChoice (now sizes) (now choice) ≡ true) ⌝ }
+    ensures { λ rows. ⌜ Filled d (now (sizes .entry)) (now (s .entry)) (now (plan .entry)) from to first last v
+        (now (choice .entry)) rows ⌝ }
 {
     let size = sizes[v] as usize;
     let mut totals = [0u64; 32];

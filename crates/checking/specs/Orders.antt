@@ -6,7 +6,8 @@ use lib.ListN.{getD}
 
 -- n numbers from `from` on are below n, and those from `to` on lead back
 abbrev pub LeadsBack : ℕ → ℕ → ℕ → List ℕ → Type 0
-LeadsBack from to n plan = (i : ℕ) → i < n → (getD plan (from + i) 0 < n) × (getD plan (to + getD plan (from + i) 0) 0 ≡ i)
+LeadsBack from to n plan =
+    (i : ℕ) → i < n → (getD plan (from + i) 0 < n) × (getD plan (to + getD plan (from + i) 0) 0 ≡ i)
 
 -- the numbers from `at` on fall, and number n is 0
 pub record Falling (at n : ℕ) (plan : List ℕ) : Type 0 where

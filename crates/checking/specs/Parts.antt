@@ -1,4 +1,5 @@
--- Parts of a bucket, each with a message that is at most what the part holds, and what the message leaves over for the parts after it.
+-- Parts of a bucket, each with a message that is at most what the part holds,
+-- and what the message leaves over for the parts after it.
 use mathlib.Core.Path.{_≡_}
 use mathlib.Core.Logic.{_⊎_}
 use mathlib.Core.Bool.{true}
@@ -30,7 +31,8 @@ Lowered before after = (i : ℕ) → getD after i 0 ≤ getD before i 0
 
 -- the numbers and what is left of a row are at most what was there
 abbrev pub RowLeft : ℕ → ℕ → List ℕ → List ℕ → List ℕ → List ℕ → Type 0
-RowLeft w at number rest rows left = (j : ℕ) → j < w → getD number j 0 + getD left (at + j) 0 ≤ getD rest (at + j) 0 + getD rows (at + j) 0
+RowLeft w at number rest rows left =
+    (j : ℕ) → j < w → getD number j 0 + getD left (at + j) 0 ≤ getD rest (at + j) 0 + getD rows (at + j) 0
 
 -- how many values a variable has; one that does not exist has one
 pub record Counted (ds : List ℕ) (u c : ℕ) : Type 0 where
@@ -50,20 +52,31 @@ PartReads plan p w = (w ≡ p .own) ⊎ ((w ≡ fieldIn plan (p .message) 1) ⊎
 abbrev pub Fits : List ℕ → List ℕ → DP.Part → Type 0
 Fits s plan p = BucketIn (PartReads plan p) s plan (p .from) (p .to) (p .first) (p .last)
 
--- at the choice y, the part's message and what is left over are at most what was left over before and what the part holds
+-- at the choice y, the part's message and what is left over are at most what was left over before
+-- and what the part holds
 abbrev pub Leaves : DD.Directions → List ℕ → List ℕ → List ℕ → DP.Part → List ℕ → List ℕ → List ℕ → Type 0
-Leaves d ds s plan p rest left y = (j : ℕ) → j < widthOf d → messageAt (widthOf d) plan y j (p .message) + getD left (8 * getD y (p .own) 0 + j) 0 ≤ getD rest (8 * getD y (p .own) 0 + j) 0 + contentOver d ds s plan (p .from) (p .to) (p .first) (p .last) y j
+Leaves d ds s plan p rest left y =
+    (j : ℕ) → j < widthOf d
+    → messageAt (widthOf d) plan y j (p .message) + getD left (8 * getD y (p .own) 0 + j) 0
+    ≤ getD rest (8 * getD y (p .own) 0 + j) 0 + contentOver d ds s plan (p .from) (p .to) (p .first) (p .last) y j
 
 -- the same where only the own variable of a choice x varies
 abbrev pub ChoiceLeaves : DD.Directions → List ℕ → List ℕ → List ℕ → DP.Part → List ℕ → List ℕ → List ℕ → Type 0
-ChoiceLeaves d ds s plan p rest left x = (a j : ℕ) → a < getD ds (p .own) 0 → j < widthOf d → messageAt (widthOf d) plan x j (p .message) + getD left (8 * a + j) 0 ≤ getD rest (8 * a + j) 0 + contentOver d ds s plan (p .from) (p .to) (p .first) (p .last) (set x (p .own) a) j
+ChoiceLeaves d ds s plan p rest left x =
+    (a j : ℕ) → a < getD ds (p .own) 0 → j < widthOf d
+    → messageAt (widthOf d) plan x j (p .message) + getD left (8 * a + j) 0
+    ≤ getD rest (8 * a + j) 0 + contentOver d ds s plan (p .from) (p .to) (p .first) (p .last) (set x (p .own) a) j
 
 -- the same for the choices that have the values i and j of the message's variables
 abbrev pub PairLeaves : DD.Directions → List ℕ → List ℕ → List ℕ → DP.Part → ℕ → ℕ → List ℕ → List ℕ → Type 0
-PairLeaves d ds s plan p i j rest left = (y : List ℕ) → isChoice ds y ≡ true → getD y (fieldIn plan (p .message) 1) 0 ≡ i → getD y (fieldIn plan (p .message) 3) 0 ≡ j → Leaves d ds s plan p rest left y
+PairLeaves d ds s plan p i j rest left =
+    (y : List ℕ) → isChoice ds y ≡ true
+    → getD y (fieldIn plan (p .message) 1) 0 ≡ i → getD y (fieldIn plan (p .message) 3) 0 ≡ j
+    → Leaves d ds s plan p rest left y
 
 -- the same for every choice
-pub record PartLeaves (d : DD.Directions) (ds s plan : List ℕ) (p : DP.Part) (before : List ℕ) (h : DH.Held) : Type 0 where
+pub record PartLeaves (d : DD.Directions) (ds s plan : List ℕ) (p : DP.Part) (before : List ℕ) (h : DH.Held)
+    : Type 0 where
   pub rows : Rows (h .rest)
   pub ends : (h .to ≡ p .to) × (h .last ≡ p .last)
   pub leaves : (y : List ℕ) → isChoice ds y ≡ true → Leaves d ds s plan p before (h .rest) y
@@ -73,8 +86,11 @@ pub record Holding (d : DD.Directions) (ds s plan : List ℕ) (k g : ℕ) (h : D
   pub records : (recordEnd plan (k + 1) ≤ h .to) × (h .to ≤ recordEnd plan k)
   pub children : (childEnd plan (k + 1) ≤ h .last) × (h .last ≤ childEnd plan k)
   pub rows : Rows (h .rest)
-  pub sum : (y : List ℕ) → isChoice ds y ≡ true → (j : ℕ) → j < widthOf d → sentOver (widthOf d) plan (messageEnd plan (k + 1)) g y j + getD (h .rest) (8 * getD y (orderIn plan k) 0 + j) 0 ≤ contentOver d ds s plan (recordEnd plan (k + 1)) (h .to) (childEnd plan (k + 1)) (h .last) y j
+  pub sum : (y : List ℕ) → isChoice ds y ≡ true → (j : ℕ) → j < widthOf d
+      → sentOver (widthOf d) plan (messageEnd plan (k + 1)) g y j + getD (h .rest) (8 * getD y (orderIn plan k) 0 + j) 0
+      ≤ contentOver d ds s plan (recordEnd plan (k + 1)) (h .to) (childEnd plan (k + 1)) (h .last) y j
 
 -- the bucket of position k sends no more than it holds
 abbrev pub HoldsAt : DD.Directions → List ℕ → List ℕ → List ℕ → ℕ → Type 0
-HoldsAt d ds s plan k = (y : List ℕ) → isChoice ds y ≡ true → (j : ℕ) → j < widthOf d → sentAt d plan k y j ≤ contentAt d ds s plan k y j
+HoldsAt d ds s plan k =
+    (y : List ℕ) → isChoice ds y ≡ true → (j : ℕ) → j < widthOf d → sentAt d plan k y j ≤ contentAt d ds s plan k y j

@@ -17,12 +17,14 @@ ghost use Rattle.buckets.specs.Sound.{Ordered, Ends, Early, Holds, Tested};
 ghost use Rattle.buckets.proofs.Reading.{Reads};
 ghost use Rattle.checking.specs.Orders.{LeadsBack, Falling};
 ghost use Rattle.checking.specs.Marks.{Marked, ScopeIn, Inside, BucketIn};
-ghost use Rattle.checking.specs.Parts.{Rows, Lowered, RowLeft, Counted, PartOf, Fits, ChoiceLeaves, PairLeaves, PartLeaves, Holding, HoldsAt};
+ghost use Rattle.checking.specs.Parts.{Rows, Lowered, RowLeft, Counted, PartOf, Fits};
+ghost use Rattle.checking.specs.Parts.{ChoiceLeaves, PairLeaves, PartLeaves, Holding, HoldsAt};
 
 // What is left over of a bucket counts as no more than this.
 const MOST_REST: u64 = 4611686018427387904;
 
-// A part of a bucket: the number of its message, the bucket's variable, its records from number `from` to below `to`, and its slots `first` to below `last`.
+// A part of a bucket: the number of its message, the bucket's variable, its records from number `from` to below `to`,
+// and its slots `first` to below `last`.
 struct Part {
     pub message: usize,
     pub own: usize,
@@ -32,7 +34,8 @@ struct Part {
     pub last: usize,
 }
 
-// How far the parts of a bucket have got, and what their messages left over: a row of eight numbers for each value of the bucket's variable.
+// How far the parts of a bucket have got, and what their messages left over:
+// a row of eight numbers for each value of the bucket's variable.
 struct Held {
     pub ok: bool,
     pub to: usize,
@@ -121,7 +124,9 @@ fn is_marked(v: usize, marks: &[u8]) -> bool
 // Whether the variable in field `i` of message `g` is marked or, as its stride is 0, not read.
 fn is_field_marked(g: usize, i: usize, marks: &[u8], plan: &[u32]) -> bool
     requires { ⌜ (g < maxMessages) × (i < 4) × (numbersAt ≤ length (now plan)) ⌝ }
-    ensures { λ ok. ⌜ (ok ≡ true → (fieldIn (now (plan .entry)) g (i + 1) ≡ 0) ⊎ Marked (now (marks .entry)) (fieldIn (now (plan .entry)) g i)) ⌝ }
+    ensures { λ ok. ⌜ (ok ≡ true
+        → (fieldIn (now (plan .entry)) g (i + 1) ≡ 0)
+        ⊎ Marked (now (marks .entry)) (fieldIn (now (plan .entry)) g i)) ⌝ }
 {
     let at = buckets::MESSAGES_AT + buckets::MESSAGE_WIDTH * g;
     if plan[at + (i + 1)] == 0 {
@@ -163,7 +168,8 @@ fn is_scope_marked(s: &[u8], at: usize, marks: &[u8]) -> bool
 // The same for the records from number `from` to below `to`.
 fn are_records_marked(s: &[u8], from: usize, to: usize, marks: &[u8], plan: &[u32]) -> bool
     requires { ⌜ (from ≤ to) × (to ≤ length (now plan)) × Inside (now s) (now plan) to ⌝ }
-    ensures { λ ok. ⌜ (ok ≡ true → All (ScopeIn (Marked (now (marks .entry))) (now (s .entry))) (placesOver (now (plan .entry)) from to)) ⌝ }
+    ensures { λ ok. ⌜ (ok ≡ true
+        → All (ScopeIn (Marked (now (marks .entry))) (now (s .entry))) (placesOver (now (plan .entry)) from to)) ⌝ }
 {
     let mut i = from;
     while i < to {
@@ -178,7 +184,9 @@ fn are_records_marked(s: &[u8], from: usize, to: usize, marks: &[u8], plan: &[u3
 // Whether the messages in slots `first` to below `last` read marked variables only.
 fn are_slots_marked(first: usize, last: usize, marks: &[u8], plan: &[u32]) -> bool
     requires { ⌜ (first ≤ last) × (last ≤ maxMessages) × (numbersAt ≤ length (now plan)) ⌝ }
-    ensures { λ ok. ⌜ (ok ≡ true → All (Reads (Marked (now (marks .entry))) (now (plan .entry))) (childrenOver (now (plan .entry)) first last)) ⌝ }
+    ensures { λ ok. ⌜ (ok ≡ true
+        → All (Reads (Marked (now (marks .entry))) (now (plan .entry)))
+        (childrenOver (now (plan .entry)) first last)) ⌝ }
 {
     let mut i = first;
     while i < last {
@@ -200,8 +208,10 @@ fn is_bucket_marked(
     marks: &[u8],
     plan: &[u32],
 ) -> bool
-    requires { ⌜ (from ≤ to) × (to ≤ maxTables) × Inside (now s) (now plan) to × (first ≤ last) × (last ≤ maxMessages) × (numbersAt ≤ length (now plan)) ⌝ }
-    ensures { λ ok. ⌜ (ok ≡ true → BucketIn (Marked (now (marks .entry))) (now (s .entry)) (now (plan .entry)) from to first last) ⌝ }
+    requires { ⌜ (from ≤ to) × (to ≤ maxTables) × Inside (now s) (now plan) to × (first ≤ last) × (last ≤ maxMessages)
+        × (numbersAt ≤ length (now plan)) ⌝ }
+    ensures { λ ok. ⌜ (ok ≡ true
+        → BucketIn (Marked (now (marks .entry))) (now (s .entry)) (now (plan .entry)) from to first last) ⌝ }
 {
     if !are_records_marked(s, from, to, marks, plan) {
         return false;
@@ -212,7 +222,8 @@ fn is_bucket_marked(
 // Whether the messages from number `from` to below `to` read marked variables only.
 fn are_sent_marked(from: usize, to: usize, marks: &[u8], plan: &[u32]) -> bool
     requires { ⌜ (from ≤ to) × (numbersAt ≤ length (now plan)) ⌝ }
-    ensures { λ ok. ⌜ (ok ≡ true → All (Reads (Marked (now (marks .entry))) (now (plan .entry))) (countFrom from (to - from))) ⌝ }
+    ensures { λ ok. ⌜ (ok ≡ true
+        → All (Reads (Marked (now (marks .entry))) (now (plan .entry))) (countFrom from (to - from))) ⌝ }
 {
     let mut g = from;
     while g < to {
@@ -235,9 +246,11 @@ fn with_value(values: [u8; 24], v: usize, value: u8) -> [u8; 24]
     next
 }
 
-// Whether what stands behind the ends of each position reads only earlier positions, and what a position sends too. Each record and slot is tested once.
+// Whether what stands behind the ends of each position reads only earlier positions, and what a position sends too.
+// Each record and slot is tested once.
 fn is_early(s: &[u8], n: usize, r: usize, plan: &[u32]) -> bool
-    requires { ⌜ (n ≤ maxVariables) × (r ≤ maxTables) × (numbersAt ≤ length (now plan)) × Inside (now s) (now plan) r × Ordered n (now plan) × Ends n r (now plan) ⌝ }
+    requires { ⌜ (n ≤ maxVariables) × (r ≤ maxTables) × (numbersAt ≤ length (now plan)) × Inside (now s) (now plan) r
+        × Ordered n (now plan) × Ends n r (now plan) ⌝ }
     ensures { λ ok. ⌜ (ok ≡ true → Early n r (now (s .entry)) (now (plan .entry))) ⌝ }
 {
     let mut marks = [0u8; 24];
@@ -293,8 +306,10 @@ fn lower_row(
     rows: &[u64],
     left: &mut [u64],
 ) -> bool
-    requires { ⌜ (width ≤ 8) × (at + width ≤ 64) × Rows (now rest) × (length (now rows) ≡ 64) × (length (now left) ≡ 64) × ((j : ℕ) → j < width → getD (now rows) (at + j) 0 < contentEnd) ⌝ }
-    ensures { λ ok. ⌜ Lowered (now (left .entry)) (now (left .exit)) × (ok ≡ true → RowLeft width at number (now (rest .entry)) (now (rows .entry)) (now (left .exit))) ⌝ }
+    requires { ⌜ (width ≤ 8) × (at + width ≤ 64) × Rows (now rest) × (length (now rows) ≡ 64) × (length (now left) ≡ 64)
+        × ((j : ℕ) → j < width → getD (now rows) (at + j) 0 < contentEnd) ⌝ }
+    ensures { λ ok. ⌜ Lowered (now (left .entry)) (now (left .exit))
+        × (ok ≡ true → RowLeft width at number (now (rest .entry)) (now (rows .entry)) (now (left .exit))) ⌝ }
 {
     let mut j: usize = 0;
     while j < width {
@@ -320,8 +335,12 @@ fn lower_rows(
     rest: &[u64],
     left: &mut [u64],
 ) -> bool
-    requires { ⌜ Planned d r (now sizes) (now s) (now plan) × PartOf (length (now sizes)) r p × (isChoice (now sizes) (now choice) ≡ true) × Rows (now rest) × (length (now left) ≡ 64) ⌝ }
-    ensures { λ ok. ⌜ Lowered (now (left .entry)) (now (left .exit)) × (ok ≡ true → ChoiceLeaves d (now (sizes .entry)) (now (s .entry)) (now (plan .entry)) p (now (rest .entry)) (now (left .exit)) (now (choice .entry))) ⌝ }
+    requires { ⌜ Planned d r (now sizes) (now s) (now plan) × PartOf (length (now sizes)) r p
+        × (isChoice (now sizes) (now choice) ≡ true) × Rows (now rest) × (length (now left) ≡ 64) ⌝ }
+    ensures { λ ok. ⌜ Lowered (now (left .entry)) (now (left .exit))
+        × (ok ≡ true
+        → ChoiceLeaves d (now (sizes .entry)) (now (s .entry)) (now (plan .entry)) p (now (rest .entry))
+        (now (left .exit)) (now (choice .entry))) ⌝ }
 {
     let width = d.objectives + d.sums;
     let g = p.message;
@@ -351,7 +370,8 @@ fn lower_rows(
     true
 }
 
-// The same where the two variables of the part's message have the values `i` and `j`: no other variable is read. There is nothing to do where they have no such values.
+// The same where the two variables of the part's message have the values `i` and `j`: no other variable is read. There
+// is nothing to do where they have no such values.
 fn lower_pair(
     s: &[u8],
     sizes: &[u8],
@@ -364,8 +384,13 @@ fn lower_pair(
     rest: &[u64],
     left: &mut [u64],
 ) -> bool
-    requires { ⌜ Planned d r (now sizes) (now s) (now plan) × (numbersAt ≤ length (now plan)) × PartOf (length (now sizes)) r p × Fits (now s) (now plan) p × (i < 8) × (j < 8) × Rows (now rest) × (length (now left) ≡ 64) ⌝ }
-    ensures { λ ok. ⌜ Lowered (now (left .entry)) (now (left .exit)) × (ok ≡ true → PairLeaves d (now (sizes .entry)) (now (s .entry)) (now (plan .entry)) p i j (now (rest .entry)) (now (left .exit))) ⌝ }
+    requires { ⌜ Planned d r (now sizes) (now s) (now plan) × (numbersAt ≤ length (now plan))
+        × PartOf (length (now sizes)) r p × Fits (now s) (now plan) p × (i < 8) × (j < 8) × Rows (now rest)
+        × (length (now left) ≡ 64) ⌝ }
+    ensures { λ ok. ⌜ Lowered (now (left .entry)) (now (left .exit))
+        × (ok ≡ true
+        → PairLeaves d (now (sizes .entry)) (now (s .entry)) (now (plan .entry)) p i j (now (rest .entry))
+        (now (left .exit))) ⌝ }
 {
     let n = sizes.len();
     let at = buckets::MESSAGES_AT + buckets::MESSAGE_WIDTH * p.message;
@@ -390,7 +415,8 @@ fn lower_pair(
 
 // Whether the part reads only its own variable and the two of its message.
 fn part_fits(s: &[u8], r: usize, p: Part, plan: &[u32]) -> bool
-    requires { ⌜ (p .message < maxMessages) × Ranged r (p .from) (p .to) (p .first) (p .last) × (r ≤ maxTables) × Inside (now s) (now plan) r × (numbersAt ≤ length (now plan)) ⌝ }
+    requires { ⌜ (p .message < maxMessages) × Ranged r (p .from) (p .to) (p .first) (p .last) × (r ≤ maxTables)
+        × Inside (now s) (now plan) r × (numbersAt ≤ length (now plan)) ⌝ }
     ensures { λ ok. ⌜ (ok ≡ true → Fits (now (s .entry)) (now (plan .entry)) p) ⌝ }
 {
     let at = buckets::MESSAGES_AT + buckets::MESSAGE_WIDTH * p.message;
@@ -424,8 +450,10 @@ fn part_rest(
     plan: &[u32],
     rest: &[u64],
 ) -> Held
-    requires { ⌜ Planned d r (now sizes) (now s) (now plan) × (numbersAt ≤ length (now plan)) × PartOf (length (now sizes)) r p × Fits (now s) (now plan) p × Rows (now rest) ⌝ }
-    ensures { λ h. ⌜ (h .ok ≡ true → PartLeaves d (now (sizes .entry)) (now (s .entry)) (now (plan .entry)) p (now (rest .entry)) h) ⌝ }
+    requires { ⌜ Planned d r (now sizes) (now s) (now plan) × (numbersAt ≤ length (now plan))
+        × PartOf (length (now sizes)) r p × Fits (now s) (now plan) p × Rows (now rest) ⌝ }
+    ensures { λ h. ⌜ (h .ok ≡ true
+        → PartLeaves d (now (sizes .entry)) (now (s .entry)) (now (plan .entry)) p (now (rest .entry)) h) ⌝ }
 {
     let mut left = [MOST_REST; 64];
     let mut c: usize = 0;
@@ -443,7 +471,8 @@ fn part_rest(
     }
 }
 
-// What the bucket of position `k` holds after message `g`. A message whose numbers lie outside the plan is worth nothing.
+// What the bucket of position `k` holds after message `g`.
+// A message whose numbers lie outside the plan is worth nothing.
 fn after_message(
     s: &[u8],
     sizes: &[u8],
@@ -454,8 +483,11 @@ fn after_message(
     plan: &[u32],
     held: Held,
 ) -> Held
-    requires { ⌜ Planned d r (now sizes) (now s) (now plan) × (numbersAt ≤ length (now plan)) × (k < length (now sizes)) × Ordered (length (now sizes)) (now plan) × Ends (length (now sizes)) r (now plan) × (g < maxMessages) × (messageEnd (now plan) (k + 1) ≤ g) × Holding d (now sizes) (now s) (now plan) k g held ⌝ }
-    ensures { λ h. ⌜ (h .ok ≡ true → Holding d (now (sizes .entry)) (now (s .entry)) (now (plan .entry)) k (g + 1) h) ⌝ }
+    requires { ⌜ Planned d r (now sizes) (now s) (now plan) × (numbersAt ≤ length (now plan)) × (k < length (now sizes))
+        × Ordered (length (now sizes)) (now plan) × Ends (length (now sizes)) r (now plan) × (g < maxMessages)
+        × (messageEnd (now plan) (k + 1) ≤ g) × Holding d (now sizes) (now s) (now plan) k g held ⌝ }
+    ensures { λ h. ⌜ (h .ok ≡ true
+        → Holding d (now (sizes .entry)) (now (s .entry)) (now (plan .entry)) k (g + 1) h) ⌝ }
 {
     let at = buckets::MESSAGES_AT + buckets::MESSAGE_WIDTH * g;
     if plan.len() <= plan[at] as usize {
@@ -496,7 +528,8 @@ fn holds_at(
     d: directions::Directions,
     plan: &[u32],
 ) -> bool
-    requires { ⌜ Planned d r (now sizes) (now s) (now plan) × (numbersAt ≤ length (now plan)) × (k < length (now sizes)) × Ordered (length (now sizes)) (now plan) × Ends (length (now sizes)) r (now plan) ⌝ }
+    requires { ⌜ Planned d r (now sizes) (now s) (now plan) × (numbersAt ≤ length (now plan)) × (k < length (now sizes))
+        × Ordered (length (now sizes)) (now plan) × Ends (length (now sizes)) r (now plan) ⌝ }
     ensures { λ ok. ⌜ (ok ≡ true → HoldsAt d (now (sizes .entry)) (now (s .entry)) (now (plan .entry)) k) ⌝ }
 {
     let end = plan[buckets::MESSAGE_ENDS_AT + k] as usize;
@@ -520,7 +553,8 @@ fn holds_at(
 
 // The same for every position.
 fn all_hold(s: &[u8], sizes: &[u8], r: usize, d: directions::Directions, plan: &[u32]) -> bool
-    requires { ⌜ Planned d r (now sizes) (now s) (now plan) × (numbersAt ≤ length (now plan)) × Ordered (length (now sizes)) (now plan) × Ends (length (now sizes)) r (now plan) ⌝ }
+    requires { ⌜ Planned d r (now sizes) (now s) (now plan) × (numbersAt ≤ length (now plan))
+        × Ordered (length (now sizes)) (now plan) × Ends (length (now sizes)) r (now plan) ⌝ }
     ensures { λ ok. ⌜ (ok ≡ true → Holds d (now (sizes .entry)) (now (s .entry)) (now (plan .entry))) ⌝ }
 {
     let mut k: usize = 0;

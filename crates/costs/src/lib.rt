@@ -33,8 +33,10 @@ pub fn entries_of(s: &[u8], at: usize, sizes: &[u8]) -> usize
 
 // Which entry of the record at `at` a complete choice has.
 pub fn entry_index(s: &[u8], at: usize, sizes: &[u8], choice: &[u8]) -> usize
-    requires { ⌜ Whole (now sizes) (now s) at × All DomainSize (now sizes) × (isChoice (now sizes) (now choice) ≡ true) ⌝ }
-    ensures { λ r. ⌜ (r ≡ entryFrom 0 (now (sizes .entry)) (scopeAt (now (s .entry)) at) (now (choice .entry))) × (r < entriesAt (now (sizes .entry)) (now (s .entry)) at) ⌝ }
+    requires { ⌜ Whole (now sizes) (now s) at × All DomainSize (now sizes)
+        × (isChoice (now sizes) (now choice) ≡ true) ⌝ }
+    ensures { λ r. ⌜ (r ≡ entryFrom 0 (now (sizes .entry)) (scopeAt (now (s .entry)) at) (now (choice .entry)))
+        × (r < entriesAt (now (sizes .entry)) (now (s .entry)) at) ⌝ }
 {
     let a = s[at + 3] as usize;
     let mut index: usize = 0;
@@ -51,8 +53,10 @@ pub fn entry_index(s: &[u8], at: usize, sizes: &[u8], choice: &[u8]) -> usize
 
 // What the record at `at` costs a complete choice.
 pub fn cost_at(s: &[u8], at: usize, sizes: &[u8], choice: &[u8]) -> u32
-    requires { ⌜ Whole (now sizes) (now s) at × All DomainSize (now sizes) × (isChoice (now sizes) (now choice) ≡ true) ⌝ }
-    ensures { λ r. ⌜ r ≡ costOf (now (sizes .entry)) (now (choice .entry)) (tableAt (now (sizes .entry)) (now (s .entry)) at) ⌝ }
+    requires { ⌜ Whole (now sizes) (now s) at × All DomainSize (now sizes)
+        × (isChoice (now sizes) (now choice) ≡ true) ⌝ }
+    ensures { λ r. ⌜ r ≡ costOf (now (sizes .entry)) (now (choice .entry))
+        (tableAt (now (sizes .entry)) (now (s .entry)) at) ⌝ }
 {
     let i = entry_index(s, at, sizes, choice);
     table_entry(s, at, i, sizes)
@@ -60,8 +64,10 @@ pub fn cost_at(s: &[u8], at: usize, sizes: &[u8], choice: &[u8]) -> u32
 
 // The cost vector of a complete choice: the sums over the `r` records from `at` on.
 pub fn costs_of(s: &[u8], at: usize, r: u32, sizes: &[u8], choice: &[u8]) -> [u64; 4]
-    requires { ⌜ AllWhole r (now sizes) (now s) at × (r ≤ maxTables) × All DomainSize (now sizes) × (isChoice (now sizes) (now choice) ≡ true) ⌝ }
-    ensures { λ t. ⌜ t ≡ totalsFrom maxObjectives 0 (costOf (now (sizes .entry)) (now (choice .entry))) (tablesAt r (now (sizes .entry)) (now (s .entry)) at) ⌝ }
+    requires { ⌜ AllWhole r (now sizes) (now s) at × (r ≤ maxTables) × All DomainSize (now sizes)
+        × (isChoice (now sizes) (now choice) ≡ true) ⌝ }
+    ensures { λ t. ⌜ t ≡ totalsFrom maxObjectives 0 (costOf (now (sizes .entry)) (now (choice .entry)))
+        (tablesAt r (now (sizes .entry)) (now (s .entry)) at) ⌝ }
 {
     let mut sums = [0u64; 4];
     let mut here = at;
@@ -102,7 +108,8 @@ fn lesser(a: u32, b: u32) -> u32
     b
 }
 
-// The least of `count` entries in a row, from entry `first` on. The loop meets the first again: `count` turns suit vectors.
+// The least of `count` entries in a row, from entry `first` on. The loop meets the first again:
+// `count` turns suit vectors.
 pub fn least_row(s: &[u8], at: usize, first: usize, count: usize, sizes: &[u8]) -> u32
     requires { ⌜ Whole (now sizes) (now s) at × (1 ≤ count) × (first + count ≤ entriesAt (now sizes) (now s) at) ⌝ }
     ensures { λ r. ⌜ r ≡ leastTo (count - 1) (λ a. entryAt (now (sizes .entry)) (now (s .entry)) at (first + a)) ⌝ }
@@ -118,8 +125,11 @@ pub fn least_row(s: &[u8], at: usize, first: usize, count: usize, sizes: &[u8]) 
 
 // The least entry over the scope variables from number `k` on that agrees with the prefix, after the index `index`.
 pub fn least_from(s: &[u8], at: usize, k: usize, index: usize, sizes: &[u8], prefix: &[u8]) -> u32
-    requires { ⌜ Whole (now sizes) (now s) at × All DomainSize (now sizes) × (prefixOk (now sizes) (now prefix) ≡ true) × (k ≤ tableArity (drop at (now s))) × ((index + 1) * sizeOf (now sizes) (drop k (scopeAt (now s) at)) ≤ entriesAt (now sizes) (now s) at) ⌝ }
-    ensures { λ r. ⌜ r ≡ leastFrom (now (sizes .entry)) (now (prefix .entry)) (entryAt (now (sizes .entry)) (now (s .entry)) at) index (drop k (scopeAt (now (s .entry)) at)) ⌝ }
+    requires { ⌜ Whole (now sizes) (now s) at × All DomainSize (now sizes) × (prefixOk (now sizes) (now prefix) ≡ true)
+        × (k ≤ tableArity (drop at (now s)))
+        × ((index + 1) * sizeOf (now sizes) (drop k (scopeAt (now s) at)) ≤ entriesAt (now sizes) (now s) at) ⌝ }
+    ensures { λ r. ⌜ r ≡ leastFrom (now (sizes .entry)) (now (prefix .entry))
+        (entryAt (now (sizes .entry)) (now (s .entry)) at) index (drop k (scopeAt (now (s .entry)) at)) ⌝ }
 {
     let a = s[at + 3] as usize;
     if k == a {
@@ -158,7 +168,8 @@ pub struct Run {
 // The entries of the record at `at` that agree with the prefix, where they stand in a row, else a run of 0.
 // They do where no free variable comes before a fixed one: the last scope variable runs fastest.
 pub fn run_at(s: &[u8], at: usize, sizes: &[u8], prefix: &[u8]) -> Run
-    requires { ⌜ Whole (now sizes) (now s) at × All DomainSize (now sizes) × (prefixOk (now sizes) (now prefix) ≡ true) ⌝ }
+    requires { ⌜ Whole (now sizes) (now s) at × All DomainSize (now sizes)
+        × (prefixOk (now sizes) (now prefix) ≡ true) ⌝ }
     ensures { λ r. ⌜ RunSays (now (sizes .entry)) (now (prefix .entry)) (now (s .entry)) at r ⌝ }
 {
     let a = s[at + 3] as usize;
@@ -184,8 +195,10 @@ pub fn run_at(s: &[u8], at: usize, sizes: &[u8], prefix: &[u8]) -> Run
 
 // The least entry of the record at `at` that agrees with the prefix.
 pub fn least_at(s: &[u8], at: usize, sizes: &[u8], prefix: &[u8]) -> u32
-    requires { ⌜ Whole (now sizes) (now s) at × All DomainSize (now sizes) × (prefixOk (now sizes) (now prefix) ≡ true) ⌝ }
-    ensures { λ r. ⌜ r ≡ leastOf (now (sizes .entry)) (now (prefix .entry)) (tableAt (now (sizes .entry)) (now (s .entry)) at) ⌝ }
+    requires { ⌜ Whole (now sizes) (now s) at × All DomainSize (now sizes)
+        × (prefixOk (now sizes) (now prefix) ≡ true) ⌝ }
+    ensures { λ r. ⌜ r ≡ leastOf (now (sizes .entry)) (now (prefix .entry))
+        (tableAt (now (sizes .entry)) (now (s .entry)) at) ⌝ }
 {
     let t = run_at(s, at, sizes, prefix);
     if t.count == 0 {
@@ -196,8 +209,10 @@ pub fn least_at(s: &[u8], at: usize, sizes: &[u8], prefix: &[u8]) -> u32
 
 // The bound of a prefix: the sums of least entries over the `r` records from `at` on.
 pub fn bounds_of(s: &[u8], at: usize, r: u32, sizes: &[u8], prefix: &[u8]) -> [u64; 4]
-    requires { ⌜ AllWhole r (now sizes) (now s) at × (r ≤ maxTables) × All DomainSize (now sizes) × (prefixOk (now sizes) (now prefix) ≡ true) ⌝ }
-    ensures { λ t. ⌜ t ≡ totalsFrom maxObjectives 0 (leastOf (now (sizes .entry)) (now (prefix .entry))) (tablesAt r (now (sizes .entry)) (now (s .entry)) at) ⌝ }
+    requires { ⌜ AllWhole r (now sizes) (now s) at × (r ≤ maxTables) × All DomainSize (now sizes)
+        × (prefixOk (now sizes) (now prefix) ≡ true) ⌝ }
+    ensures { λ t. ⌜ t ≡ totalsFrom maxObjectives 0 (leastOf (now (sizes .entry)) (now (prefix .entry)))
+        (tablesAt r (now (sizes .entry)) (now (s .entry)) at) ⌝ }
 {
     let mut sums = [0u64; 4];
     let mut here = at;

@@ -11,7 +11,8 @@ use Rattle.model.specs.Cuts.{linkedVerdict}
 use Rattle.model.specs.Calls.{CutOutcome, sidesVerdict}
 use Rattle.cutting.specs.declared.Halves as DH
 
--- what the cut call refuses before it searches, with k numbers of work memory: 1 to 11, 12, 13, and 14 with the place of the first linked record
+-- what the cut call refuses before it searches, with k numbers of work memory: 1 to 11, 12, 13, and 14 with the place
+-- of the first linked record
 unfoldable pub cutRefusal : List ℕ → List ℕ → ℕ → Verdict
 cutRefusal s sides k =
     let q = problemOf s in

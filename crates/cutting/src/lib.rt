@@ -9,7 +9,8 @@ ghost use Rattle.problem.specs.Says.{RefusalSays, ReadSays};
 ghost use Rattle.merge.specs.Says.{CutFound};
 ghost use Rattle.cutting.specs.Says.{cutRefusal, uncut, CutSays};
 
-// What the cut call answers: a refusal's number and place, or 0 and 0 with the count of points and how many each half has.
+// What the cut call answers: a refusal's number and place,
+// or 0 and 0 with the count of points and how many each half has.
 pub struct Halves {
     pub number: u8,
     pub place: u32,
@@ -31,7 +32,8 @@ fn not_cut(number: u8, place: u32) -> Halves
     }
 }
 
-// What the cut call refuses before it searches, of a problem that was read, with `memory` numbers of work memory: number and place, else 0 and 0.
+// What the cut call refuses before it searches, of a problem that was read, with `memory` numbers of work memory:
+// number and place, else 0 and 0.
 fn cut_refusal(problem: &[u8], g: problem::Reading, sides: &[u8], memory: usize) -> problem::Refusal
     requires { ⌜ ReadSays (now problem) g ⌝ }
     ensures { λ f. ⌜ RefusalSays (cutRefusal (now (problem .entry)) (now (sides .entry)) memory) f ⌝ }
@@ -70,8 +72,10 @@ fn cut_rows(
     room: usize,
     work: &mut [u32],
 ) -> merge::Lists
-    requires { ⌜ ReadSays (now problem) g × (cutRefusal (now problem) (now sides) (length (now work)) .number ≡ 0) × (room ≤ maxPoints) ⌝ }
-    ensures { λ f. ⌜ CutFound (problemOf (now (problem .entry))) (now (sides .entry)) room (now (work .entry)) (now (work .exit)) f ⌝ }
+    requires { ⌜ ReadSays (now problem) g × (cutRefusal (now problem) (now sides) (length (now work)) .number ≡ 0)
+        × (room ≤ maxPoints) ⌝ }
+    ensures { λ f. ⌜ CutFound (problemOf (now (problem .entry))) (now (sides .entry)) room
+        (now (work .entry)) (now (work .exit)) f ⌝ }
 {
     let head = g.head;
     let n = head.variables as usize;
@@ -102,7 +106,10 @@ fn cut_accepted(
     work: &mut [u32],
 ) -> Halves
     requires { ⌜ ReadSays (now problem) g × (cutRefusal (now problem) (now sides) (length (now work)) .number ≡ 0) ⌝ }
-    ensures { λ r. ⌜ CutSays (cutOutcome (now (problem .entry)) (now (sides .entry)) (now (costs .entry)) (now (choices .entry)) (now (work .entry))) (now (costs .exit)) (now (choices .exit)) (now (work .exit)) r ⌝ }
+    ensures { λ r. ⌜ CutSays
+        (cutOutcome (now (problem .entry)) (now (sides .entry))
+        (now (costs .entry)) (now (choices .entry)) (now (work .entry)))
+        (now (costs .exit)) (now (choices .exit)) (now (work .exit)) r ⌝ }
 {
     let head = g.head;
     let n = head.variables as usize;
@@ -138,7 +145,10 @@ pub fn cut_problem(
     choices: &mut [u8],
     work: &mut [u32],
 ) -> Halves
-    ensures { λ r. ⌜ CutSays (cutOutcome (now (problem .entry)) (now (sides .entry)) (now (costs .entry)) (now (choices .entry)) (now (work .entry))) (now (costs .exit)) (now (choices .exit)) (now (work .exit)) r ⌝ }
+    ensures { λ r. ⌜ CutSays
+        (cutOutcome (now (problem .entry)) (now (sides .entry))
+        (now (costs .entry)) (now (choices .entry)) (now (work .entry)))
+        (now (costs .exit)) (now (choices .exit)) (now (work .exit)) r ⌝ }
 {
     let g = problem::read_problem(problem);
     let refusal = cut_refusal(problem, g, sides, work.len());

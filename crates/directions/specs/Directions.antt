@@ -1,4 +1,5 @@
--- Directions: the objectives, and weighted sums of them that bound several objectives at once. One of them, the leading sum, has every objective in it.
+-- Directions: the objectives, and weighted sums of them that bound several objectives at once. One of them, the leading
+-- sum, has every objective in it.
 use mathlib.Core.Path.{_≡_}
 use mathlib.Core.List.{List, [], _∷_, _++_}
 use Prim.Native.Nat.{ℕ, zero, suc, _+_, _*_, _≤_}

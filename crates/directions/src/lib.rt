@@ -7,7 +7,8 @@ ghost use Rattle.model.specs.Limits.{maxObjectives, sumEnd};
 ghost use Rattle.model.specs.Calls.{padded};
 ghost use Rattle.model.specs.Archive.{weighted};
 ghost use Rattle.archive.specs.Changes.{maxWeight};
-ghost use Rattle.directions.specs.Directions.{maxSums, maxDirections, weightsOf, directionsOf, leadWeights, leadAt, Sensible};
+ghost use Rattle.directions.specs.Directions.{maxSums, maxDirections, weightsOf, directionsOf};
+ghost use Rattle.directions.specs.Directions.{leadWeights, leadAt, Sensible};
 ghost use Rattle.directions.specs.Shares.{maxShare};
 
 // What a rate is scaled by; with the largest share it does not wrap.
@@ -173,10 +174,12 @@ fn weight_of(rate: u64, unit: u64) -> u64
     weight
 }
 
-// The weights of a sum, from the shares of the objectives in it. One unit for all keeps their ratios where the largest would be too large.
+// The weights of a sum, from the shares of the objectives in it.
+// One unit for all keeps their ratios where the largest would be too large.
 fn sum_weights(shares: [u64; 4], spreads: [u64; 4]) -> [u64; 4]
     requires { ⌜ All (λ s. s ≤ maxShare) shares ⌝ }
-    ensures { λ r. ⌜ All (λ w. w ≤ maxWeight) r × ((p : ℕ) → All (λ s. 1 ≤ s) (take p shares) → All (λ w. 1 ≤ w) (take p r)) ⌝ }
+    ensures { λ r. ⌜ All (λ w. w ≤ maxWeight) r
+        × ((p : ℕ) → All (λ s. 1 ≤ s) (take p shares) → All (λ w. 1 ≤ w) (take p r)) ⌝ }
 {
     let a = rate_of(shares[0], spreads[0]);
     let b = rate_of(shares[1], spreads[1]);
@@ -212,7 +215,8 @@ fn weights_for(p: usize, spreads: [u64; 4]) -> [u64; 16]
     weights
 }
 
-// Directions for `p` objectives. `spreads` says how far apart the costs of each objective are, and only the speed depends on it.
+// Directions for `p` objectives. `spreads` says how far apart the costs of each objective are,
+// and only the speed depends on it.
 pub fn choose_directions(p: usize, spreads: [u64; 4]) -> Directions
     requires { ⌜ (1 ≤ p) × (p ≤ maxObjectives) ⌝ }
     ensures { λ d. ⌜ Sensible d × (d .objectives ≡ p) ⌝ }

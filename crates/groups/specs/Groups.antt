@@ -44,4 +44,5 @@ pub record Grouped (ds s work : List ℕ) (r : ℕ) : Type 0 where
   pub from : (v : ℕ) → v < length ds → groupsAt ≤ getD work v 0
   pub to : (v : ℕ) → v < length ds → getD work v 0 ≤ getD work (v + 1) 0
   pub end : (v : ℕ) → v < length ds → getD work (v + 1) 0 ≤ recordsAt
-  pub group : (v : ℕ) → v < length ds → take (getD work (v + 1) 0 - getD work v 0) (drop (getD work v 0) work) ≡ groupOf s v (placesIn work r)
+  pub group : (v : ℕ) → v < length ds
+      → take (getD work (v + 1) 0 - getD work v 0) (drop (getD work v 0) work) ≡ groupOf s v (placesIn work r)

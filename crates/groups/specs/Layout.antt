@@ -1,4 +1,5 @@
--- Where things stand in work memory, in numbers from its start. The first 25 say where the group of each variable starts, and where the last one ends.
+-- Where things stand in work memory, in numbers from its start. The first 25 say where the group of each variable
+-- starts, and where the last one ends.
 use Prim.Native.Nat.{ℕ}
 
 -- the groups, one after another: at most three places for each of 256 records

@@ -41,8 +41,12 @@ pub fn has_variable(s: &[u8], at: usize, v: usize) -> bool
 
 // Writes the group of variable `v` from `from` on, and answers where it ends. `sizes` are the domain sizes.
 pub fn add_group(s: &[u8], sizes: &[u8], r: usize, v: usize, from: usize, work: &mut [u32]) -> usize
-    requires { ⌜ Placed (now sizes) (now s) (now work) r × (groupsAt ≤ from) × (from + length (groupOf (now s) v (placesIn (now work) r)) ≤ recordsAt) ⌝ }
-    ensures { λ e. ⌜ (e ≡ from + length (groupOf (now (s .entry)) v (placesIn (now (work .entry)) r))) × (now (work .exit) ≡ take from (now (work .entry)) ++ groupOf (now (s .entry)) v (placesIn (now (work .entry)) r) ++ drop e (now (work .entry))) ⌝ }
+    requires { ⌜ Placed (now sizes) (now s) (now work) r × (groupsAt ≤ from)
+        × (from + length (groupOf (now s) v (placesIn (now work) r)) ≤ recordsAt) ⌝ }
+    ensures { λ e. ⌜ (e ≡ from + length (groupOf (now (s .entry)) v (placesIn (now (work .entry)) r)))
+        × (now (work .exit)
+        ≡ take from (now (work .entry)) ++ groupOf (now (s .entry)) v (placesIn (now (work .entry)) r)
+        ++ drop e (now (work .entry))) ⌝ }
 {
     let mut end = from;
     let mut i: usize = 0;
@@ -60,7 +64,9 @@ pub fn add_group(s: &[u8], sizes: &[u8], r: usize, v: usize, from: usize, work: 
 // Groups `r` accepted records, whose places are in work memory, by the variables of `sizes`.
 pub fn group_records(s: &[u8], sizes: &[u8], r: usize, work: &mut [u32])
     requires { ⌜ Placed (now sizes) (now s) (now work) r ⌝ }
-    ensures { λ _. ⌜ Grouped (now (sizes .entry)) (now (s .entry)) (now (work .exit)) r × (drop recordsAt (now (work .exit)) ≡ drop recordsAt (now (work .entry))) × (length (now (work .exit)) ≡ length (now (work .entry))) ⌝ }
+    ensures { λ _. ⌜ Grouped (now (sizes .entry)) (now (s .entry)) (now (work .exit)) r
+        × (drop recordsAt (now (work .exit)) ≡ drop recordsAt (now (work .entry)))
+        × (length (now (work .exit)) ≡ length (now (work .entry))) ⌝ }
 {
     let n = sizes.len();
     let mut end: usize = GROUPS_AT;
@@ -73,7 +79,8 @@ pub fn group_records(s: &[u8], sizes: &[u8], r: usize, work: &mut [u32])
     work[n] = end as u32;
 }
 
-// The sums of least entries that agree with the prefix, over the records whose places stand in work memory at `from` .. `to`.
+// The sums of least entries that agree with the prefix, over the records whose places stand in work memory
+// at `from` .. `to`.
 pub fn bounds_over(
     s: &[u8],
     sizes: &[u8],
@@ -82,8 +89,11 @@ pub fn bounds_over(
     prefix: &[u8],
     work: &[u32],
 ) -> [u64; 4]
-    requires { ⌜ All DomainSize (now sizes) × (from ≤ to) × (to ≤ length (now work)) × (to - from ≤ maxTables) × All (Whole (now sizes) (now s)) (take (to - from) (drop from (now work))) × (prefixOk (now sizes) (now prefix) ≡ true) ⌝ }
-    ensures { λ t. ⌜ t ≡ totalsFrom maxObjectives 0 (leastOf (now (sizes .entry)) (now (prefix .entry))) (tablesOver (now (sizes .entry)) (now (s .entry)) (take (to - from) (drop from (now (work .entry))))) ⌝ }
+    requires { ⌜ All DomainSize (now sizes) × (from ≤ to) × (to ≤ length (now work)) × (to - from ≤ maxTables)
+        × All (Whole (now sizes) (now s)) (take (to - from) (drop from (now work)))
+        × (prefixOk (now sizes) (now prefix) ≡ true) ⌝ }
+    ensures { λ t. ⌜ t ≡ totalsFrom maxObjectives 0 (leastOf (now (sizes .entry)) (now (prefix .entry)))
+        (tablesOver (now (sizes .entry)) (now (s .entry)) (take (to - from) (drop from (now (work .entry))))) ⌝ }
 {
     let mut sums = [0u64; 4];
     let mut i = from;
@@ -105,8 +115,11 @@ pub fn group_bounds(
     prefix: &[u8],
     work: &[u32],
 ) -> [u64; 4]
-    requires { ⌜ Grouped (now sizes) (now s) (now work) r × (v < length (now sizes)) × (prefixOk (now sizes) (now prefix) ≡ true) ⌝ }
-    ensures { λ t. ⌜ t ≡ totalsFrom maxObjectives 0 (leastOf (now (sizes .entry)) (now (prefix .entry))) (tablesOver (now (sizes .entry)) (now (s .entry)) (groupOf (now (s .entry)) v (placesIn (now (work .entry)) r))) ⌝ }
+    requires { ⌜ Grouped (now sizes) (now s) (now work) r × (v < length (now sizes))
+        × (prefixOk (now sizes) (now prefix) ≡ true) ⌝ }
+    ensures { λ t. ⌜ t ≡ totalsFrom maxObjectives 0 (leastOf (now (sizes .entry)) (now (prefix .entry)))
+        (tablesOver (now (sizes .entry)) (now (s .entry))
+        (groupOf (now (s .entry)) v (placesIn (now (work .entry)) r))) ⌝ }
 {
     let from = work[v] as usize;
     let to = work[v + 1] as usize;
@@ -115,8 +128,11 @@ pub fn group_bounds(
 
 // Copies `count` numbers of work memory from `from` on to the place `to`. The two parts do not overlap.
 pub fn copy_numbers(from: usize, to: usize, count: usize, work: &mut [u32])
-    requires { ⌜ (from + count ≤ length (now work)) × (to + count ≤ length (now work)) × ((from + count ≤ to) ⊎ (to + count ≤ from)) ⌝ }
-    ensures { λ _. ⌜ now (work .exit) ≡ take to (now (work .entry)) ++ take count (drop from (now (work .entry))) ++ drop (to + count) (now (work .entry)) ⌝ }
+    requires { ⌜ (from + count ≤ length (now work)) × (to + count ≤ length (now work))
+        × ((from + count ≤ to) ⊎ (to + count ≤ from)) ⌝ }
+    ensures { λ _. ⌜ now (work .exit)
+        ≡ take to (now (work .entry)) ++ take count (drop from (now (work .entry)))
+        ++ drop (to + count) (now (work .entry)) ⌝ }
 {
     let mut i: usize = 0;
     while i < count {

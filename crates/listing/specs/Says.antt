@@ -22,7 +22,8 @@ use Rattle.exploring.specs.declared.Explored as DE
 
 -- the problem of r accepted records from `at` on
 abbrev pub problemAt : ℕ → List ℕ → List ℕ → List ℕ → ℕ → ℕ → Problem
-problemAt p ceilings ds s at r = record { objectives = p; ceilings = take p ceilings; domains = ds; tables = tablesAt r ds s at }
+problemAt p ceilings ds s at r =
+    record { objectives = p; ceilings = take p ceilings; domains = ds; tables = tablesAt r ds s at }
 
 -- what is asked for: accepted records, and work memory
 pub record Accepted (p r at room : ℕ) (ceilings ds s work : List ℕ) : Type 0 where

@@ -26,7 +26,8 @@ pub fn widened(ceilings: [u32; 4]) -> [u64; 4]
     ]
 }
 
-// Plans the search of the `r` records whose places stand where a problem's records are, and answers whether the plan may be relied on.
+// Plans the search of the `r` records whose places stand where a problem's records are,
+// and answers whether the plan may be relied on.
 fn plan_source(
     s: &[u8],
     sizes: &[u8],
@@ -35,7 +36,8 @@ fn plan_source(
     work: &mut [u32],
 ) -> bool
     requires { ⌜ Plannable r (now sizes) (now s) (now work) × Sensible d ⌝ }
-    ensures { λ ok. ⌜ Kept r (now (work .entry)) (now (work .exit)) × (ok ≡ true → PlanSays d r (now (sizes .entry)) (now (s .entry)) (now (work .entry)) (now (work .exit))) ⌝ }
+    ensures { λ ok. ⌜ Kept r (now (work .entry)) (now (work .exit))
+        × (ok ≡ true → PlanSays d r (now (sizes .entry)) (now (s .entry)) (now (work .entry)) (now (work .exit))) ⌝ }
 {
     groups::copy_numbers(groups::SOURCE_AT, exploring::PLAN_AT, r, work);
     planning::make_plan(s, sizes, r, d, &mut work[exploring::PLAN_AT..]);
@@ -64,7 +66,10 @@ fn explore_source(
     work: &mut [u32],
 ) -> exploring::Explored
     requires { ⌜ Source p r ceilings (now sizes) (now s) (now work) × (room ≤ maxPoints) ⌝ }
-    ensures { λ e. ⌜ Kept r (now (work .entry)) (now (work .exit)) × SecondSays p (length (now (sizes .entry))) (frontier (sourceProblem p r ceilings (now (sizes .entry)) (now (s .entry)) (now (work .entry)))) room (now (work .exit)) e ⌝ }
+    ensures { λ e. ⌜ Kept r (now (work .entry)) (now (work .exit))
+        × SecondSays p (length (now (sizes .entry)))
+        (frontier (sourceProblem p r ceilings (now (sizes .entry)) (now (s .entry)) (now (work .entry))))
+        room (now (work .exit)) e ⌝ }
 {
     let n = sizes.len();
     if n == 0 {
@@ -81,8 +86,8 @@ fn explore_source(
     exploring::explore(s, sizes, r, ceilings, room, d, work)
 }
 
-// The frontier list of `r` records whose places stand in work memory where a problem's records are: by the second form, and where that gives up by the first;
-// or only by the first.
+// The frontier list of `r` records whose places stand in work memory where a problem's records are: by the second form,
+// and where that gives up by the first; or only by the first.
 pub fn find_source(
     s: &[u8],
     sizes: &[u8],
@@ -94,7 +99,9 @@ pub fn find_source(
     work: &mut [u32],
 ) -> passes::Found
     requires { ⌜ Source p r ceilings (now sizes) (now s) (now work) × (room ≤ maxPoints) ⌝ }
-    ensures { λ f. ⌜ FoundSays p (length (now (sizes .entry))) (frontier (sourceProblem p r ceilings (now (sizes .entry)) (now (s .entry)) (now (work .entry)))) room (now (work .entry)) (now (work .exit)) f ⌝ }
+    ensures { λ f. ⌜ FoundSays p (length (now (sizes .entry)))
+        (frontier (sourceProblem p r ceilings (now (sizes .entry)) (now (s .entry)) (now (work .entry))))
+        room (now (work .entry)) (now (work .exit)) f ⌝ }
 {
     if by_passes {
         return passes::find_source(s, sizes, r, p, ceilings, room, work);
@@ -109,7 +116,8 @@ pub fn find_source(
     passes::find_source(s, sizes, r, p, ceilings, room, work)
 }
 
-// The frontier list of `r` accepted records from `at` on, in work memory; only by the first form where that is asked for.
+// The frontier list of `r` accepted records from `at` on, in work memory;
+// only by the first form where that is asked for.
 pub fn find_list(
     s: &[u8],
     at: usize,
@@ -122,7 +130,9 @@ pub fn find_list(
     work: &mut [u32],
 ) -> passes::Found
     requires { ⌜ Accepted p r at room ceilings (now sizes) (now s) (now work) ⌝ }
-    ensures { λ f. ⌜ FoundSays p (length (now (sizes .entry))) (frontier (problemAt p ceilings (now (sizes .entry)) (now (s .entry)) at r)) room (now (work .entry)) (now (work .exit)) f ⌝ }
+    ensures { λ f. ⌜ FoundSays p (length (now (sizes .entry)))
+        (frontier (problemAt p ceilings (now (sizes .entry)) (now (s .entry)) at r))
+        room (now (work .entry)) (now (work .exit)) f ⌝ }
 {
     problem::keep_places(s, at, r, sizes, &mut work[groups::SOURCE_AT..]);
     let wide = widened(ceilings);
@@ -141,8 +151,11 @@ pub fn find_half(
     ceilings: [u32; 4],
     work: &mut [u32],
 ) -> passes::Found
-    requires { ⌜ Accepted p r at maxPoints ceilings (now sizes) (now s) (now work) × (length (now sides) ≡ length (now sizes)) ⌝ }
-    ensures { λ f. ⌜ FoundSays p (length (now (sizes .entry))) (frontier (view side (problemAt p ceilings (now (sizes .entry)) (now (s .entry)) at r) (now (sides .entry)))) maxPoints (now (work .entry)) (now (work .exit)) f ⌝ }
+    requires { ⌜ Accepted p r at maxPoints ceilings (now sizes) (now s) (now work)
+        × (length (now sides) ≡ length (now sizes)) ⌝ }
+    ensures { λ f. ⌜ FoundSays p (length (now (sizes .entry)))
+        (frontier (view side (problemAt p ceilings (now (sizes .entry)) (now (s .entry)) at r) (now (sides .entry))))
+        maxPoints (now (work .entry)) (now (work .exit)) f ⌝ }
 {
     problem::keep_places(s, at, r, sizes, &mut work[groups::RECORDS_AT..]);
     let narrow = views::narrow(sizes, sides, side);

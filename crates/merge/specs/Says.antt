@@ -15,7 +15,8 @@ use Rattle.passes.specs.declared.Found as DF
 use Rattle.merge.specs.Sums.{firstRow}
 use Rattle.merge.specs.declared.Lists as DL
 
--- a half's list fs stands from the row on, or it is longer than a list may be; where the rows end before it, the first half's list stays
+-- a half's list fs stands from the row on, or it is longer than a list may be; where the rows end before it,
+-- the first half's list stays
 pub record KeptSays (p n : ℕ) (fs : List Point) (row : ℕ) (work work′ : List ℕ) (f : DF.Found) : Type 0 where
   pub full : f .full ≡ ltb maxPoints (length fs)
   pub count : f .count ≡ when (not (f .full)) (length fs)
@@ -27,9 +28,11 @@ pub record KeptSays (p n : ℕ) (fs : List Point) (row : ℕ) (work work′ : Li
 abbrev pub noLists : DL.Lists
 noLists = record { full = true; count = 0; first = 0; second = 0 }
 
--- the frontier list is in work memory, or it is longer than the room or a half's list longer than a list may be; and how many points each half has
+-- the frontier list is in work memory, or it is longer than the room or a half's list longer than a list may be; and
+-- how many points each half has
 pub record CutFound (q : Problem) (sides : List ℕ) (room : ℕ) (work work′ : List ℕ) (f : DL.Lists) : Type 0 where
-  pub full : f .full ≡ (ltb maxPoints (halfSize 0 q sides) || (ltb maxPoints (halfSize 1 q sides) || ltb room (length (frontier q))))
+  pub full : f .full
+      ≡ (ltb maxPoints (halfSize 0 q sides) || (ltb maxPoints (halfSize 1 q sides) || ltb room (length (frontier q))))
   pub count : f .count ≡ when (not (f .full)) (length (frontier q))
   pub first : f .first ≡ when (not (f .full)) (halfSize 0 q sides)
   pub second : f .second ≡ when (not (f .full)) (halfSize 1 q sides)

@@ -10,7 +10,8 @@ use Rattle.model.specs.Merging.{allSums}
 use Rattle.rows.specs.Rows.{pointIn, listIn}
 use Rattle.search.specs.declared.Best as DB
 
--- the rows where the two halves' lists start: the first behind all that a search may change, the second behind the list that is made
+-- the rows where the two halves' lists start: the first behind all that a search may change,
+-- the second behind the list that is made
 abbrev pub firstRow : ℕ
 firstRow = 177
 
@@ -39,7 +40,8 @@ pointOf p n h = point (take p (h .costs)) (take n (h .choice))
 abbrev pub Values : List ℕ → Type 0
 Values xs = All (λ v. v < maxDomain) xs
 
--- memory in which the point in row i may be added to each of the second half's: k listed points, and added choices that are values of domains
+-- memory in which the point in row i may be added to each of the second half's: k listed points,
+-- and added choices that are values of domains
 pub record Paired (p n k i b : ℕ) (work : List ℕ) : Type 0 where
   pub long : halvesEnd ≤ length work
   pub objectives : p ≤ maxObjectives
@@ -57,4 +59,5 @@ pub record Halved (p n k a b : ℕ) (work : List ℕ) : Type 0 where
   pub count : k ≤ maxPoints
   pub first-count : a ≤ maxPoints
   pub second-count : b ≤ maxPoints
-  pub values : (x y : Point) → In x (firstIn p n work a) → In y (secondIn p n work b) → Values (added (x .choice) (y .choice))
+  pub values : (x y : Point) → In x (firstIn p n work a) → In y (secondIn p n work b)
+      → Values (added (x .choice) (y .choice))

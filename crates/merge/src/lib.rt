@@ -1,4 +1,5 @@
-// The cut call's list: passes in list order over the sums of two halves' points. A half's choice has 0 for the other half's variables, so merging is adding.
+// The cut call's list: passes in list order over the sums of two halves' points. A half's choice has 0 for the other
+// half's variables, so merging is adding.
 ghost use mathlib.Core.Path.{_≡_};
 ghost use mathlib.Core.Bool.{true};
 ghost use mathlib.Core.List.{[]};
@@ -45,7 +46,8 @@ fn is_earlier_choice(x: [u8; 24], y: [u8; 24], n: usize) -> bool
 
 // The first `n` values of two rows added, from `a` and `b` on; zeros behind them.
 fn choice_sum(work: &[u32], a: usize, b: usize, n: usize) -> [u8; 24]
-    requires { ⌜ (n ≤ maxVariables) × (a + n ≤ length (now work)) × (b + n ≤ length (now work)) × Values (added (take n (drop a (now work))) (take n (drop b (now work)))) ⌝ }
+    requires { ⌜ (n ≤ maxVariables) × (a + n ≤ length (now work)) × (b + n ≤ length (now work))
+        × Values (added (take n (drop a (now work))) (take n (drop b (now work)))) ⌝ }
     ensures { λ r. ⌜ take n r ≡ added (take n (drop a (now (work .entry)))) (take n (drop b (now (work .entry)))) ⌝ }
 {
     let mut sum = [0u8; 24];
@@ -59,8 +61,11 @@ fn choice_sum(work: &[u32], a: usize, b: usize, n: usize) -> [u8; 24]
 
 // The sum of the points in rows `i` and `j`.
 fn sum_of(work: &[u32], i: usize, j: usize, p: usize, n: usize) -> search::Best
-    requires { ⌜ (p ≤ maxObjectives) × (n ≤ maxVariables) × (rowAt i + rowWidth ≤ length (now work)) × (rowAt j + rowWidth ≤ length (now work)) × Values (added (pointIn p n (now work) i .choice) (pointIn p n (now work) j .choice)) ⌝ }
-    ensures { λ h. ⌜ heldOf p n h ≡ just (sumOf (pointIn p n (now (work .entry)) i) (pointIn p n (now (work .entry)) j)) ⌝ }
+    requires { ⌜ (p ≤ maxObjectives) × (n ≤ maxVariables) × (rowAt i + rowWidth ≤ length (now work))
+        × (rowAt j + rowWidth ≤ length (now work))
+        × Values (added (pointIn p n (now work) i .choice) (pointIn p n (now work) j .choice)) ⌝ }
+    ensures { λ h. ⌜ heldOf p n h
+        ≡ just (sumOf (pointIn p n (now (work .entry)) i) (pointIn p n (now (work .entry)) j)) ⌝ }
 {
     let a = rows::LIST_AT + rows::ROW_WIDTH * i;
     let b = rows::LIST_AT + rows::ROW_WIDTH * j;
@@ -92,7 +97,8 @@ fn is_ahead(sum: search::Best, held: search::Best, p: usize, n: usize) -> bool
     is_earlier_choice(choice, other, n)
 }
 
-// What is held once a sum is met: the nearer of the two, if the sum is under the ceilings and the `k` listed points do not match it.
+// What is held once a sum is met: the nearer of the two,
+// if the sum is under the ceilings and the `k` listed points do not match it.
 fn take_sum(
     held: search::Best,
     sum: search::Best,
@@ -102,8 +108,12 @@ fn take_sum(
     p: usize,
     ceilings: [u64; 4],
 ) -> search::Best
-    requires { ⌜ (listEnd ≤ length (now work)) × (k ≤ maxPoints) × (p ≤ maxObjectives) × (n ≤ maxVariables) × (sum .found ≡ true) ⌝ }
-    ensures { λ r. ⌜ heldOf p n r ≡ leastLeft (listIn p n (now (work .entry)) 0 k) (keepIf (under (take p (sum .costs)) (take p ceilings)) (pointOf p n sum) []) (heldOf p n held) ⌝ }
+    requires { ⌜ (listEnd ≤ length (now work)) × (k ≤ maxPoints) × (p ≤ maxObjectives) × (n ≤ maxVariables)
+        × (sum .found ≡ true) ⌝ }
+    ensures { λ r. ⌜ heldOf p n r
+        ≡ leastLeft (listIn p n (now (work .entry)) 0 k)
+        (keepIf (under (take p (sum .costs)) (take p ceilings)) (pointOf p n sum) [])
+        (heldOf p n held) ⌝ }
 {
     let costs = sum.costs;
     if !vectors::is_under(costs, ceilings, p) {
@@ -132,7 +142,10 @@ fn meet_row(
     ceilings: [u64; 4],
 ) -> search::Best
     requires { ⌜ Paired p n k i b (now work) ⌝ }
-    ensures { λ r. ⌜ heldOf p n r ≡ leastLeft (listIn p n (now (work .entry)) 0 k) (sumsWith (take p ceilings) (pointIn p n (now (work .entry)) i) (secondIn p n (now (work .entry)) b)) (heldOf p n held) ⌝ }
+    ensures { λ r. ⌜ heldOf p n r
+        ≡ leastLeft (listIn p n (now (work .entry)) 0 k)
+        (sumsWith (take p ceilings) (pointIn p n (now (work .entry)) i) (secondIn p n (now (work .entry)) b))
+        (heldOf p n held) ⌝ }
 {
     let mut best = held;
     let mut j: usize = 0;
@@ -155,7 +168,8 @@ pub fn next_sum(
     ceilings: [u64; 4],
 ) -> search::Best
     requires { ⌜ Halved p n k a b (now work) ⌝ }
-    ensures { λ h. ⌜ heldOf p n h ≡ leastLeft (listIn p n (now (work .entry)) 0 k) (sumsIn p n ceilings (now (work .entry)) a b) nothing ⌝ }
+    ensures { λ h. ⌜ heldOf p n h
+        ≡ leastLeft (listIn p n (now (work .entry)) 0 k) (sumsIn p n ceilings (now (work .entry)) a b) nothing ⌝ }
 {
     let mut best = search::Best {
         found: false,
@@ -181,7 +195,8 @@ pub fn merge_points(
     work: &mut [u32],
 ) -> passes::Found
     requires { ⌜ Halved p n 0 a b (now work) × All Word (take p ceilings) × (room ≤ maxPoints) ⌝ }
-    ensures { λ f. ⌜ FoundSays p n (best (sumsIn p n ceilings (now (work .entry)) a b)) room (now (work .entry)) (now (work .exit)) f ⌝ }
+    ensures { λ f. ⌜ FoundSays p n (best (sumsIn p n ceilings (now (work .entry)) a b)) room
+        (now (work .entry)) (now (work .exit)) f ⌝ }
 {
     let mut k: usize = 0;
     while k < room {
@@ -223,8 +238,12 @@ fn keep_half(
     row: usize,
     work: &mut [u32],
 ) -> passes::Found
-    requires { ⌜ Accepted p r at maxPoints ceilings (now sizes) (now s) (now work) × (length (now sides) ≡ length (now sizes)) × (secondRow ≤ row) × (row ≤ firstRow) × (workNeed ≤ length (now work)) ⌝ }
-    ensures { λ f. ⌜ KeptSays p (length (now (sizes .entry))) (frontier (view side (problemAt p ceilings (now (sizes .entry)) (now (s .entry)) at r) (now (sides .entry)))) row (now (work .entry)) (now (work .exit)) f ⌝ }
+    requires { ⌜ Accepted p r at maxPoints ceilings (now sizes) (now s) (now work)
+        × (length (now sides) ≡ length (now sizes)) × (secondRow ≤ row) × (row ≤ firstRow)
+        × (workNeed ≤ length (now work)) ⌝ }
+    ensures { λ f. ⌜ KeptSays p (length (now (sizes .entry)))
+        (frontier (view side (problemAt p ceilings (now (sizes .entry)) (now (s .entry)) at r) (now (sides .entry))))
+        row (now (work .entry)) (now (work .exit)) f ⌝ }
 {
     let found = listing::find_half(
         s,
@@ -273,8 +292,12 @@ pub fn cut_lists(
     room: usize,
     work: &mut [u32],
 ) -> Lists
-    requires { ⌜ Accepted p r at room ceilings (now sizes) (now s) (now work) × (sidesOk (problemAt p ceilings (now sizes) (now s) at r) (now sides) ≡ true) × (uncrossed (now sides) (problemAt p ceilings (now sizes) (now s) at r .tables) ≡ true) × (workNeed ≤ length (now work)) ⌝ }
-    ensures { λ f. ⌜ CutFound (problemAt p ceilings (now (sizes .entry)) (now (s .entry)) at r) (now (sides .entry)) room (now (work .entry)) (now (work .exit)) f ⌝ }
+    requires { ⌜ Accepted p r at room ceilings (now sizes) (now s) (now work)
+        × (sidesOk (problemAt p ceilings (now sizes) (now s) at r) (now sides) ≡ true)
+        × (uncrossed (now sides) (problemAt p ceilings (now sizes) (now s) at r .tables) ≡ true)
+        × (workNeed ≤ length (now work)) ⌝ }
+    ensures { λ f. ⌜ CutFound (problemAt p ceilings (now (sizes .entry)) (now (s .entry)) at r) (now (sides .entry))
+        room (now (work .entry)) (now (work .exit)) f ⌝ }
 {
     let first = keep_half(s, at, r, sizes, sides, 0, p, ceilings, FIRST_ROW, work);
     if first.full {

@@ -1,4 +1,5 @@
--- Small functions that the definitions share: a choice by a test, the first of two numbers, a property of every element.
+-- Small functions that the definitions share: a choice by a test, the first of two numbers,
+-- a property of every element.
 use mathlib.Core.Bool.{Bool, true, false}
 use mathlib.Core.List.{List, [], _∷_}
 use Prim.Native.Nat.{ℕ, zero, suc}

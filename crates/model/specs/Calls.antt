@@ -1,4 +1,5 @@
--- What each public call answers and leaves in the lent buffers, for every input: nothing of it depends on what they held.
+-- What each public call answers and leaves in the lent buffers, for every input:
+-- nothing of it depends on what they held.
 use mathlib.Core.Bool.{Bool, _||_}
 use mathlib.Core.List.{List, [], _∷_, _++_}
 use Prim.Native.Nat.{ℕ, zero, suc, _-_, _/_, min}
@@ -27,7 +28,8 @@ divided a (suc b) = a / suc b
 
 -- "room" is document 01's term: how many points the cost and choice buffers hold, at most 64
 unfoldable pub roomOf : Problem → List ℕ → List ℕ → ℕ
-roomOf q costs choices = min (divided (length costs) (q .objectives)) (min (divided (length choices) (length (q .domains))) maxPoints)
+roomOf q costs choices =
+    min (divided (length costs) (q .objectives)) (min (divided (length choices) (length (q .domains))) maxPoints)
 
 -- the points one after the other, as the cost buffer and the choice buffer take them
 unfoldable pub flatCosts : List Point → List ℕ
@@ -114,12 +116,17 @@ unfoldable pub sidesVerdict : Problem → List ℕ → Verdict
 sidesVerdict q sides = pick (sidesOk q sides) accepted (verdict badSides 0)
 
 unfoldable pub cutRoomVerdict : Problem → List ℕ → ℕ → Verdict
-cutRoomVerdict q sides room = first (roomVerdict maxPoints (frontier (half 0 q sides))) (first (roomVerdict maxPoints (frontier (half 1 q sides))) (roomVerdict room (cutList q sides)))
+cutRoomVerdict q sides room =
+    first (roomVerdict maxPoints (frontier (half 0 q sides))) (
+    first (roomVerdict maxPoints (frontier (half 1 q sides))) (roomVerdict room (cutList q sides)))
 
 unfoldable pub cutVerdict : List ℕ → List ℕ → List ℕ → ℕ → Verdict
 cutVerdict s sides work room =
     let q = problemOf s in
-    first (verdictOf s) (first (workVerdict work) (first (sidesVerdict q sides) (first (linkedVerdict sides (q .tables) (placesOf s)) (cutRoomVerdict q sides room))))
+    first (verdictOf s) (
+    first (workVerdict work) (
+    first (sidesVerdict q sides) (
+    first (linkedVerdict sides (q .tables) (placesOf s)) (cutRoomVerdict q sides room))))
 
 unfoldable pub cutOutcome : List ℕ → List ℕ → List ℕ → List ℕ → List ℕ → CutOutcome
 cutOutcome s sides costs choices work =
@@ -142,7 +149,8 @@ pub record BoundOutcome : Type 0 where
   pub least : List ℕ
 
 unfoldable pub boundVerdict : List ℕ → List ℕ → Verdict
-boundVerdict s prefix = first (verdictOf s) (pick (prefixOk (problemOf s .domains) prefix) accepted (verdict badPrefix 0))
+boundVerdict s prefix =
+    first (verdictOf s) (pick (prefixOk (problemOf s .domains) prefix) accepted (verdict badPrefix 0))
 
 unfoldable pub boundOutcome : List ℕ → List ℕ → BoundOutcome
 boundOutcome s prefix =

@@ -1,4 +1,5 @@
--- The cut: sides, halves, and the list that is made from the halves' frontier lists. "Side" and "half" are document 01's terms.
+-- The cut: sides, halves, and the list that is made from the halves' frontier lists.
+-- "Side" and "half" are document 01's terms.
 use mathlib.Core.Bool.{Bool, true, false, _&&_, _||_, not}
 use mathlib.Core.List.{List, [], _∷_, _++_}
 use Prim.Native.Nat.{ℕ, zero, suc, _+_}
@@ -66,7 +67,13 @@ halfTables k ss (t ∷ ts) = keepIf (inHalf k ss (t .scope)) (halfTable k ss t) 
 
 -- half k: its variables in order, its records, all ceilings
 unfoldable pub half : ℕ → Problem → List ℕ → Problem
-half k q ss = record { objectives = q .objectives; ceilings = q .ceilings; domains = onSide k ss (q .domains); tables = halfTables k ss (q .tables) }
+half k q ss =
+    record {
+      objectives = q .objectives;
+      ceilings = q .ceilings;
+      domains = onSide k ss (q .domains);
+      tables = halfTables k ss (q .tables);
+    }
 
 -- "merged choice" is document 01's term: each variable has the value of its half's choice
 unfoldable pub merged : List ℕ → List ℕ → List ℕ → List ℕ
@@ -82,7 +89,8 @@ pairOf ss a b = point (added (a .costs) (b .costs)) (merged ss (a .choice) (b .c
 
 unfoldable pub pairsWith : Problem → List ℕ → Point → List Point → List Point
 pairsWith q ss a [] = []
-pairsWith q ss a (b ∷ bs) = keepIf (under (added (a .costs) (b .costs)) (q .ceilings)) (pairOf ss a b) (pairsWith q ss a bs)
+pairsWith q ss a (b ∷ bs) =
+    keepIf (under (added (a .costs) (b .costs)) (q .ceilings)) (pairOf ss a b) (pairsWith q ss a bs)
 
 unfoldable pub allPairs : Problem → List ℕ → List Point → List Point → List Point
 allPairs q ss [] bs = []

@@ -35,7 +35,8 @@ wordBytes [] = []
 wordBytes (x ∷ xs) = fourBytes x ++ wordBytes xs
 
 unfoldable pub headBytes : Problem → List ℕ
-headBytes q = (letterH ∷ letterD ∷ length (q .domains) ∷ q .objectives ∷ twoBytes (length (q .tables))) ++ wordBytes (q .ceilings)
+headBytes q =
+    (letterH ∷ letterD ∷ length (q .domains) ∷ q .objectives ∷ twoBytes (length (q .tables))) ++ wordBytes (q .ceilings)
 
 unfoldable pub domainBytes : List ℕ → List ℕ
 domainBytes [] = []

@@ -15,7 +15,8 @@ sumOf a b = point (added (a .costs) (b .costs)) (added (a .choice) (b .choice))
 -- the sums under the ceilings
 unfoldable pub sumsWith : List ℕ → Point → List Point → List Point
 sumsWith ceilings a [] = []
-sumsWith ceilings a (b ∷ bs) = keepIf (under (added (a .costs) (b .costs)) ceilings) (sumOf a b) (sumsWith ceilings a bs)
+sumsWith ceilings a (b ∷ bs) =
+    keepIf (under (added (a .costs) (b .costs)) ceilings) (sumOf a b) (sumsWith ceilings a bs)
 
 unfoldable pub allSums : List ℕ → List Point → List Point → List Point
 allSums ceilings [] bs = []

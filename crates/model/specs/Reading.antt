@@ -1,12 +1,16 @@
--- Reading bytes as a problem: numbers 1 to 11 with their places, in document 01's order, and the problem that the records hold.
+-- Reading bytes as a problem: numbers 1 to 11 with their places, in document 01's order,
+-- and the problem that the records hold.
 use mathlib.Core.Bool.{Bool, _&&_, _||_, not}
 use mathlib.Core.List.{List, [], _∷_}
 use Prim.Native.Nat.{ℕ, zero, suc, _+_, _*_}
 use lib.Dec.{eqb, ltb, leb}
 use lib.ListN.{length, getD, take, drop}
 use Rattle.model.specs.Basics.{pick, when, firstOf}
-use Rattle.model.specs.Limits.{maxBytes, maxVariables, maxObjectives, maxTables, maxDomain, maxArity, byteEnd, shortEnd}
-use Rattle.model.specs.Refusals.{oversize, cutShort, strayMark, badVariables, badObjectives, badTables, badDomain, badOwner, badArity, badScope, leftover, Verdict, verdict, accepted, refusedAt, first}
+use Rattle.model.specs.Limits.{maxBytes, maxVariables, maxObjectives, maxTables, maxDomain, maxArity}
+use Rattle.model.specs.Limits.{byteEnd, shortEnd}
+use Rattle.model.specs.Refusals.{oversize, cutShort, strayMark, badVariables, badObjectives, badTables, badDomain}
+use Rattle.model.specs.Refusals.{badOwner, badArity, badScope, leftover}
+use Rattle.model.specs.Refusals.{Verdict, verdict, accepted, refusedAt, first}
 use Rattle.model.specs.Problems.{Table, Problem, sizeOf, scopeOk}
 use Rattle.model.specs.Encoding.{letterC, letterD, letterF, letterH, letterO}
 
@@ -84,7 +88,12 @@ tableNumber p ds s =
     (when (ltb (length s) (tableLength ds s)) cutShort)))))
 
 unfoldable pub tableOf : List ℕ → List ℕ → Table
-tableOf ds s = record { objective = tableObjective s; scope = tableScope s; costs = wordsIn (sizeOf ds (tableScope s)) (drop (4 + tableArity s) s) }
+tableOf ds s =
+    record {
+      objective = tableObjective s;
+      scope = tableScope s;
+      costs = wordsIn (sizeOf ds (tableScope s)) (drop (4 + tableArity s) s);
+    }
 
 -- Of the records from the place `at` on: the first verdict that refuses, and what they hold.
 unfoldable pub domainsVerdict : ℕ → List ℕ → ℕ → Verdict
@@ -98,7 +107,9 @@ domainsAt (suc n) s at = domainSize (drop at s) ∷ domainsAt n s (at + 3)
 -- after the last cost record nothing may follow
 unfoldable pub tablesVerdict : ℕ → ℕ → List ℕ → List ℕ → ℕ → Verdict
 tablesVerdict zero p ds s at = pick (ltb at (length s)) (verdict leftover at) accepted
-tablesVerdict (suc r) p ds s at = let rest = tablesVerdict r p ds s (at + tableLength ds (drop at s)) in first (refusedAt at (tableNumber p ds (drop at s))) rest
+tablesVerdict (suc r) p ds s at =
+    let rest = tablesVerdict r p ds s (at + tableLength ds (drop at s)) in
+    first (refusedAt at (tableNumber p ds (drop at s))) rest
 
 unfoldable pub tablesAt : ℕ → List ℕ → List ℕ → ℕ → List Table
 tablesAt zero ds s at = []
@@ -117,7 +128,9 @@ abbrev pub tablesStart : List ℕ → ℕ
 tablesStart s = headLength s + 3 * headVariables s
 
 unfoldable pub bodyVerdict : List ℕ → Verdict
-bodyVerdict s = let rest = tablesVerdict (headTables s) (headObjectives s) (domainsOf s) s (tablesStart s) in first (domainsVerdict (headVariables s) s (headLength s)) rest
+bodyVerdict s =
+    let rest = tablesVerdict (headTables s) (headObjectives s) (domainsOf s) s (tablesStart s) in
+    first (domainsVerdict (headVariables s) s (headLength s)) rest
 
 -- numbers 1 to 11 with their places
 unfoldable pub verdictOf : List ℕ → Verdict
@@ -125,7 +138,13 @@ verdictOf s = pick (ltb maxBytes (length s)) (verdict oversize 0) (first (refuse
 
 -- the problem that the bytes hold, where the verdict does not refuse; and where its cost records start
 unfoldable pub problemOf : List ℕ → Problem
-problemOf s = record { objectives = headObjectives s; ceilings = wordsIn (headObjectives s) (drop 6 s); domains = domainsOf s; tables = tablesAt (headTables s) (domainsOf s) s (tablesStart s) }
+problemOf s =
+    record {
+      objectives = headObjectives s;
+      ceilings = wordsIn (headObjectives s) (drop 6 s);
+      domains = domainsOf s;
+      tables = tablesAt (headTables s) (domainsOf s) s (tablesStart s);
+    }
 
 unfoldable pub placesOf : List ℕ → List ℕ
 placesOf s = placesAt (headTables s) (domainsOf s) s (tablesStart s)

@@ -1,4 +1,5 @@
--- The method as functions: passes in list order, each a search of the tree of partial choices, with a rule to leave branches unopened.
+-- The method as functions: passes in list order, each a search of the tree of partial choices,
+-- with a rule to leave branches unopened.
 -- Nobody has to believe it: proofs/Search.antt shows that it gives the frontier list, with any sound rule.
 use mathlib.Core.Bool.{Bool, false, _&&_, _||_, not}
 use mathlib.Core.List.{List, [], _∷_, _++_}
@@ -21,7 +22,8 @@ unfoldable pub matched : List ℕ → List Point → Bool
 matched c [] = false
 matched c (p ∷ ps) = atMost (p .costs) c || matched c ps
 
--- a complete choice is met: it is held if it is consistent, the list does not match it, and its costs are earlier than those held
+-- a complete choice is met: it is held if it is consistent, the list does not match it,
+-- and its costs are earlier than those held
 unfoldable pub isLeft : Problem → List Point → List ℕ → Bool
 isLeft q ps x = consistent q x && not (matched (costsOf q x) ps)
 

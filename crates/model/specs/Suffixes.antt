@@ -1,4 +1,5 @@
--- The problem of the last variables in one objective (document 01 calls it a Russian doll), and what its least cost adds to a bound.
+-- The problem of the last variables in one objective (document 01 calls it a Russian doll),
+-- and what its least cost adds to a bound.
 -- Nobody has to believe it: proofs/Suffixes.antt shows that the sharper bound is still below every completion's cost.
 use mathlib.Core.Bool.{Bool, _&&_}
 use mathlib.Core.List.{List, [], _∷_, _++_}
@@ -40,7 +41,8 @@ leastCost o c (just x) = getD (x .costs) o 0
 
 -- what that is more than the sum of its records' least entries
 unfoldable pub gainOf : Problem → ℕ → ℕ → Held → ℕ
-gainOf q o k h = leastCost o (getD (q .ceilings) o 0) h - total o (leastOf (suffixOf q o k .domains) []) (suffixOf q o k .tables)
+gainOf q o k h =
+    leastCost o (getD (q .ceilings) o 0) h - total o (leastOf (suffixOf q o k .domains) []) (suffixOf q o k .tables)
 
 -- the bound of a prefix, with the gains of the variables after it
 abbrev pub sharper : Problem → (ℕ → List ℕ) → List ℕ → List ℕ
@@ -48,7 +50,10 @@ sharper q gains pre = added (boundOf q pre) (gains (length pre))
 
 -- a gain that no choice undercuts
 abbrev pub Gain : Problem → ℕ → ℕ → ℕ → Type 0
-Gain q o k g = (y : List ℕ) → isChoice (q .domains) y ≡ true → total o (leastOf (q .domains) []) (kept (inSuffix (length (q .domains)) k) (q .tables)) + g ≤ total o (costOf (q .domains) y) (kept (inSuffix (length (q .domains)) k) (q .tables))
+Gain q o k g =
+    (y : List ℕ) → isChoice (q .domains) y ≡ true
+    → total o (leastOf (q .domains) []) (kept (inSuffix (length (q .domains)) k) (q .tables)) + g
+    ≤ total o (costOf (q .domains) y) (kept (inSuffix (length (q .domains)) k) (q .tables))
 
 pub record Gains (q : Problem) (gains : ℕ → List ℕ) : Type 0 where
   pub width : (k : ℕ) → k ≤ length (q .domains) → length (gains k) ≡ q .objectives

@@ -1,5 +1,6 @@
--- A part of a problem, seen without writing it out: the variables of one side keep their domains and the others have the one value 0; the records
--- over that side stay as they are. Nobody has to believe it: proofs/Views.antt shows that its list is that of the half.
+-- A part of a problem, seen without writing it out: the variables of one side keep their domains and the others have
+-- the one value 0; the records over that side stay as they are. Nobody has to believe it: proofs/Views.antt shows that
+-- its list is that of the half.
 use mathlib.Core.Bool.{Bool, true, _&&_}
 use mathlib.Core.List.{List, [], _∷_}
 use Prim.Native.Nat.{ℕ}
@@ -31,7 +32,13 @@ kept f [] = []
 kept f (t ∷ ts) = keepIf (f t) t (kept f ts)
 
 unfoldable pub view : ℕ → Problem → List ℕ → Problem
-view k q ss = record { objectives = q .objectives; ceilings = q .ceilings; domains = narrowed k ss (q .domains); tables = kept (λ t. within k ss (t .scope)) (q .tables) }
+view k q ss =
+    record {
+      objectives = q .objectives;
+      ceilings = q .ceilings;
+      domains = narrowed k ss (q .domains);
+      tables = kept (λ t. within k ss (t .scope)) (q .tables);
+    }
 
 -- a half's choice as one of the view: 0 for the other side's variables
 unfoldable pub spread : ℕ → List ℕ → List ℕ → List ℕ

@@ -1,4 +1,5 @@
-// The model: document 01 as definitions (specs/), the theorems about them (proofs/), and here the kinds with their limits.
+// The model: document 01 as definitions (specs/), the theorems about them (proofs/),
+// and here the kinds with their limits.
 ghost use mathlib.Core.Path.{_≡_};
 ghost use mathlib.Core.Bool.{not};
 ghost use lib.Dec.{leb};

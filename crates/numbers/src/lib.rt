@@ -79,7 +79,8 @@ fn content_of(
     [0u64; 64]
 }
 
-// The lesser of each number and of what two others make together, for the first `count`. No such sum wraps; were it to, the plan would fail its test.
+// The lesser of each number and of what two others make together, for the first `count`. No such sum wraps; were it to,
+// the plan would fail its test.
 fn lowered(low: [u64; 64], rest: [u64; 64], rows: [u64; 64], count: usize) -> [u64; 64]
     requires { ⌜ count ≤ 64 ⌝ }
 {
@@ -92,7 +93,8 @@ fn lowered(low: [u64; 64], rest: [u64; 64], rows: [u64; 64], count: usize) -> [u
     least
 }
 
-// Entry `e` of a message for each value of the bucket's variable: the least over the pairs of values that the entry stands for.
+// Entry `e` of a message for each value of the bucket's variable:
+// the least over the pairs of values that the entry stands for.
 fn entry_rows(
     s: &[u8],
     sizes: &[u8],

@@ -72,7 +72,8 @@ fn fewest(links: [u32; 24], left: u32, n: usize) -> usize
     best
 }
 
-// Writes the order and the positions: from the last position to the first the variable with the fewest links, whose neighbours are linked then.
+// Writes the order and the positions: from the last position to the first the variable with the fewest links, whose
+// neighbours are linked then.
 pub fn set_order(s: &[u8], n: usize, r: usize, plan: &mut [u32])
     requires { ⌜ n ≤ maxVariables ⌝ }
     ensures { λ _. ⌜ Loose (now (plan .entry)) (now (plan .exit)) ⌝ }

@@ -28,8 +28,12 @@ pub fn find_points(
     room: usize,
     work: &mut [u32],
 ) -> Found
-    requires { ⌜ Setting p r 0 (now sizes) (now s) (now work) × Stands r (now sizes) (now s) (now work) root × (root .len ≡ 0) × All Word (take p ceilings) × (room ≤ maxPoints) × Gains (problemIn p r ceilings (now sizes) (now s) (now work)) (gainsIn p (now work)) ⌝ }
-    ensures { λ f. ⌜ FoundSays p (length (now (sizes .entry))) (frontier (problemIn p r ceilings (now (sizes .entry)) (now (s .entry)) (now (work .entry)))) room (now (work .entry)) (now (work .exit)) f ⌝ }
+    requires { ⌜ Setting p r 0 (now sizes) (now s) (now work) × Stands r (now sizes) (now s) (now work) root
+        × (root .len ≡ 0) × All Word (take p ceilings) × (room ≤ maxPoints)
+        × Gains (problemIn p r ceilings (now sizes) (now s) (now work)) (gainsIn p (now work)) ⌝ }
+    ensures { λ f. ⌜ FoundSays p (length (now (sizes .entry)))
+        (frontier (problemIn p r ceilings (now (sizes .entry)) (now (s .entry)) (now (work .entry))))
+        room (now (work .entry)) (now (work .exit)) f ⌝ }
 {
     let mut k: usize = 0;
     while k < room {
@@ -69,7 +73,9 @@ pub fn find_source(
     work: &mut [u32],
 ) -> Found
     requires { ⌜ Source p r ceilings (now sizes) (now s) (now work) × (room ≤ maxPoints) ⌝ }
-    ensures { λ f. ⌜ FoundSays p (length (now (sizes .entry))) (frontier (sourceProblem p r ceilings (now (sizes .entry)) (now (s .entry)) (now (work .entry)))) room (now (work .entry)) (now (work .exit)) f ⌝ }
+    ensures { λ f. ⌜ FoundSays p (length (now (sizes .entry)))
+        (frontier (sourceProblem p r ceilings (now (sizes .entry)) (now (s .entry)) (now (work .entry))))
+        room (now (work .entry)) (now (work .exit)) f ⌝ }
 {
     suffixes::find_gains(s, sizes, r, p, ceilings, work);
     groups::copy_numbers(groups::SOURCE_AT, groups::RECORDS_AT, r, work);

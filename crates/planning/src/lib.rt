@@ -1,4 +1,5 @@
-// Makes a plan: the search order, the records by position, and the messages. Nothing is promised of it but that no record and no message is lost: crate checking tests it.
+// Makes a plan: the search order, the records by position, and the messages. Nothing is promised of it but that no
+// record and no message is lost: crate checking tests it.
 ghost use mathlib.Core.Path.{_≡_};
 ghost use Prim.Native.Nat.{_≤_, _<_};
 ghost use lib.ListN.{length, take, drop};
@@ -12,7 +13,8 @@ ghost use Rattle.buckets.specs.Content.{Planned};
 ghost use Rattle.directions.specs.Directions.{Sensible};
 ghost use Rattle.arranging.specs.Arranged.{Loose, Arranged};
 
-// How far the plan is made: records and slots that have a part, messages sent, where the next numbers go, and what is left of the bucket's content for each value.
+// How far the plan is made: records and slots that have a part, messages sent, where the next numbers go, and what is
+// left of the bucket's content for each value.
 struct Made {
     records: usize,
     slots: usize,
@@ -31,7 +33,8 @@ fn put_ends(k: usize, records: usize, slots: usize, messages: usize, plan: &mut 
     arranging::put(buckets::MESSAGE_ENDS_AT + k, messages, plan);
 }
 
-// Whether there is a message for one more part of position `k`. Messages are kept back for each position up to it: for two parts and a constant.
+// Whether there is a message for one more part of position `k`. Messages are kept back for each position up to it: for
+// two parts and a constant.
 // A plan without room for a row of zeros has no messages.
 fn may_send(g: usize, k: usize, plan: &[u32]) -> bool
     requires { ⌜ k < maxVariables ⌝ }
@@ -42,7 +45,8 @@ fn may_send(g: usize, k: usize, plan: &[u32]) -> bool
     shapes::at_most(g, buckets::MAX_MESSAGES) + 3 * k + 1 < buckets::MAX_MESSAGES
 }
 
-// Sends the message of the part over the positions of `set`: of the records and slots up to the bucket's ends it has those that it covers.
+// Sends the message of the part over the positions of `set`:
+// of the records and slots up to the bucket's ends it has those that it covers.
 fn send_part(
     s: &[u8],
     sizes: &[u8],
@@ -197,7 +201,8 @@ fn send_constant(
     }
 }
 
-// Position `k` takes the records and the messages that only earlier positions share with it, and sends its own messages.
+// Position `k` takes the records and the messages that only earlier positions share with it,
+// and sends its own messages.
 fn make_bucket(
     s: &[u8],
     sizes: &[u8],
@@ -225,7 +230,8 @@ fn make_bucket(
     }
 }
 
-// The buckets of all positions, from the last to the first. The first numbers are the zeros of messages that are worth nothing.
+// The buckets of all positions, from the last to the first.
+// The first numbers are the zeros of messages that are worth nothing.
 fn make_buckets(s: &[u8], sizes: &[u8], r: usize, d: directions::Directions, plan: &mut [u32])
     requires { ⌜ Planned d r (now sizes) (now s) (now plan) ⌝ }
     ensures { λ _. ⌜ Arranged r (now (plan .entry)) (now (plan .exit)) ⌝ }
@@ -271,7 +277,10 @@ fn end_messages(made: Made, plan: &mut [u32])
 // Makes a plan of `r` records, whose places are its first numbers.
 pub fn make_plan(s: &[u8], sizes: &[u8], r: usize, d: directions::Directions, plan: &mut [u32])
     requires { ⌜ Planned d r (now sizes) (now s) (now plan) × (numbersAt ≤ length (now plan)) ⌝ }
-    ensures { λ _. ⌜ (length (now (plan .exit)) ≡ length (now (plan .entry))) × All (Whole (now (sizes .entry)) (now (s .entry))) (take r (now (plan .exit))) × Rearranged (take r (now (plan .entry))) (take r (now (plan .exit))) × Rearranged (countFrom 0 maxMessages) (take maxMessages (drop childrenAt (now (plan .exit)))) ⌝ }
+    ensures { λ _. ⌜ (length (now (plan .exit)) ≡ length (now (plan .entry)))
+        × All (Whole (now (sizes .entry)) (now (s .entry))) (take r (now (plan .exit)))
+        × Rearranged (take r (now (plan .entry))) (take r (now (plan .exit)))
+        × Rearranged (countFrom 0 maxMessages) (take maxMessages (drop childrenAt (now (plan .exit)))) ⌝ }
 {
     arranging::fill_slots(plan);
     ordering::set_order(s, sizes.len(), r, plan);

@@ -7,7 +7,8 @@ use lib.ListN.{drop, replicate}
 use Rattle.model.specs.Basics.{pick, when}
 use Rattle.model.specs.Limits.{maxVariables, maxObjectives}
 use Rattle.model.specs.Refusals.{Verdict}
-use Rattle.model.specs.Reading.{wordsIn, headVariables, headObjectives, headTables, domainsVerdict, domainsAt, tableNumber, tableObjective, tableArity, tableLength, verdictOf, problemOf}
+use Rattle.model.specs.Reading.{wordsIn, headVariables, headObjectives, headTables, domainsVerdict, domainsAt}
+use Rattle.model.specs.Reading.{tableNumber, tableObjective, tableArity, tableLength, verdictOf, problemOf}
 use Rattle.model.specs.Calls.{padded, answers}
 use Rattle.model.specs.declared.Header as DH
 use Rattle.model.specs.declared.CostRecord as DC
@@ -48,7 +49,13 @@ pub record RecordSays (ds s : List ℕ) (at : ℕ) (r : DC.CostRecord) : Type 0 
 
 -- a reading that refuses: its number, its place and zeros
 abbrev pub refusal : ℕ → ℕ → DG.Reading
-refusal n at = record { number = n; place = at; head = record { variables = 0; objectives = 0; tables = 0; ceilings = replicate maxObjectives 0 }; sizes = replicate maxVariables 0 }
+refusal n at =
+    record {
+      number = n;
+      place = at;
+      head = record { variables = 0; objectives = 0; tables = 0; ceilings = replicate maxObjectives 0 };
+      sizes = replicate maxVariables 0;
+    }
 
 -- the whole: the verdict, and where it does not refuse the header and the domain sizes
 pub record ReadSays (s : List ℕ) (r : DG.Reading) : Type 0 where

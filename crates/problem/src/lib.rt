@@ -5,7 +5,8 @@ ghost use lib.ListN.{length, getD, take, drop};
 ghost use Rattle.model.specs.Basics.{All};
 ghost use Rattle.model.specs.Limits.{maxBytes, maxVariables, maxObjectives, maxArity, shortEnd};
 ghost use Rattle.model.specs.Problems.{DomainSize, InRange, sizeOf, scopeOk};
-ghost use Rattle.model.specs.Reading.{word2, word4, wordsIn, startNumber, headNumber, domainNumber, tableLength, tablesVerdict, placesAt};
+ghost use Rattle.model.specs.Reading.{word2, word4, wordsIn, startNumber, headNumber, domainNumber, tableLength};
+ghost use Rattle.model.specs.Reading.{tablesVerdict, placesAt};
 ghost use Rattle.model.specs.Calls.{padded, over};
 ghost use Rattle.problem.specs.Records.{Whole, AllWhole};
 ghost use Rattle.problem.specs.Says.{HeadSays, DomainsSays, ScanSays, RefusalSays, RecordSays, refusal, ReadSays};
@@ -185,7 +186,8 @@ pub fn scope_ok(s: &[u8], at: usize, arity: usize, n: usize) -> bool
 
 // How many entries a table has whose scope is the `arity` variables at `at`.
 pub fn size_of(s: &[u8], at: usize, arity: usize, sizes: &[u8]) -> usize
-    requires { ⌜ (at + arity ≤ length (now s)) × (arity ≤ maxArity) × InRange (length (now sizes)) (take arity (drop at (now s))) × All DomainSize (now sizes) ⌝ }
+    requires { ⌜ (at + arity ≤ length (now s)) × (arity ≤ maxArity)
+        × InRange (length (now sizes)) (take arity (drop at (now s))) × All DomainSize (now sizes) ⌝ }
     ensures { λ r. ⌜ (r ≡ sizeOf (now (sizes .entry)) (take arity (drop at (now (s .entry))))) × (r ≤ 512) ⌝ }
 {
     let mut size: usize = 1;
@@ -371,8 +373,8 @@ fn next_place(s: &[u8], at: usize, sizes: &[u8]) -> usize
     at + t.length
 }
 
-// "The reader" is document 01's term: a problem's bytes, and its place in them. The functions over it are proved by hand; each
-// takes it apart and leaves the work to a function on a plain slice.
+// "The reader" is document 01's term: a problem's bytes, and its place in them. The functions over it are proved by
+// hand; each takes it apart and leaves the work to a function on a plain slice.
 pub struct Reader<'a> {
     pub bytes: &'a [u8],
     pub at: usize,
@@ -396,7 +398,9 @@ impl<'a> Reader<'a> {
     // The reader behind the accepted cost record at its place.
     pub fn next(self, sizes: &[u8]) -> Reader<'a>
         requires { ⌜ Whole (now sizes) (now (self .bytes)) (self .at) × All DomainSize (now sizes) ⌝ }
-        ensures { λ r. ⌜ (r .bytes ≡ self .entry .bytes) × (r .at ≡ self .entry .at + tableLength (now (sizes .entry)) (drop (self .entry .at) (now (self .entry .bytes)))) ⌝ }
+        ensures { λ r. ⌜ (r .bytes ≡ self .entry .bytes)
+            × (r .at ≡ self .entry .at
+            + tableLength (now (sizes .entry)) (drop (self .entry .at) (now (self .entry .bytes)))) ⌝ }
     {
         let at = next_place(self.bytes, self.at, sizes);
         Reader {
@@ -424,8 +428,10 @@ pub fn place_after(s: &[u8], at: usize, sizes: &[u8]) -> usize
 
 // Writes where each of the `r` accepted cost records from `at` on starts over the front of a buffer.
 pub fn keep_places(s: &[u8], at: usize, r: u32, sizes: &[u8], places: &mut [u32])
-    requires { ⌜ AllWhole r (now sizes) (now s) at × All DomainSize (now sizes) × (r ≤ length (now places)) × (length (now s) ≤ maxBytes) ⌝ }
-    ensures { λ _. ⌜ now (places .exit) ≡ over (placesAt r (now (sizes .entry)) (now (s .entry)) at) (now (places .entry)) ⌝ }
+    requires { ⌜ AllWhole r (now sizes) (now s) at × All DomainSize (now sizes) × (r ≤ length (now places))
+        × (length (now s) ≤ maxBytes) ⌝ }
+    ensures { λ _. ⌜ now (places .exit)
+        ≡ over (placesAt r (now (sizes .entry)) (now (s .entry)) at) (now (places .entry)) ⌝ }
 {
     let count = r as usize;
     let mut here = at;

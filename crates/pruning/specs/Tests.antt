@@ -1,4 +1,5 @@
--- What the tests of a partial choice x say, with its bound b in every direction: whether its completions may be left out.
+-- What the tests of a partial choice x say, with its bound b in every direction:
+-- whether its completions may be left out.
 use mathlib.Core.Path.{_≡_}
 use mathlib.Core.Logic.{_⊎_}
 use mathlib.Core.Bool.{true, false}
@@ -16,14 +17,20 @@ use Rattle.pruning.specs.declared.Run as DR
 abbrev pub zonesOf : List ℕ → List ℕ
 zonesOf work = take zonesEnd work
 
--- the archived point in row i cannot be replaced by a completion: its costs are below the bound somewhere, or its choice is not later
+-- the archived point in row i cannot be replaced by a completion: its costs are below the bound somewhere,
+-- or its choice is not later
 abbrev pub Untied : DD.Directions → ℕ → List ℕ → List ℕ → List ℕ → ℕ → Type 0
-Untied d n work x b i = atMost (take (widthOf d) b) (directionsOf d (costsIn (d .objectives) work i)) ≡ true → earlier (take n x) (valuesIn n work i) ≡ false
+Untied d n work x b i =
+    atMost (take (widthOf d) b) (directionsOf d (costsIn (d .objectives) work i)) ≡ true
+    → earlier (take n x) (valuesIn n work i) ≡ false
 
 -- none of m zones has a corner that is at least the bound
 abbrev pub Unreached : DD.Directions → List ℕ → ℕ → List ℕ → Type 0
-Unreached d zones m b = (i : ℕ) → i < m → atMost (take (widthOf d) b) (directionsOf d (cornerIn (d .objectives) zones i)) ≡ false
+Unreached d zones m b =
+    (i : ℕ) → i < m → atMost (take (widthOf d) b) (directionsOf d (cornerIn (d .objectives) zones i)) ≡ false
 
 -- nothing that is sought is left below it
 abbrev pub Dead : DD.Directions → ℕ → List ℕ → DR.Run → List ℕ → List ℕ → Type 0
-Dead d n work run x b = (run .limit ≤ getD b (leadAt d) 0) ⊎ (Unreached d (zonesOf work) (run .zones) b × ((i : ℕ) → i < run .points → Untied d n work x b i))
+Dead d n work run x b =
+    (run .limit ≤ getD b (leadAt d) 0)
+    ⊎ (Unreached d (zonesOf work) (run .zones) b × ((i : ℕ) → i < run .points → Untied d n work x b i))

@@ -1,4 +1,5 @@
-// The tests by which the second form of the search leaves a partial choice: by the limit, by the zones, and by archived points that could be replaced.
+// The tests by which the second form of the search leaves a partial choice: by the limit, by the zones, and by archived
+// points that could be replaced.
 ghost use mathlib.Core.Path.{_≡_};
 ghost use mathlib.Core.Bool.{false};
 ghost use Prim.Native.Nat.{ℕ, _+_, _<_, _≤_};
@@ -31,7 +32,9 @@ pub fn front_of(b: [u64; 8]) -> [u64; 4]
 // Whether each sum of the bound is at most that of the costs.
 fn is_within(b: [u64; 8], costs: [u64; 4], d: directions::Directions) -> bool
     requires { ⌜ Sensible d × All (λ c. c < sumEnd) (take (d .objectives) costs) ⌝ }
-    ensures { λ r. ⌜ (r ≡ false → (k : ℕ) × (k < d .sums) × (weighted (weightsOf d k) (take (d .objectives) costs) < getD b (d .objectives + k) 0)) ⌝ }
+    ensures { λ r. ⌜ (r ≡ false
+        → (k : ℕ) × (k < d .sums)
+        × (weighted (weightsOf d k) (take (d .objectives) costs) < getD b (d .objectives + k) 0)) ⌝ }
 {
     let p = d.objectives;
     let sums = d.sums;
@@ -98,7 +101,8 @@ pub fn is_alive(
     d: directions::Directions,
     work: &[u32],
 ) -> bool
-    requires { ⌜ Sensible d × (listEnd ≤ length (now work)) × Measured d (zonesOf (now work)) (run .zones) × (run .points ≤ maxPoints + 1) × (n ≤ maxVariables) ⌝ }
+    requires { ⌜ Sensible d × (listEnd ≤ length (now work)) × Measured d (zonesOf (now work)) (run .zones)
+        × (run .points ≤ maxPoints + 1) × (n ≤ maxVariables) ⌝ }
     ensures { λ r. ⌜ (r ≡ false → Dead d n (now (work .entry)) run x b) ⌝ }
 {
     if directions::lead_of(b, d) >= run.limit {

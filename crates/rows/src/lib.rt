@@ -18,7 +18,9 @@ pub const ROW_WIDTH: usize = 28;
 // Writes the first `p` costs and zeros, and the 24 values, to row `k`.
 pub fn store_point(costs: [u64; 4], choice: [u8; 24], p: usize, k: usize, work: &mut [u32])
     requires { ⌜ (listEnd ≤ length (now work)) × (k ≤ maxPoints) × (p ≤ maxObjectives) × All Word (take p costs) ⌝ }
-    ensures { λ _. ⌜ now (work .exit) ≡ take (rowAt k) (now (work .entry)) ++ padded maxObjectives (take p costs) ++ choice ++ drop (rowAt k + 28) (now (work .entry)) ⌝ }
+    ensures { λ _. ⌜ now (work .exit)
+        ≡ take (rowAt k) (now (work .entry)) ++ padded maxObjectives (take p costs) ++ choice
+        ++ drop (rowAt k + 28) (now (work .entry)) ⌝ }
 {
     let at = LIST_AT + ROW_WIDTH * k;
     store_costs(costs, p, at, work);
@@ -28,7 +30,8 @@ pub fn store_point(costs: [u64; 4], choice: [u8; 24], p: usize, k: usize, work: 
 // The costs of a row that starts at `at`.
 fn store_costs(costs: [u64; 4], p: usize, at: usize, work: &mut [u32])
     requires { ⌜ (at + 4 ≤ length (now work)) × (p ≤ maxObjectives) × All Word (take p costs) ⌝ }
-    ensures { λ _. ⌜ now (work .exit) ≡ take at (now (work .entry)) ++ padded maxObjectives (take p costs) ++ drop (at + 4) (now (work .entry)) ⌝ }
+    ensures { λ _. ⌜ now (work .exit)
+        ≡ take at (now (work .entry)) ++ padded maxObjectives (take p costs) ++ drop (at + 4) (now (work .entry)) ⌝ }
 {
     let mut i: usize = 0;
     while i < 4 {
@@ -68,7 +71,8 @@ pub fn costs_at(work: &[u32], at: usize) -> [u64; 4]
 
 // Copies the costs of the first `k` rows out, `p` for each.
 pub fn copy_costs(work: &[u32], k: usize, n: usize, p: usize, costs: &mut [u32])
-    requires { ⌜ (listEnd ≤ length (now work)) × (k ≤ maxPoints) × (p ≤ maxObjectives) × (k * p ≤ length (now costs)) ⌝ }
+    requires { ⌜ (listEnd ≤ length (now work)) × (k ≤ maxPoints) × (p ≤ maxObjectives)
+        × (k * p ≤ length (now costs)) ⌝ }
     ensures { λ _. ⌜ now (costs .exit) ≡ over (flatCosts (listIn p n (now (work .entry)) 0 k)) (now (costs .entry)) ⌝ }
 {
     let mut row: usize = 0;
@@ -81,7 +85,9 @@ pub fn copy_costs(work: &[u32], k: usize, n: usize, p: usize, costs: &mut [u32])
 // Copies `count` numbers of work memory from `at` on to the place `to` of the cost buffer.
 fn copy_numbers(work: &[u32], at: usize, count: usize, costs: &mut [u32], to: usize)
     requires { ⌜ (at + count ≤ length (now work)) × (to + count ≤ length (now costs)) ⌝ }
-    ensures { λ _. ⌜ now (costs .exit) ≡ take to (now (costs .entry)) ++ take count (drop at (now (work .entry))) ++ drop (to + count) (now (costs .entry)) ⌝ }
+    ensures { λ _. ⌜ now (costs .exit)
+        ≡ take to (now (costs .entry)) ++ take count (drop at (now (work .entry)))
+        ++ drop (to + count) (now (costs .entry)) ⌝ }
 {
     let mut i: usize = 0;
     while i < count {
@@ -92,8 +98,10 @@ fn copy_numbers(work: &[u32], at: usize, count: usize, costs: &mut [u32], to: us
 
 // Copies the choices of the first `k` rows out, `n` values for each.
 pub fn copy_choices(work: &[u32], k: usize, n: usize, p: usize, choices: &mut [u8])
-    requires { ⌜ (listEnd ≤ length (now work)) × (k ≤ maxPoints) × (n ≤ maxVariables) × (k * n ≤ length (now choices)) × All (λ t. All Byte (t .choice)) (listIn p n (now work) 0 k) ⌝ }
-    ensures { λ _. ⌜ now (choices .exit) ≡ over (flatChoices (listIn p n (now (work .entry)) 0 k)) (now (choices .entry)) ⌝ }
+    requires { ⌜ (listEnd ≤ length (now work)) × (k ≤ maxPoints) × (n ≤ maxVariables) × (k * n ≤ length (now choices))
+        × All (λ t. All Byte (t .choice)) (listIn p n (now work) 0 k) ⌝ }
+    ensures { λ _. ⌜ now (choices .exit)
+        ≡ over (flatChoices (listIn p n (now (work .entry)) 0 k)) (now (choices .entry)) ⌝ }
 {
     let mut row: usize = 0;
     while row < k {
@@ -104,8 +112,11 @@ pub fn copy_choices(work: &[u32], k: usize, n: usize, p: usize, choices: &mut [u
 
 // Copies `count` values of work memory from `at` on to the place `to` of the choice buffer.
 fn copy_values(work: &[u32], at: usize, count: usize, choices: &mut [u8], to: usize)
-    requires { ⌜ (at + count ≤ length (now work)) × (to + count ≤ length (now choices)) × All Byte (take count (drop at (now work))) ⌝ }
-    ensures { λ _. ⌜ now (choices .exit) ≡ take to (now (choices .entry)) ++ take count (drop at (now (work .entry))) ++ drop (to + count) (now (choices .entry)) ⌝ }
+    requires { ⌜ (at + count ≤ length (now work)) × (to + count ≤ length (now choices))
+        × All Byte (take count (drop at (now work))) ⌝ }
+    ensures { λ _. ⌜ now (choices .exit)
+        ≡ take to (now (choices .entry)) ++ take count (drop at (now (work .entry)))
+        ++ drop (to + count) (now (choices .entry)) ⌝ }
 {
     let mut i: usize = 0;
     while i < count {
@@ -116,7 +127,8 @@ fn copy_values(work: &[u32], at: usize, count: usize, choices: &mut [u8], to: us
 
 // The point in row `row` as a record: its first `p` costs, its first `n` values, and zeros.
 pub fn point_at(work: &[u32], row: usize, n: usize, p: usize) -> model::Point
-    requires { ⌜ (listEnd ≤ length (now work)) × (row < maxPoints) × (n ≤ maxVariables) × (p ≤ maxObjectives) × All Byte (pointIn p n (now work) row .choice) ⌝ }
+    requires { ⌜ (listEnd ≤ length (now work)) × (row < maxPoints) × (n ≤ maxVariables) × (p ≤ maxObjectives)
+        × All Byte (pointIn p n (now work) row .choice) ⌝ }
     ensures { λ r. ⌜ r ≡ recordOf (pointIn p n (now (work .entry)) row) ⌝ }
 {
     let at = LIST_AT + ROW_WIDTH * row;
@@ -130,7 +142,8 @@ pub fn point_at(work: &[u32], row: usize, n: usize, p: usize) -> model::Point
 // Writes the records of the first `k` rows over the start of a list of records. Proved by hand.
 pub fn copy_points(work: &[u32], k: usize, n: usize, p: usize, points: &mut [model::Point])
     requires { ⌜ (k ≤ length (now points)) × RowsHold p n k (now work) ⌝ }
-    ensures { λ _. ⌜ now (points .exit) ≡ over (recordsOf (listIn p n (now (work .entry)) 0 k)) (now (points .entry)) ⌝ }
+    ensures { λ _. ⌜ now (points .exit)
+        ≡ over (recordsOf (listIn p n (now (work .entry)) 0 k)) (now (points .entry)) ⌝ }
 {
     let mut row: usize = 0;
     while row < k {

@@ -28,7 +28,8 @@ abbrev pub tablesIn : ℕ → List ℕ → List ℕ → List ℕ → List Table
 tablesIn r ds s work = tablesOver ds s (placesIn work r)
 
 abbrev pub problemIn : ℕ → ℕ → List ℕ → List ℕ → List ℕ → List ℕ → Problem
-problemIn p r ceilings ds s work = record { objectives = p; ceilings = take p ceilings; domains = ds; tables = tablesIn r ds s work }
+problemIn p r ceilings ds s work =
+    record { objectives = p; ceilings = take p ceilings; domains = ds; tables = tablesIn r ds s work }
 
 -- the prefix of a partial choice
 abbrev pub prefixOf : DP.Partial → List ℕ
@@ -36,7 +37,8 @@ prefixOf x = take (x .len) (x .values)
 
 -- what the test for a hopeless branch computes: the model's `dead`, of any problem with these ceilings
 abbrev pub deadIn : ℕ → ℕ → ℕ → List ℕ → List ℕ → DB.Best → List ℕ → Bool
-deadIn p n k ceilings work best b = not (under b (take p ceilings)) || (matched b (listIn p n work 0 k) || late (heldOf p n best) b)
+deadIn p n k ceilings work best b =
+    not (under b (take p ceilings)) || (matched b (listIn p n work 0 k) || late (heldOf p n best) b)
 
 -- what the variables from j on add to a bound, for p objectives
 abbrev pub gainsIn : ℕ → List ℕ → ℕ → List ℕ
@@ -46,7 +48,8 @@ gainsIn p work j = take p (drop (gainsAt + 4 * j) work)
 abbrev pub ruleOf : Problem → List ℕ → List Point → List ℕ → Held → Bool
 ruleOf q work ps pre h = dead q ps h (sharper q (gainsIn (q .objectives) work) pre)
 
--- memory in which a pass may run: grouped records of p objectives, k listed points, and gains, of which a complete choice has none
+-- memory in which a pass may run: grouped records of p objectives, k listed points, and gains,
+-- of which a complete choice has none
 pub record Setting (p r k : ℕ) (ds s work : List ℕ) : Type 0 where
   pub grouped : Grouped ds s work r
   pub objectives : p ≤ maxObjectives
@@ -71,4 +74,5 @@ abbrev pub opensFrom : Problem → List ℕ → List Point → List ℕ → Held
 opensFrom q work ps pre h = opens q ps (ruleOf q work ps) (drop (length pre) (q .domains)) pre h
 
 abbrev pub triesFrom : Problem → List ℕ → List Point → List ℕ → ℕ → Held → Held
-triesFrom q work ps pre v h = tries (getD (q .domains) (length pre) 0 - v) v (λ a g. opensFrom q work ps (pre ++ (a ∷ [])) g) h
+triesFrom q work ps pre v h =
+    tries (getD (q .domains) (length pre) 0 - v) v (λ a g. opensFrom q work ps (pre ++ (a ∷ [])) g) h

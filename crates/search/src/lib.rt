@@ -10,7 +10,8 @@ ghost use Rattle.model.specs.Search.{matched, pass};
 ghost use Rattle.groups.specs.Layout.{listEnd, searchEnd};
 ghost use Rattle.groups.specs.Groups.{Placed, Grouped};
 ghost use Rattle.rows.specs.Rows.{listIn};
-ghost use Rattle.search.specs.States.{heldOf, problemIn, prefixOf, deadIn, gainsIn, ruleOf, Setting, Stands, Rest, opensFrom, triesFrom};
+ghost use Rattle.search.specs.States.{heldOf, problemIn, prefixOf, deadIn, gainsIn, ruleOf};
+ghost use Rattle.search.specs.States.{Setting, Stands, Rest, opensFrom, triesFrom};
 
 // A partial choice: values of the first `len` variables, and the bound of that prefix.
 pub struct Partial {
@@ -45,7 +46,8 @@ pub fn is_matched(c: [u64; 4], n: usize, work: &[u32], k: usize, p: usize) -> bo
     false
 }
 
-// Whether a branch with this bound is hopeless: over a ceiling, matched by the list, or not earlier than the point held.
+// Whether a branch with this bound is hopeless: over a ceiling, matched by the list,
+// or not earlier than the point held.
 fn is_dead(
     bound: [u64; 4],
     best: Best,
@@ -84,7 +86,8 @@ fn sharper_bound(x: Partial, work: &[u32]) -> [u64; 4]
 
 // What the records that the next variable does not touch add to the bound.
 fn rest_of(x: Partial, s: &[u8], sizes: &[u8], work: &[u32], r: usize) -> [u64; 4]
-    requires { ⌜ Grouped (now sizes) (now s) (now work) r × Stands r (now sizes) (now s) (now work) x × (x .len < length (now sizes)) ⌝ }
+    requires { ⌜ Grouped (now sizes) (now s) (now work) r × Stands r (now sizes) (now s) (now work) x
+        × (x .len < length (now sizes)) ⌝ }
     ensures { λ rest. ⌜ Rest r (now (sizes .entry)) (now (s .entry)) (now (work .entry)) x rest ⌝ }
 {
     let len = x.len;
@@ -110,8 +113,11 @@ impl Partial {
         work: &[u32],
         r: usize,
     ) -> Partial
-        requires { ⌜ Grouped (now sizes) (now s) (now work) r × Stands r (now sizes) (now s) (now work) self × (self .len < length (now sizes)) × (v < getD (now sizes) (self .len) 0) × Rest r (now sizes) (now s) (now work) self rest ⌝ }
-        ensures { λ y. ⌜ Stands r (now (sizes .entry)) (now (s .entry)) (now (work .entry)) y × (y .len ≡ self .len + 1) × (prefixOf y ≡ prefixOf self ++ (v ∷ [])) ⌝ }
+        requires { ⌜ Grouped (now sizes) (now s) (now work) r × Stands r (now sizes) (now s) (now work) self
+            × (self .len < length (now sizes)) × (v < getD (now sizes) (self .len) 0)
+            × Rest r (now sizes) (now s) (now work) self rest ⌝ }
+        ensures { λ y. ⌜ Stands r (now (sizes .entry)) (now (s .entry)) (now (work .entry)) y × (y .len ≡ self .len + 1)
+            × (prefixOf y ≡ prefixOf self ++ (v ∷ [])) ⌝ }
     {
         let len = self.len;
         let mut values = self.values;
@@ -144,7 +150,10 @@ pub fn open_variable(
     ceilings: [u64; 4],
 ) -> Best
     requires { ⌜ Setting p r k (now sizes) (now s) (now work) × Stands r (now sizes) (now s) (now work) x ⌝ }
-    ensures { λ h. ⌜ heldOf p (length (now (sizes .entry))) h ≡ opensFrom (problemIn p r ceilings (now (sizes .entry)) (now (s .entry)) (now (work .entry))) (now (work .entry)) (listIn p (length (now (sizes .entry))) (now (work .entry)) 0 k) (prefixOf x) (heldOf p (length (now (sizes .entry))) best) ⌝ }
+    ensures { λ h. ⌜ heldOf p (length (now (sizes .entry))) h
+        ≡ opensFrom (problemIn p r ceilings (now (sizes .entry)) (now (s .entry)) (now (work .entry)))
+        (now (work .entry)) (listIn p (length (now (sizes .entry))) (now (work .entry)) 0 k) (prefixOf x)
+        (heldOf p (length (now (sizes .entry))) best) ⌝ }
 {
     let bound = x.bound;
     let sharper = sharper_bound(x, work);
@@ -178,8 +187,13 @@ pub fn try_value(
     p: usize,
     ceilings: [u64; 4],
 ) -> Best
-    requires { ⌜ Setting p r k (now sizes) (now s) (now work) × Stands r (now sizes) (now s) (now work) x × (x .len < length (now sizes)) × (v ≤ getD (now sizes) (x .len) 0) × Rest r (now sizes) (now s) (now work) x rest ⌝ }
-    ensures { λ h. ⌜ heldOf p (length (now (sizes .entry))) h ≡ triesFrom (problemIn p r ceilings (now (sizes .entry)) (now (s .entry)) (now (work .entry))) (now (work .entry)) (listIn p (length (now (sizes .entry))) (now (work .entry)) 0 k) (prefixOf x) v (heldOf p (length (now (sizes .entry))) best) ⌝ }
+    requires { ⌜ Setting p r k (now sizes) (now s) (now work) × Stands r (now sizes) (now s) (now work) x
+        × (x .len < length (now sizes)) × (v ≤ getD (now sizes) (x .len) 0)
+        × Rest r (now sizes) (now s) (now work) x rest ⌝ }
+    ensures { λ h. ⌜ heldOf p (length (now (sizes .entry))) h
+        ≡ triesFrom (problemIn p r ceilings (now (sizes .entry)) (now (s .entry)) (now (work .entry)))
+        (now (work .entry)) (listIn p (length (now (sizes .entry))) (now (work .entry)) 0 k) (prefixOf x) v
+        (heldOf p (length (now (sizes .entry))) best) ⌝ }
 {
     let len = x.len;
     if v >= sizes[len] {
@@ -221,8 +235,12 @@ pub fn next_point(
     p: usize,
     ceilings: [u64; 4],
 ) -> Best
-    requires { ⌜ Setting p r k (now sizes) (now s) (now work) × Stands r (now sizes) (now s) (now work) root × (root .len ≡ 0) ⌝ }
-    ensures { λ h. ⌜ heldOf p (length (now (sizes .entry))) h ≡ pass (problemIn p r ceilings (now (sizes .entry)) (now (s .entry)) (now (work .entry))) (ruleOf (problemIn p r ceilings (now (sizes .entry)) (now (s .entry)) (now (work .entry))) (now (work .entry))) (listIn p (length (now (sizes .entry))) (now (work .entry)) 0 k) ⌝ }
+    requires { ⌜ Setting p r k (now sizes) (now s) (now work) × Stands r (now sizes) (now s) (now work) root
+        × (root .len ≡ 0) ⌝ }
+    ensures { λ h. ⌜ heldOf p (length (now (sizes .entry))) h
+        ≡ pass (problemIn p r ceilings (now (sizes .entry)) (now (s .entry)) (now (work .entry)))
+        (ruleOf (problemIn p r ceilings (now (sizes .entry)) (now (s .entry)) (now (work .entry))) (now (work .entry)))
+        (listIn p (length (now (sizes .entry))) (now (work .entry)) 0 k) ⌝ }
 {
     let none = Best {
         found: false,

@@ -90,7 +90,8 @@ fn one_shape(u: usize, v: usize, values: usize, v_values: usize, place: usize) -
     }
 }
 
-// How many numbers there are for messages with variables: those for a constant of each position up to `k` are kept back.
+// How many numbers there are for messages with variables:
+// those for a constant of each position up to `k` are kept back.
 fn room_for(k: usize, at: usize, width: usize, plan: &[u32]) -> usize
     requires { ⌜ (k < maxVariables) × (width ≤ 8) ⌝ }
 {
@@ -102,7 +103,8 @@ fn room_for(k: usize, at: usize, width: usize, plan: &[u32]) -> usize
     room - kept
 }
 
-// Where a message without variables has its numbers: it is worth nothing unless its part is the last one, so that what it holds counts for the next part.
+// Where a message without variables has its numbers: it is worth nothing unless its part is the last one, so that what
+// it holds counts for the next part.
 fn constant_place(is_last: bool, at: usize, width: usize, plan: &[u32]) -> usize {
     if is_last {
         if width <= room_from(at, plan) {
@@ -155,7 +157,8 @@ fn pair_shape(
     constant_shape(u, v, dv, du * dv, place)
 }
 
-// The message of a part over the positions of `set`: over as many variables as there is room for, from the first position on, at `at`; without any at `place`.
+// The message of a part over the positions of `set`: over as many variables as there is room for, from the first
+// position on, at `at`; without any at `place`.
 fn shape_of(
     set: u32,
     width: usize,

@@ -43,9 +43,11 @@ listVerdict s room work = solveVerdict s work (min room maxPoints)
 pub record ListedSays (s : List ℕ) (room : ℕ) (work work′ : List ℕ) (r : DI.Listed) : Type 0 where
   pub number : r .number ≡ listVerdict s room work .number
   pub place : r .place ≡ listVerdict s room work .place
-  pub list : listIn (r .objectives) (r .variables) work′ 0 (r .count) ≡ pick (answers (listVerdict s room work)) (frontier (problemOf s)) []
+  pub list : listIn (r .objectives) (r .variables) work′ 0 (r .count)
+      ≡ pick (answers (listVerdict s room work)) (frontier (problemOf s)) []
   pub fits : r .count ≤ room
   pub hold : RowsHold (r .objectives) (r .variables) (r .count) work′
-  pub left : pick (answers (listVerdict s room work)) (replicate (length work′) 0) work′ ≡ workAfter (listVerdict s room work) work
+  pub left : pick (answers (listVerdict s room work)) (replicate (length work′) 0) work′
+      ≡ workAfter (listVerdict s room work) work
   pub long : length work′ ≡ length work
   pub bytes : All Byte s

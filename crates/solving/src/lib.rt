@@ -1,4 +1,5 @@
-// From the bytes of a problem to its frontier list: in the flat buffers, or in work memory to be copied out; or a refusal.
+// From the bytes of a problem to its frontier list: in the flat buffers, or in work memory to be copied out;
+// or a refusal.
 ghost use mathlib.Core.Path.{_≡_};
 ghost use Prim.Native.Nat.{_≤_};
 ghost use lib.Dec.{eqb};
@@ -31,7 +32,8 @@ fn refused(number: u8, place: u32) -> Answer
     }
 }
 
-// The frontier list of a problem that was read, in work memory; only by the first form of the search where that is asked for.
+// The frontier list of a problem that was read, in work memory;
+// only by the first form of the search where that is asked for.
 fn find_rows(
     problem: &[u8],
     g: problem::Reading,
@@ -69,7 +71,9 @@ pub fn solve_with(
     work: &mut [u32],
     by_passes: bool,
 ) -> Answer
-    ensures { λ r. ⌜ SolveSays (solveOutcome (now (problem .entry)) (now (costs .entry)) (now (choices .entry)) (now (work .entry))) (now (costs .exit)) (now (choices .exit)) (now (work .exit)) r ⌝ }
+    ensures { λ r. ⌜ SolveSays
+        (solveOutcome (now (problem .entry)) (now (costs .entry)) (now (choices .entry)) (now (work .entry)))
+        (now (costs .exit)) (now (choices .exit)) (now (work .exit)) r ⌝ }
 {
     let g = problem::read_problem(problem);
     if g.number != 0 {
@@ -98,7 +102,8 @@ pub fn solve_with(
     }
 }
 
-// A list in work memory: a refusal's number and place, or 0 and 0, the count of points, and how many costs and choices each has.
+// A list in work memory: a refusal's number and place, or 0 and 0, the count of points,
+// and how many costs and choices each has.
 pub struct Listed {
     pub number: u8,
     pub place: u32,
@@ -148,7 +153,9 @@ pub fn list_rows(problem: &[u8], room: usize, work: &mut [u32]) -> Listed
 // The answer of a list in work memory, which is cleared where nothing was refused.
 pub fn settle(found: Listed, work: &mut [u32]) -> Answer
     requires { ⌜ found .count ≤ maxPoints ⌝ }
-    ensures { λ r. ⌜ (r ≡ answerOf found) × (now (work .exit) ≡ pick (eqb (found .number) 0) (replicate (length (now (work .entry))) 0) (now (work .entry))) ⌝ }
+    ensures { λ r. ⌜ (r ≡ answerOf found)
+        × (now (work .exit)
+        ≡ pick (eqb (found .number) 0) (replicate (length (now (work .entry))) 0) (now (work .entry))) ⌝ }
 {
     let answer = Answer {
         number: found.number,

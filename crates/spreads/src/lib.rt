@@ -30,7 +30,8 @@ fn spread_at(s: &[u8], at: usize, sizes: &[u8], ceiling: u64) -> u64
 
 // How far apart the entries of each objective's tables lie, added up; entries from the ceiling on do not count.
 pub fn spreads_of(s: &[u8], sizes: &[u8], r: usize, ceilings: [u64; 4], places: &[u32]) -> [u64; 4]
-    requires { ⌜ All DomainSize (now sizes) × (r ≤ maxTables) × (r ≤ length (now places)) × All (Whole (now sizes) (now s)) (take r (now places)) ⌝ }
+    requires { ⌜ All DomainSize (now sizes) × (r ≤ maxTables) × (r ≤ length (now places))
+        × All (Whole (now sizes) (now s)) (take r (now places)) ⌝ }
 {
     let mut sums = [0u64; 4];
     let mut i: usize = 0;

@@ -1,4 +1,5 @@
--- What finding the gains relies on and ensures. A gain is what the least cost of the last variables is more than the sum of their records' least entries.
+-- What finding the gains relies on and ensures. A gain is what the least cost of the last variables is more than the
+-- sum of their records' least entries.
 use mathlib.Core.Path.{_≡_}
 use mathlib.Core.List.{List}
 use Prim.Native.Nat.{ℕ, _+_, _*_, _≤_, _<_}
@@ -16,7 +17,8 @@ abbrev pub sourceIn : List ℕ → ℕ → List ℕ
 sourceIn work r = take r (drop sourceAt work)
 
 abbrev pub sourceProblem : ℕ → ℕ → List ℕ → List ℕ → List ℕ → List ℕ → Problem
-sourceProblem p r ceilings ds s work = record { objectives = p; ceilings = take p ceilings; domains = ds; tables = tablesOver ds s (sourceIn work r) }
+sourceProblem p r ceilings ds s work =
+    record { objectives = p; ceilings = take p ceilings; domains = ds; tables = tablesOver ds s (sourceIn work r) }
 
 -- r accepted records in work memory, over the domain sizes ds
 pub record Source (p r : ℕ) (ceilings ds s work : List ℕ) : Type 0 where
@@ -32,7 +34,8 @@ pub record Source (p r : ℕ) (ceilings ds s work : List ℕ) : Type 0 where
 abbrev pub gainIn : List ℕ → ℕ → ℕ → ℕ
 gainIn work k o = getD work (gainsAt + 4 * k + o) 0
 
--- every gain is sound; there is none in an objective before o, none in objective o for the variables from k or an earlier one on, and none behind the last variable
+-- every gain is sound; there is none in an objective before o, none in objective o for the variables from k or an
+-- earlier one on, and none behind the last variable
 pub record Found-from (q : Problem) (o k : ℕ) (work : List ℕ) : Type 0 where
   pub sound : (i j : ℕ) → i < q .objectives → j ≤ length (q .domains) → Gain q i j (gainIn work j i)
   pub before : (i j : ℕ) → i < o → j ≤ length (q .domains) → gainIn work j i ≡ 0

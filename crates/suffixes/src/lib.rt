@@ -1,4 +1,5 @@
-// The problems of the last variables, each in one objective: what their least costs add to the bound of a prefix, in work memory.
+// The problems of the last variables, each in one objective: what their least costs add to the bound of a prefix,
+// in work memory.
 ghost use mathlib.Core.Path.{_≡_};
 ghost use mathlib.Core.List.{_++_, _∷_, []};
 ghost use Prim.Native.Nat.{_+_, _-_, _<_, _≤_};
@@ -50,7 +51,8 @@ fn gain_of(best: search::Best, least: u64, o: usize, c: u64) -> u32
     (cost - least) as u32
 }
 
-// The gain of objective `o` and the variables from `k` on, by a search of its own that uses the gains of the variables after `k`.
+// The gain of objective `o` and the variables from `k` on,
+// by a search of its own that uses the gains of the variables after `k`.
 pub fn suffix_gain(
     s: &[u8],
     sizes: &[u8],
@@ -61,8 +63,12 @@ pub fn suffix_gain(
     k: usize,
     work: &mut [u32],
 ) -> u32
-    requires { ⌜ Source p r ceilings (now sizes) (now s) (now work) × Found-from (sourceProblem p r ceilings (now sizes) (now s) (now work)) o k (now work) × (o < p) × (k < length (now sizes)) ⌝ }
-    ensures { λ g. ⌜ Gain (sourceProblem p r ceilings (now (sizes .entry)) (now (s .entry)) (now (work .entry))) o k g × (drop gainsAt (now (work .exit)) ≡ drop gainsAt (now (work .entry))) × (length (now (work .exit)) ≡ length (now (work .entry))) ⌝ }
+    requires { ⌜ Source p r ceilings (now sizes) (now s) (now work)
+        × Found-from (sourceProblem p r ceilings (now sizes) (now s) (now work)) o k (now work) × (o < p)
+        × (k < length (now sizes)) ⌝ }
+    ensures { λ g. ⌜ Gain (sourceProblem p r ceilings (now (sizes .entry)) (now (s .entry)) (now (work .entry))) o k g
+        × (drop gainsAt (now (work .exit)) ≡ drop gainsAt (now (work .entry)))
+        × (length (now (work .exit)) ≡ length (now (work .entry))) ⌝ }
 {
     let n = sizes.len();
     let sides = suffix_sides(k);
@@ -106,8 +112,12 @@ fn objective_gains(
     o: usize,
     work: &mut [u32],
 )
-    requires { ⌜ Source p r ceilings (now sizes) (now s) (now work) × Found-from (sourceProblem p r ceilings (now sizes) (now s) (now work)) o (length (now sizes)) (now work) × (o < p) ⌝ }
-    ensures { λ _. ⌜ Found-from (sourceProblem p r ceilings (now (sizes .entry)) (now (s .entry)) (now (work .entry))) o 0 (now (work .exit)) × Left (now (work .entry)) (now (work .exit)) ⌝ }
+    requires { ⌜ Source p r ceilings (now sizes) (now s) (now work)
+        × Found-from (sourceProblem p r ceilings (now sizes) (now s) (now work)) o (length (now sizes)) (now work)
+        × (o < p) ⌝ }
+    ensures { λ _. ⌜ Found-from (sourceProblem p r ceilings (now (sizes .entry)) (now (s .entry)) (now (work .entry)))
+        o 0 (now (work .exit))
+        × Left (now (work .entry)) (now (work .exit)) ⌝ }
 {
     let mut k = sizes.len();
     while k > 1 {
@@ -120,7 +130,10 @@ fn objective_gains(
 // The gains of all objectives, from the last to the first: a search in one objective needs those before it to be none.
 pub fn find_gains(s: &[u8], sizes: &[u8], r: usize, p: usize, ceilings: [u64; 4], work: &mut [u32])
     requires { ⌜ Source p r ceilings (now sizes) (now s) (now work) ⌝ }
-    ensures { λ _. ⌜ Gains (sourceProblem p r ceilings (now (sizes .entry)) (now (s .entry)) (now (work .entry))) (gainsIn p (now (work .exit))) × (gainsIn maxObjectives (now (work .exit)) (length (now (sizes .entry))) ≡ replicate maxObjectives 0) × Left (now (work .entry)) (now (work .exit)) ⌝ }
+    ensures { λ _. ⌜ Gains (sourceProblem p r ceilings (now (sizes .entry)) (now (s .entry)) (now (work .entry)))
+        (gainsIn p (now (work .exit)))
+        × (gainsIn maxObjectives (now (work .exit)) (length (now (sizes .entry))) ≡ replicate maxObjectives 0)
+        × Left (now (work .entry)) (now (work .exit)) ⌝ }
 {
     clear_gains(work);
     let mut o = p;
@@ -133,7 +146,8 @@ pub fn find_gains(s: &[u8], sizes: &[u8], r: usize, p: usize, ceilings: [u64; 4]
 // Zeros the gains.
 fn clear_gains(work: &mut [u32])
     requires { ⌜ sourceAt ≤ length (now work) ⌝ }
-    ensures { λ _. ⌜ now (work .exit) ≡ take gainsAt (now (work .entry)) ++ replicate (sourceAt - gainsAt) 0 ++ drop sourceAt (now (work .entry)) ⌝ }
+    ensures { λ _. ⌜ now (work .exit)
+        ≡ take gainsAt (now (work .entry)) ++ replicate (sourceAt - gainsAt) 0 ++ drop sourceAt (now (work .entry)) ⌝ }
 {
     let mut at = groups::GAINS_AT;
     while at < groups::SOURCE_AT {

@@ -19,4 +19,6 @@ wantedTable low high k ss t = wanted low high k ss (t .objective) (t .scope)
 -- the places of such records
 unfoldable pub keptPlaces : ℕ → ℕ → ℕ → List ℕ → List ℕ → List ℕ → List ℕ
 keptPlaces low high k ss s [] = []
-keptPlaces low high k ss s (at ∷ places) = keepIf (wanted low high k ss (tableObjective (drop at s)) (tableScope (drop at s))) at (keptPlaces low high k ss s places)
+keptPlaces low high k ss s (at ∷ places) =
+    keepIf (wanted low high k ss (tableObjective (drop at s)) (tableScope (drop at s)))
+    at (keptPlaces low high k ss s places)

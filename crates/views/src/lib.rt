@@ -44,7 +44,8 @@ fn side_at(s: &[u8], at: usize, i: usize, sides: &[u8]) -> u8
 
 // Whether the scope of the record at `at` has a variable of the side.
 pub fn has_side(s: &[u8], at: usize, sides: &[u8], side: u8) -> bool
-    requires { ⌜ (at + 4 + tableArity (drop at (now s)) ≤ length (now s)) × InRange (length (now sides)) (tableScope (drop at (now s))) ⌝ }
+    requires { ⌜ (at + 4 + tableArity (drop at (now s)) ≤ length (now s))
+        × InRange (length (now sides)) (tableScope (drop at (now s))) ⌝ }
     ensures { λ r. ⌜ r ≡ hasSide side (now (sides .entry)) (tableScope (drop at (now (s .entry)))) ⌝ }
 {
     let a = s[at + 3] as usize;
@@ -60,7 +61,8 @@ pub fn has_side(s: &[u8], at: usize, sides: &[u8], side: u8) -> bool
 
 // Whether the scope of the record at `at` lies on the side; one without variables lies on side 0.
 pub fn lies_on(s: &[u8], at: usize, sides: &[u8], side: u8) -> bool
-    requires { ⌜ (at + 4 + tableArity (drop at (now s)) ≤ length (now s)) × InRange (length (now sides)) (tableScope (drop at (now s))) ⌝ }
+    requires { ⌜ (at + 4 + tableArity (drop at (now s)) ≤ length (now s))
+        × InRange (length (now sides)) (tableScope (drop at (now s))) ⌝ }
     ensures { λ r. ⌜ r ≡ within side (now (sides .entry)) (tableScope (drop at (now (s .entry)))) ⌝ }
 {
     let a = s[at + 3] as usize;
@@ -79,8 +81,11 @@ pub fn lies_on(s: &[u8], at: usize, sides: &[u8], side: u8) -> bool
 
 // The first of `r` accepted records from `at` on that has both sides: number 14 and its place, else 0 and 0.
 pub fn first_linked(s: &[u8], at: usize, r: u32, sizes: &[u8], sides: &[u8]) -> problem::Refusal
-    requires { ⌜ AllWhole r (now sizes) (now s) at × All DomainSize (now sizes) × (length (now sides) ≡ length (now sizes)) ⌝ }
-    ensures { λ f. ⌜ RefusalSays (linkedVerdict (now (sides .entry)) (tablesAt r (now (sizes .entry)) (now (s .entry)) at) (placesAt r (now (sizes .entry)) (now (s .entry)) at)) f ⌝ }
+    requires { ⌜ AllWhole r (now sizes) (now s) at × All DomainSize (now sizes)
+        × (length (now sides) ≡ length (now sizes)) ⌝ }
+    ensures { λ f. ⌜ RefusalSays (linkedVerdict (now (sides .entry))
+        (tablesAt r (now (sizes .entry)) (now (s .entry)) at)
+        (placesAt r (now (sizes .entry)) (now (s .entry)) at)) f ⌝ }
 {
     let mut here = at;
     let mut left = r;
@@ -118,8 +123,8 @@ pub fn narrow(sizes: &[u8], sides: &[u8], side: u8) -> [u8; 24]
     sizes_of
 }
 
-// Of `r` records whose places stand in work memory from `from` on, writes the places of the wanted ones from `to` on: those of objectives `low` to
-// below `high` whose scope lies on the side. Answers how many.
+// Of `r` records whose places stand in work memory from `from` on, writes the places of the wanted ones from `to` on:
+// those of objectives `low` to below `high` whose scope lies on the side. Answers how many.
 pub fn keep_records(
     s: &[u8],
     sizes: &[u8],
@@ -132,8 +137,15 @@ pub fn keep_records(
     to: usize,
     work: &mut [u32],
 ) -> usize
-    requires { ⌜ All (Whole (now sizes) (now s)) (take r (drop from (now work))) × (length (now sides) ≡ length (now sizes)) × (r ≤ maxTables) × (from + r ≤ length (now work)) × (to + r ≤ length (now work)) × ((from + r ≤ to) ⊎ (to + r ≤ from)) ⌝ }
-    ensures { λ c. ⌜ (c ≡ length (keptPlaces low high side (now (sides .entry)) (now (s .entry)) (take r (drop from (now (work .entry)))))) × (now (work .exit) ≡ take to (now (work .entry)) ++ keptPlaces low high side (now (sides .entry)) (now (s .entry)) (take r (drop from (now (work .entry)))) ++ drop (to + c) (now (work .entry))) ⌝ }
+    requires { ⌜ All (Whole (now sizes) (now s)) (take r (drop from (now work)))
+        × (length (now sides) ≡ length (now sizes)) × (r ≤ maxTables) × (from + r ≤ length (now work))
+        × (to + r ≤ length (now work)) × ((from + r ≤ to) ⊎ (to + r ≤ from)) ⌝ }
+    ensures { λ c. ⌜ (c ≡ length
+        (keptPlaces low high side (now (sides .entry)) (now (s .entry)) (take r (drop from (now (work .entry))))))
+        × (now (work .exit)
+        ≡ take to (now (work .entry))
+        ++ keptPlaces low high side (now (sides .entry)) (now (s .entry)) (take r (drop from (now (work .entry))))
+        ++ drop (to + c) (now (work .entry))) ⌝ }
 {
     let mut count: usize = 0;
     let mut i: usize = 0;
@@ -150,8 +162,10 @@ pub fn keep_records(
 
 // Whether the record at `at` belongs to an objective from `low` on and below `high`, and lies on the side.
 fn is_wanted(s: &[u8], at: usize, sides: &[u8], side: u8, low: u8, high: u8) -> bool
-    requires { ⌜ (at + 4 + tableArity (drop at (now s)) ≤ length (now s)) × InRange (length (now sides)) (tableScope (drop at (now s))) ⌝ }
-    ensures { λ r. ⌜ r ≡ wanted low high side (now (sides .entry)) (tableObjective (drop at (now (s .entry)))) (tableScope (drop at (now (s .entry)))) ⌝ }
+    requires { ⌜ (at + 4 + tableArity (drop at (now s)) ≤ length (now s))
+        × InRange (length (now sides)) (tableScope (drop at (now s))) ⌝ }
+    ensures { λ r. ⌜ r ≡ wanted low high side (now (sides .entry)) (tableObjective (drop at (now (s .entry))))
+        (tableScope (drop at (now (s .entry)))) ⌝ }
 {
     let o = s[at + 2];
     if o < low {

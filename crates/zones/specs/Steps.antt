@@ -28,13 +28,16 @@ abbrev pub Held : ℕ → List ℕ → ℕ → ℕ → List ℕ → Type 0
 Held p zones m free t = (k : ℕ) × (k < m) × (k ≡ free → ⊥) × (atMost t (cornerIn p zones k) ≡ true)
 
 -- a part of the zone with the corner t, below z in objective j, is taken in
-pub record PartAdded (d : DD.Directions) (t z : List ℕ) (j : ℕ) (zones : List ℕ) (s : DP.Places) (zones′ : List ℕ) (s′ : DP.Places) : Type 0 where
+pub record PartAdded (d : DD.Directions) (t z : List ℕ) (j : ℕ)
+    (zones : List ℕ) (s : DP.Places) (zones′ : List ℕ) (s′ : DP.Places)
+    : Type 0 where
   pub measured : Measured d zones′ (s′ .count)
   pub long : length zones′ ≡ length zones
   pub inside : s′ .free ≤ s′ .count
   pub least : s .count ≤ s′ .count
   pub most : (n : ℕ) → s .free < n → s .count ≤ n → (s′ .free < n + 1) × (s′ .count ≤ n + 1)
-  pub kept : (u : List ℕ) → Held (d .objectives) zones (s .count) (s .free) u → Held (d .objectives) zones′ (s′ .count) (s′ .free) u
+  pub kept : (u : List ℕ) → Held (d .objectives) zones (s .count) (s .free) u
+      → Held (d .objectives) zones′ (s′ .count) (s′ .free) u
   pub part : 1 ≤ getD z j 0 → Held (d .objectives) zones′ (s′ .count) (s′ .free) (below t z j)
 
 -- no row is free any more, and there are m zones

@@ -1,4 +1,5 @@
--- The zones in memory: rows of eight numbers, a corner's costs and its sums. A number that does not fit 32 bits counts as the greatest that does.
+-- The zones in memory: rows of eight numbers, a corner's costs and its sums. A number that does not fit 32 bits counts
+-- as the greatest that does.
 use mathlib.Core.Path.{_≡_}
 use mathlib.Core.Logic.{_⊎_}
 use mathlib.Core.Bool.{true}
@@ -38,7 +39,8 @@ clamped x = pick (ltb x wordEnd) x (wordEnd - 1)
 pub record Measured (d : DD.Directions) (zones : List ℕ) (m : ℕ) : Type 0 where
   pub few : m ≤ maxZones
   pub long : zonesEnd ≤ length zones
-  pub numbers : (i j : ℕ) → i < m → j < widthOf d → getD zones (zoneWidth * i + j) 0 ≡ clamped (getD (directionsOf d (cornerIn (d .objectives) zones i)) j 0)
+  pub numbers : (i j : ℕ) → i < m → j < widthOf d
+      → getD zones (zoneWidth * i + j) 0 ≡ clamped (getD (directionsOf d (cornerIn (d .objectives) zones i)) j 0)
 
 -- zones split at z: each goes on whole, or by its parts below z (the model's zones-split asks for this)
 abbrev pub SplitAt : ℕ → List ℕ → List (List ℕ) → List (List ℕ) → Type 0

@@ -1,4 +1,5 @@
-// Zones of the second form of the search: upper corners under which new vectors may lie, in rows of memory of their own.
+// Zones of the second form of the search: upper corners under which new vectors may lie,
+// in rows of memory of their own.
 ghost use mathlib.Core.Path.{_≡_};
 ghost use mathlib.Core.Bool.{true, false};
 ghost use Prim.Native.Nat.{ℕ, _+_, _-_, _<_, _≤_};
@@ -9,7 +10,8 @@ ghost use Rattle.model.specs.Problems.{Word};
 ghost use Rattle.model.specs.Vectors.{atMost};
 ghost use Rattle.model.specs.Archive.{lowered};
 ghost use Rattle.directions.specs.Directions.{maxDirections, directionsOf, widthOf, Sensible};
-ghost use Rattle.zones.specs.Zones.{maxZones, zoneWidth, zonesEnd, cornerIn, cornersIn, clamped, Measured, SplitAt, FirstZone};
+ghost use Rattle.zones.specs.Zones.{maxZones, zoneWidth, zonesEnd, cornerIn, cornersIn, clamped};
+ghost use Rattle.zones.specs.Zones.{Measured, SplitAt, FirstZone};
 ghost use Rattle.zones.specs.Steps.{Written, Held, PartAdded, Closed, ZonesSplit};
 
 pub const MAX_ZONES: usize = 128;
@@ -32,10 +34,12 @@ fn clamp(x: u64) -> u32
     4294967295
 }
 
-// The first `width` numbers of a bound, clamped, and zeros, than which no number of a row is smaller. Always so many rounds, so that all stay in registers.
+// The first `width` numbers of a bound, clamped, and zeros, than which no number of a row is smaller. Always so many
+// rounds, so that all stay in registers.
 fn clamp_bound(b: [u64; 8], width: usize) -> [u32; 8]
     requires { ⌜ width ≤ maxDirections ⌝ }
-    ensures { λ r. ⌜ ((j : ℕ) → j < width → getD r j 0 ≡ clamped (getD b j 0)) × ((j : ℕ) → width ≤ j → getD r j 0 ≡ 0) ⌝ }
+    ensures { λ r. ⌜ ((j : ℕ) → j < width → getD r j 0 ≡ clamped (getD b j 0))
+        × ((j : ℕ) → width ≤ j → getD r j 0 ≡ 0) ⌝ }
 {
     let mut least = [0u32; 8];
     let mut i: usize = 0;
@@ -67,7 +71,8 @@ fn is_under(least: [u32; 8], at: usize, zones: &[u32]) -> bool
 // Whether a vector with this bound, in every direction, may lie in one of `m` zones.
 pub fn is_reached(b: [u64; 8], m: usize, d: directions::Directions, zones: &[u32]) -> bool
     requires { ⌜ Sensible d × Measured d (now zones) m ⌝ }
-    ensures { λ r. ⌜ (r ≡ false → (i : ℕ) → i < m → atMost (take (widthOf d) b) (directionsOf d (cornerIn (d .objectives) (now (zones .entry)) i)) ≡ false) ⌝ }
+    ensures { λ r. ⌜ (r ≡ false → (i : ℕ) → i < m
+        → atMost (take (widthOf d) b) (directionsOf d (cornerIn (d .objectives) (now (zones .entry)) i)) ≡ false) ⌝ }
 {
     let least = clamp_bound(b, d.objectives + d.sums);
     let mut i: usize = 0;
@@ -90,7 +95,8 @@ fn corner_at(i: usize, zones: &[u32]) -> [u64; 4]
 
 // Writes the first costs of `corner`, in every direction, to row `i`.
 fn put_zone(i: usize, corner: [u64; 4], d: directions::Directions, zones: &mut [u32])
-    requires { ⌜ Sensible d × (zonesEnd ≤ length (now zones)) × (i < maxZones) × All Word (take (d .objectives) corner) ⌝ }
+    requires { ⌜ Sensible d × (zonesEnd ≤ length (now zones)) × (i < maxZones)
+        × All Word (take (d .objectives) corner) ⌝ }
     ensures { λ _. ⌜ Written d (now (zones .entry)) i (take (d .objectives) corner) (now (zones .exit)) ⌝ }
 {
     let all = directions::directions_of(corner, d);
@@ -114,7 +120,8 @@ fn is_part_of(t: [u64; 4], z: [u64; 4], k: usize, p: usize, zones: &[u32]) -> bo
     vectors::is_at_most(t, corner, p)
 }
 
-// Whether one of `m` zones that `z` does not match has all of the zone with the corner `t`; that in the row `free` does not count.
+// Whether one of `m` zones that `z` does not match has all of the zone with the corner `t`;
+// that in the row `free` does not count.
 fn is_held(t: [u64; 4], z: [u64; 4], free: usize, m: usize, p: usize, zones: &[u32]) -> bool
     requires { ⌜ (zonesEnd ≤ length (now zones)) × (m ≤ maxZones) × (p ≤ maxObjectives) ⌝ }
     ensures { λ r. ⌜ (r ≡ true → Held p (now (zones .entry)) m free (take p t)) ⌝ }
@@ -131,7 +138,8 @@ fn is_held(t: [u64; 4], z: [u64; 4], free: usize, m: usize, p: usize, zones: &[u
     false
 }
 
-// Writes the part of the zone with the corner `t` that is below `z` in objective `j` to the free row, unless it is empty or another zone has it.
+// Writes the part of the zone with the corner `t` that is below `z` in objective `j` to the free row, unless it is
+// empty or another zone has it.
 fn add_part(
     t: [u64; 4],
     z: [u64; 4],
@@ -140,8 +148,10 @@ fn add_part(
     d: directions::Directions,
     zones: &mut [u32],
 ) -> Places
-    requires { ⌜ Sensible d × Measured d (now zones) (s .count) × (s .free ≤ s .count) × (s .free < maxZones) × (j < d .objectives) × All Word (take (d .objectives) t) × All Word (take (d .objectives) z) ⌝ }
-    ensures { λ s′. ⌜ PartAdded d (take (d .objectives) t) (take (d .objectives) z) j (now (zones .entry)) s (now (zones .exit)) s′ ⌝ }
+    requires { ⌜ Sensible d × Measured d (now zones) (s .count) × (s .free ≤ s .count) × (s .free < maxZones)
+        × (j < d .objectives) × All Word (take (d .objectives) t) × All Word (take (d .objectives) z) ⌝ }
+    ensures { λ s′. ⌜ PartAdded d (take (d .objectives) t) (take (d .objectives) z) j (now (zones .entry)) s
+        (now (zones .exit)) s′ ⌝ }
 {
     if z[j] == 0 {
         return s;
@@ -178,7 +188,8 @@ fn close_row(s: Places, d: directions::Directions, zones: &mut [u32]) -> usize
     count - 1
 }
 
-// Where `z` matches zone `i` of `m` and there is place, its parts below `z` take its place; how many zones there are then.
+// Where `z` matches zone `i` of `m` and there is place, its parts below `z` take its place;
+// how many zones there are then.
 fn split_zone(
     z: [u64; 4],
     i: usize,
@@ -187,7 +198,8 @@ fn split_zone(
     zones: &mut [u32],
 ) -> usize
     requires { ⌜ Sensible d × Measured d (now zones) m × (i < m) × All Word (take (d .objectives) z) ⌝ }
-    ensures { λ m′. ⌜ ZonesSplit d (take (d .objectives) z) (now (zones .entry)) m (now (zones .exit)) m′ × (m ≤ m′ + 1) ⌝ }
+    ensures { λ m′. ⌜ ZonesSplit d (take (d .objectives) z) (now (zones .entry)) m (now (zones .exit)) m′
+        × (m ≤ m′ + 1) ⌝ }
 {
     let p = d.objectives;
     let t = corner_at(i, zones);
@@ -209,7 +221,9 @@ fn split_zone(
 // Takes what `z` matches out of `m` zones, as far as there is place; how many there are then.
 pub fn split_zones(z: [u64; 4], m: usize, d: directions::Directions, zones: &mut [u32]) -> usize
     requires { ⌜ Sensible d × Measured d (now zones) m × All Word (take (d .objectives) z) ⌝ }
-    ensures { λ m′. ⌜ Measured d (now (zones .exit)) m′ × (length (now (zones .exit)) ≡ length (now (zones .entry))) × SplitAt (d .objectives) (take (d .objectives) z) (cornersIn (d .objectives) (now (zones .entry)) 0 m) (cornersIn (d .objectives) (now (zones .exit)) 0 m′) ⌝ }
+    ensures { λ m′. ⌜ Measured d (now (zones .exit)) m′ × (length (now (zones .exit)) ≡ length (now (zones .entry)))
+        × SplitAt (d .objectives) (take (d .objectives) z) (cornersIn (d .objectives) (now (zones .entry)) 0 m)
+        (cornersIn (d .objectives) (now (zones .exit)) 0 m′) ⌝ }
 {
     let mut count = m;
     let mut i = m;
@@ -260,7 +274,8 @@ fn lower(ceilings: [u64; 4]) -> [u64; 4]
 // The zone of all that is under the ceilings, as the only one; none where a ceiling is 0.
 pub fn first_zone(ceilings: [u64; 4], d: directions::Directions, zones: &mut [u32]) -> usize
     requires { ⌜ Sensible d × All Word (take (d .objectives) ceilings) × (zonesEnd ≤ length (now zones)) ⌝ }
-    ensures { λ m. ⌜ Measured d (now (zones .exit)) m × (length (now (zones .exit)) ≡ length (now (zones .entry))) × FirstZone (d .objectives) ceilings (now (zones .exit)) m ⌝ }
+    ensures { λ m. ⌜ Measured d (now (zones .exit)) m × (length (now (zones .exit)) ≡ length (now (zones .entry)))
+        × FirstZone (d .objectives) ceilings (now (zones .exit)) m ⌝ }
 {
     let p = d.objectives;
     if find_zero(ceilings, p) < p {
