@@ -19,7 +19,7 @@ use Rattle.model.specs.Costs.{total, totalsFrom}
 use Rattle.model.specs.Archive.{weighted}
 use Rattle.model.proofs.Bits.{test, pick-both}
 use Rattle.model.proofs.Elements.{all-at, all-take}
-use Rattle.search.proofs.FourTotals.{take-totals}
+use Rattle.model.proofs.Totals.{take-totals}
 use Rattle.archive.specs.Changes.{maxWeight}
 use Rattle.directions.specs.Directions.{maxSums, weightsOf, sumsFrom, directionsOf}
 use Rattle.directions.specs.declared.Directions as DD

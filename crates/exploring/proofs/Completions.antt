@@ -15,7 +15,7 @@ use Rattle.model.proofs.Bits.{test, true-false}
 use Rattle.model.proofs.Vectors.{AtMost, NotLater, same-true, same-eq, at-most-earlier, not-earlier, not-later-trans}
 use Rattle.model.proofs.Choices.{choice-length}
 use Rattle.groups.specs.Groups.{tablesOver}
-use Rattle.suffixes.specs.Gained.{sourceIn}
+use Rattle.groups.specs.Sources.{sourceIn}
 use Rattle.directions.specs.Directions.{maxDirections, directionsOf, widthOf, leadAt, Sensible}
 use Rattle.directions.specs.declared.Directions as DD
 use Rattle.directions.proofs.AtMostAt.{at-most-each}

@@ -19,7 +19,7 @@ use Rattle.model.proofs.Archive.{archived-wide}
 use Rattle.model.proofs.Zones.{zones-follow}
 use Rattle.groups.specs.Groups.{tablesOver}
 use Rattle.rows.specs.Rows.{listIn}
-use Rattle.suffixes.specs.Gained.{sourceIn}
+use Rattle.groups.specs.Sources.{sourceIn}
 use Rattle.archive.specs.declared.Taken as DT
 use Rattle.archive.specs.Says.{Meets, Takes}
 use Rattle.directions.specs.Directions.{maxDirections, directionsOf, widthOf, leadWeights, leadAt, Sensible}

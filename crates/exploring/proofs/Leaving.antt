@@ -18,7 +18,7 @@ use Rattle.model.proofs.Zones.{dead-covered}
 use Rattle.rows.specs.Rows.{costsIn, valuesIn}
 use Rattle.rows.proofs.RowParts.{values-long}
 use Rattle.rows.proofs.RowPlaces.{listed-row}
-use Rattle.suffixes.specs.Gained.{sourceIn}
+use Rattle.groups.specs.Sources.{sourceIn}
 use Rattle.directions.specs.Directions.{maxDirections, directionsOf, widthOf, leadWeights, leadAt}
 use Rattle.directions.specs.declared.Directions as DD
 use Rattle.directions.proofs.DirectionLaws.{directions-mono, directions-lead}

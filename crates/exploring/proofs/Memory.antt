@@ -12,7 +12,7 @@ use Rattle.groups.specs.Layout.{sourceAt, listAt, listEnd}
 use Rattle.groups.specs.Groups.{tablesOver}
 use Rattle.groups.proofs.Overwritten.{take-drop}
 use Rattle.rows.specs.Rows.{rowAt, costsIn, pointIn, listIn, Framed}
-use Rattle.suffixes.specs.Gained.{sourceIn}
+use Rattle.groups.specs.Sources.{sourceIn}
 use Rattle.directions.specs.declared.Directions as DD
 use Rattle.zones.specs.Zones.{zonesEnd}
 use Rattle.buckets.specs.Content.{Planned}

@@ -17,4 +17,7 @@ pub record ZonesWritten (d : DD.Directions) (work work′ : List ℕ) (m : ℕ) 
 
 -- the zones of memory hold what the first c archived points leave, whatever the limit
 abbrev pub ZonesHold : DD.Directions → ℕ → List ℕ → List ℕ → List ℕ → ℕ → Type 0
-ZonesHold d c ceilings rows work m = (n limit : ℕ) (ws : List ℕ) → Zoned (d .objectives) (take (d .objectives) ceilings) ws (listIn (d .objectives) n rows 0 c) limit (cornersIn (d .objectives) (zonesOf work) 0 m)
+ZonesHold d c ceilings rows work m =
+    (n limit : ℕ) (ws : List ℕ)
+    → Zoned (d .objectives) (take (d .objectives) ceilings) ws (listIn (d .objectives) n rows 0 c) limit
+    (cornersIn (d .objectives) (zonesOf work) 0 m)

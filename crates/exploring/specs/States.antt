@@ -1,4 +1,5 @@
--- What the second form of the search relies on and ensures. Work memory: zones, the places of the problem's records, the archive, and the plan.
+-- What the second form of the search relies on and ensures. Work memory: zones, the places of the problem's records, the
+-- archive, and the plan.
 use mathlib.Core.Path.{_≡_}
 use mathlib.Core.Bool.{true, false, not}
 use mathlib.Core.List.{List}
@@ -13,7 +14,7 @@ use Rattle.model.specs.Frontiers.{Point, Reached}
 use Rattle.model.specs.Archive.{Covered, Archived, Distinct, Follows, Zoned}
 use Rattle.groups.specs.Layout.{listEnd}
 use Rattle.rows.specs.Rows.{listIn}
-use Rattle.suffixes.specs.Gained.{sourceIn, sourceProblem}
+use Rattle.groups.specs.Sources.{sourceIn, sourceProblem}
 use Rattle.directions.specs.Directions.{directionEnd, widthOf, leadWeights}
 use Rattle.directions.specs.declared.Directions as DD
 use Rattle.zones.specs.Zones.{cornersIn, Measured}
@@ -56,9 +57,11 @@ pub record Running (q : Problem) (d : DD.Directions) (room n : ℕ) (work : List
   pub archived : Archived q (leadWeights d) (archiveIn d n work run) (run .limit)
   pub distinct : Distinct (archiveIn d n work run)
   pub measured : Measured d (zonesOf work) (run .zones)
-  pub zoned : Zoned (q .objectives) (q .ceilings) (leadWeights d) (archiveIn d n work run) (run .limit) (cornersIn (d .objectives) (zonesOf work) 0 (run .zones))
+  pub zoned : Zoned (q .objectives) (q .ceilings) (leadWeights d) (archiveIn d n work run) (run .limit)
+      (cornersIn (d .objectives) (zonesOf work) 0 (run .zones))
 
--- a partial choice: values at the first k positions, 0 at the others, and its bound in every direction, which does not wrap when more is added
+-- a partial choice: values at the first k positions, 0 at the others, and its bound in every direction, which does not
+-- wrap when more is added
 pub record Partial (d : DD.Directions) (r : ℕ) (ds s plan : List ℕ) (k : ℕ) (x acc : List ℕ) : Type 0 where
   pub short : k ≤ length ds
   pub choice : isChoice ds x ≡ true
@@ -86,7 +89,8 @@ pub record Still (r : ℕ) (work work′ : List ℕ) : Type 0 where
 
 -- every consistent choice that a test lets through is covered
 abbrev pub AllCovered : Problem → DD.Directions → (List ℕ → Type 0) → List Point → ℕ → Type 0
-AllCovered q d among archive limit = (y : Point) → Reached q y → among (y .choice) → Covered (leadWeights d) archive limit y
+AllCovered q d among archive limit =
+    (y : Point) → Reached q y → among (y .choice) → Covered (leadWeights d) archive limit y
 
 -- what opening a partial choice ensures: the completions are covered, and what was covered stays so
 pub record Opened
@@ -109,7 +113,8 @@ abbrev pub OpenedFrom :
 OpenedFrom d r room ceilings ds s node work run work′ run′ =
     Opened (problemOf d r ceilings ds s work) d r room (length ds) (planIn work) node work run work′ run′
 
--- between passes: an archive of so many points; the limit that it had is of no more interest, so that it is stated with none
+-- between passes: an archive of so many points; the limit that it had is of no more interest, so that it is stated with
+-- none
 pub record Between (q : Problem) (d : DD.Directions) (room n : ℕ) (work : List ℕ) (points : ℕ) : Type 0 where
   pub few : points ≤ room + 1
   pub archived : Archived q (leadWeights d) (listIn (d .objectives) n work 0 points) noLimit

@@ -1,4 +1,4 @@
-// The second form of the search: passes of branch and bound over a plan, into an archive, until one has left nothing out.
+// The second form of the search: passes of branch and bound over a plan, into an archive, until one leaves nothing out.
 ghost use mathlib.Core.Path.{_≡_};
 ghost use mathlib.Core.List.{List};
 ghost use Prim.Native.Nat.{ℕ, _+_, _<_, _≤_};
@@ -102,8 +102,11 @@ fn take_leaf(
 
 // Takes what the first `c` archived points match out of `m` zones; how many there are then.
 fn split_all(c: usize, m: usize, d: directions::Directions, work: &mut [u32]) -> usize
-    requires { ⌜ Sensible d × (listEnd ≤ length (now work)) × (c ≤ maxPoints + 1) × Measured d (zonesOf (now work)) m ⌝ }
-    ensures { λ t. ⌜ ZonesWritten d (now (work .entry)) (now (work .exit)) t × ((ceilings : List ℕ) → ZonesHold d c ceilings (now (work .entry)) (now (work .entry)) m → ZonesHold d c ceilings (now (work .entry)) (now (work .exit)) t) ⌝ }
+    requires { ⌜ Sensible d × (listEnd ≤ length (now work)) × (c ≤ maxPoints + 1)
+        × Measured d (zonesOf (now work)) m ⌝ }
+    ensures { λ t. ⌜ ZonesWritten d (now (work .entry)) (now (work .exit)) t
+        × ((ceilings : List ℕ) → ZonesHold d c ceilings (now (work .entry)) (now (work .entry)) m
+        → ZonesHold d c ceilings (now (work .entry)) (now (work .exit)) t) ⌝ }
 {
     let mut zones = m;
     let mut i: usize = 0;
@@ -115,10 +118,12 @@ fn split_all(c: usize, m: usize, d: directions::Directions, work: &mut [u32]) ->
     zones
 }
 
-// The zones at the start of a pass: all that is under the ceilings and that no archived point matches. How many there are.
+// The zones at the start of a pass: all that is under the ceilings and that no archived point matches. How many there
+// are.
 fn start_zones(c: usize, ceilings: [u64; 4], d: directions::Directions, work: &mut [u32]) -> usize
     requires { ⌜ Sensible d × (listEnd ≤ length (now work)) × (c ≤ maxPoints + 1) × All Word ceilings ⌝ }
-    ensures { λ m. ⌜ ZonesWritten d (now (work .entry)) (now (work .exit)) m × ZonesHold d c ceilings (now (work .entry)) (now (work .exit)) m ⌝ }
+    ensures { λ m. ⌜ ZonesWritten d (now (work .entry)) (now (work .exit)) m
+        × ZonesHold d c ceilings (now (work .entry)) (now (work .exit)) m ⌝ }
 {
     let m = zones::first_zone(ceilings, d, &mut work[..pruning::ZONES_END]);
     split_all(c, m, d, work)
@@ -201,8 +206,11 @@ fn run_pass(
     d: directions::Directions,
     work: &mut [u32],
 ) -> pruning::Run
-    requires { ⌜ Ready d r room ceilings (now sizes) (now s) (now work) × Between (problemOf d r ceilings (now sizes) (now s) (now work)) d room (length (now sizes)) (now work) points ⌝ }
-    ensures { λ t. ⌜ Passed (problemOf d r ceilings (now (sizes .entry)) (now (s .entry)) (now (work .entry))) d r room (length (now (sizes .entry))) (now (work .entry)) (now (work .exit)) t ⌝ }
+    requires { ⌜ Ready d r room ceilings (now sizes) (now s) (now work)
+        × Between (problemOf d r ceilings (now sizes) (now s) (now work)) d room (length (now sizes))
+        (now work) points ⌝ }
+    ensures { λ t. ⌜ Passed (problemOf d r ceilings (now (sizes .entry)) (now (s .entry)) (now (work .entry)))
+        d r room (length (now (sizes .entry))) (now (work .entry)) (now (work .exit)) t ⌝ }
 {
     let m = start_zones(points, ceilings, d, work);
     let bound = branching::root_bound(s, sizes, r, d, &work[PLAN_AT..]);
@@ -230,7 +238,9 @@ pub fn explore(
     work: &mut [u32],
 ) -> Explored
     requires { ⌜ Ready d r room ceilings (now sizes) (now s) (now work) ⌝ }
-    ensures { λ e. ⌜ ExploredSays (d .objectives) (length (now (sizes .entry))) (frontier (problemOf d r ceilings (now (sizes .entry)) (now (s .entry)) (now (work .entry)))) room r (now (work .entry)) (now (work .exit)) e ⌝ }
+    ensures { λ e. ⌜ ExploredSays (d .objectives) (length (now (sizes .entry)))
+        (frontier (problemOf d r ceilings (now (sizes .entry)) (now (s .entry)) (now (work .entry))))
+        room r (now (work .entry)) (now (work .exit)) e ⌝ }
 {
     let mut points: usize = 0;
     let mut pass: usize = 0;

@@ -1,6 +1,6 @@
 -- What the public calls promise, for Rattle and for C alike: number, place, count and half sizes are those of the
--- model's definition of the call, and so is every element of the lent buffers on exit. A slice of bytes has bytes by its
--- type; the promise says so, because demand 1 is about byte strings.
+-- model's definition of the call, and so is every element of the lent buffers on exit. A slice of bytes has bytes by
+-- its type; the promise says so, because demand 1 is about byte strings.
 use mathlib.Core.Path.{_≡_}
 use mathlib.Core.List.{List, [], _∷_}
 use Prim.Native.Nat.{ℕ}

@@ -12,7 +12,7 @@ use Rattle.model.specs.Frontiers.{Point, frontier}
 use Rattle.model.proofs.Bits.{true-false}
 use Rattle.problem.specs.Records.{Whole}
 use Rattle.groups.specs.Layout.{sourceAt}
-use Rattle.suffixes.specs.Gained.{Source, sourceProblem}
+use Rattle.groups.specs.Sources.{Source, sourceProblem}
 use Rattle.passes.specs.Says.{FoundSays}
 use Rattle.passes.specs.declared.Found as DF
 use Rattle.passes.proofs.Since.{says-since}

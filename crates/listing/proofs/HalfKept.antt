@@ -19,7 +19,7 @@ use Rattle.views.specs.Wanted.{wantedTable, keptPlaces}
 use Rattle.views.proofs.Narrowing.{narrowed-length, narrowed-small}
 use Rattle.views.proofs.KeptPlaces.{kept-count, kept-whole, kept-tables}
 use Rattle.views.proofs.KeptTables.{wanted-view}
-use Rattle.suffixes.specs.Gained.{sourceIn, sourceProblem, Source}
+use Rattle.groups.specs.Sources.{sourceIn, sourceProblem, Source}
 use Rattle.listing.specs.Says.{problemAt, Accepted}
 use Rattle.passes.specs.Says.{FoundSays}
 use Rattle.passes.specs.declared.Found as DF

@@ -14,7 +14,7 @@ use Rattle.problem.specs.Records.{Whole, AllWhole}
 use Rattle.groups.specs.Layout.{sourceAt}
 use Rattle.groups.specs.Groups.{tablesOver}
 use Rattle.groups.proofs.Overwritten.{over, over-length, over-here}
-use Rattle.suffixes.specs.Gained.{sourceProblem, Source}
+use Rattle.groups.specs.Sources.{sourceProblem, Source}
 use Rattle.listing.specs.Says.{problemAt, Accepted}
 use Rattle.passes.specs.Says.{FoundSays}
 use Rattle.passes.specs.declared.Found as DF

@@ -10,7 +10,7 @@ use Rattle.model.specs.Basics.{All}
 use Rattle.problem.specs.Records.{Whole}
 use Rattle.groups.specs.Layout.{sourceAt, listEnd}
 use Rattle.groups.proofs.Overwritten.{over, take-drop, over-length, over-part, over-here}
-use Rattle.suffixes.specs.Gained.{sourceIn}
+use Rattle.groups.specs.Sources.{sourceIn}
 use Rattle.directions.specs.Directions.{Sensible}
 use Rattle.directions.specs.declared.Directions as DD
 use Rattle.buckets.specs.Places.{maxMessages, childrenAt, numbersAt}

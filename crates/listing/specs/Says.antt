@@ -13,7 +13,7 @@ use Rattle.model.specs.Frontiers.{Point}
 use Rattle.problem.specs.Records.{Whole, AllWhole}
 use Rattle.groups.specs.Layout.{searchEnd}
 use Rattle.rows.specs.Rows.{listIn}
-use Rattle.suffixes.specs.Gained.{sourceIn}
+use Rattle.groups.specs.Sources.{sourceIn}
 use Rattle.directions.specs.declared.Directions as DD
 use Rattle.buckets.specs.Content.{Planned}
 use Rattle.buckets.specs.Sound.{Sound}

@@ -6,7 +6,7 @@ ghost use lib.ListN.{length};
 ghost use Rattle.model.specs.Limits.{maxPoints};
 ghost use Rattle.model.specs.Frontiers.{frontier};
 ghost use Rattle.model.specs.Views.{view};
-ghost use Rattle.suffixes.specs.Gained.{Source, sourceProblem};
+ghost use Rattle.groups.specs.Sources.{Source, sourceProblem};
 ghost use Rattle.passes.specs.Says.{FoundSays};
 ghost use Rattle.directions.specs.Directions.{Sensible};
 ghost use Rattle.listing.specs.Says.{problemAt, Accepted, Plannable, Kept, PlanSays, SecondSays};

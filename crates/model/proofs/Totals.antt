@@ -6,7 +6,7 @@ use Prim.Native.Nat.{ℕ, zero, suc, _+_, _-_, _*_, _≤_, _<_}
 use native.Mathlib.Omega.{arith}
 use native.Mathlib.Nat.{suc-mul, sub-zero, suc-sub-suc}
 use lib.Dec.{eqb}
-use lib.ListN.{length, replicate}
+use lib.ListN.{length, take, replicate}
 use borrow.Author.Tests.{eqb-true, ne-eqb}
 use Rattle.model.specs.Basics.{when, All}
 use Rattle.model.specs.Problems.{Table, Problem}
@@ -56,6 +56,14 @@ totals-from-length : (p o : ℕ) (f : Table → ℕ) (ts : List Table) → lengt
 unfolding totalsFrom
 totals-from-length zero o f ts = refl
 totals-from-length (suc p) o f ts = ap suc (totals-from-length p (suc o) f ts)
+
+-- of the sums of n objectives the first p
+module _ (f : Table → ℕ) (ts : List Table) where
+  pub take-totals : (p n o : ℕ) → p ≤ n → take p (totalsFrom n o f ts) ≡ totalsFrom p o f ts
+  unfolding totalsFrom
+  take-totals zero n o l = refl
+  take-totals (suc p) zero o l = absurd (omega arith)
+  take-totals (suc p) (suc n) o l = ap (_∷_ (total o f ts)) (take-totals p n (suc o) (omega arith))
 
 pub totals-length : (q : Problem) (f : Table → ℕ) → length (totals q f) ≡ q .objectives
 unfolding totals

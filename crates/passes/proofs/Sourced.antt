@@ -14,7 +14,8 @@ use Rattle.groups.specs.Layout.{recordsAt, gainsAt, sourceAt}
 use Rattle.groups.specs.Groups.{placesIn, Placed, Grouped}
 use Rattle.groups.proofs.Overwritten.{over, over-length, over-behind, over-here}
 use Rattle.search.specs.States.{problemIn, gainsIn, Setting}
-use Rattle.suffixes.specs.Gained.{sourceIn, sourceProblem, Source, Left}
+use Rattle.groups.specs.Sources.{sourceIn, sourceProblem, Source}
+use Rattle.suffixes.specs.Gained.{Left}
 use Rattle.passes.specs.Says.{FoundSays}
 use Rattle.passes.specs.declared.Found as DF
 use Rattle.passes.proofs.Since.{drop-more, says-since}

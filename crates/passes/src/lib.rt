@@ -8,7 +8,7 @@ ghost use Rattle.model.specs.Problems.{Word};
 ghost use Rattle.model.specs.Frontiers.{frontier};
 ghost use Rattle.model.specs.Suffixes.{Gains};
 ghost use Rattle.search.specs.States.{problemIn, gainsIn, Setting, Stands};
-ghost use Rattle.suffixes.specs.Gained.{Source, sourceProblem};
+ghost use Rattle.groups.specs.Sources.{Source, sourceProblem};
 ghost use Rattle.passes.specs.Says.{FoundSays};
 
 // Whether the list is longer than the room, and else how many points it has.

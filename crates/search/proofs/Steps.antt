@@ -21,7 +21,8 @@ use Rattle.search.specs.States.{heldOf, tablesIn, problemIn, prefixOf, d
 use Rattle.search.specs.declared.Partial as DP
 use Rattle.search.specs.declared.Best as DB
 use Rattle.vectors.proofs.Fours.{take-added}
-use Rattle.search.proofs.FourTotals.{take-totals, added-zero}
+use Rattle.model.proofs.Totals.{take-totals}
+use Rattle.search.proofs.FourTotals.{added-zero}
 use Rattle.search.proofs.Partials.{Standing, prefix-length}
 use Rattle.search.proofs.Opening.{Unchanged, opens-leaf, opens-tries, opens-dead, tries-end, tries-next}
 

@@ -11,7 +11,8 @@ use Rattle.model.specs.Suffixes.{Gain, Gains}
 use Rattle.groups.specs.Layout.{gainsAt, sourceAt, searchEnd}
 use Rattle.groups.proofs.Overwritten.{over}
 use Rattle.search.specs.States.{gainsIn}
-use Rattle.suffixes.specs.Gained.{sourceProblem, Source, Found-from, Left}
+use Rattle.groups.specs.Sources.{sourceProblem, Source}
+use Rattle.suffixes.specs.Gained.{Found-from, Left}
 use Rattle.suffixes.proofs.GainRows.{gainsCount, drop-later, found-same, cleared-found, cleared-left, written-found, found-gains, found-last}
 
 left-both : (was work then : List ℕ) → Left was work → Left work then → Left was then

@@ -33,7 +33,8 @@ use Rattle.views.specs.Wanted.{keptPlaces}
 use Rattle.views.proofs.Narrowing.{narrowed-length, narrowed-small}
 use Rattle.views.proofs.KeptPlaces.{kept-count, kept-whole, kept-tables}
 use Rattle.views.proofs.KeptTables.{wanted-suffix}
-use Rattle.suffixes.specs.Gained.{sourceIn, sourceProblem, Source, Found-from}
+use Rattle.groups.specs.Sources.{sourceIn, sourceProblem, Source}
+use Rattle.suffixes.specs.Gained.{Found-from}
 use Rattle.suffixes.proofs.GainRows.{row-at, row-width, drop-later, found-same, found-last}
 
 -- the records of objective o over the variables from k on, by the side list ss, over the domain sizes that it leaves: `count` of r, their places written

@@ -9,7 +9,8 @@ ghost use Rattle.model.specs.Limits.{maxObjectives, maxVariables, wordEnd};
 ghost use Rattle.model.specs.Suffixes.{suffixSides, Gain, Gains};
 ghost use Rattle.groups.specs.Layout.{gainsAt, sourceAt};
 ghost use Rattle.search.specs.States.{gainsIn};
-ghost use Rattle.suffixes.specs.Gained.{sourceProblem, Source, Found-from, Left};
+ghost use Rattle.groups.specs.Sources.{sourceProblem, Source};
+ghost use Rattle.suffixes.specs.Gained.{Found-from, Left};
 
 // The variables from `k` on as side 1.
 fn suffix_sides(k: usize) -> [u8; 24]

@@ -4,7 +4,8 @@ use Prim.Native.Nat.{_-_, _≤_}
 use native.Mathlib.Omega.{arith}
 use lib.ListN.{length}
 use denote.Ref.{now}
-use Rattle.suffixes.specs.Gained.{sourceProblem, Source, Found-from, Left}
+use Rattle.groups.specs.Sources.{sourceProblem, Source}
+use Rattle.suffixes.specs.Gained.{Found-from, Left}
 use Rattle.suffixes.proofs.GainRows.{found-next}
 use Rattle.suffixes.proofs.FindSteps.{found-asks, objective-next, objectives-end, objectives-start}
 use Rattle.suffixes.proofs.find_gains.Statement.{statement}

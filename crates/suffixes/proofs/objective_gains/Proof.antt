@@ -3,7 +3,8 @@ use mathlib.Core.Path.{_≡_, refl}
 use Prim.Native.Nat.{_-_, _≤_}
 use native.Mathlib.Omega.{arith}
 use lib.ListN.{length}
-use Rattle.suffixes.specs.Gained.{sourceProblem, Found-from, Left}
+use Rattle.groups.specs.Sources.{sourceProblem}
+use Rattle.suffixes.specs.Gained.{Found-from, Left}
 use Rattle.suffixes.proofs.FindSteps.{found-asks, search-next}
 use Rattle.suffixes.proofs.objective_gains.Statement.{statement}
 use Rattle.suffixes.proofs.objective_gains.Tie as tie
