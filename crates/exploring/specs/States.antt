@@ -1,5 +1,5 @@
--- What the second form of the search relies on and ensures. Work memory: zones, the places of the problem's records, the
--- archive, and the plan.
+-- What the second form of the search relies on and ensures. Work memory: zones, the places of the problem's records,
+-- the archive, and the plan.
 use mathlib.Core.Path.{_≡_}
 use mathlib.Core.Bool.{true, false, not}
 use mathlib.Core.List.{List}
