@@ -18,14 +18,14 @@ use Rattle.buckets.specs.Places.{numbersAt, orderIn}
 use Rattle.buckets.specs.Content.{Planned}
 use Rattle.buckets.specs.Sound.{Tested}
 use Rattle.exploring.specs.States.{planIn, Partial}
-use Rattle.branching.specs.Rows.{Holding, Bucket, Away}
+use Rattle.branching.specs.Rows.{Holding, nextBound, Bucket, Away}
 use Rattle.directions.proofs.Widths.{lead-inside, width-few}
 use Rattle.exploring.proofs.Nodes.{choice-long, bound-long, withNext, Extends, extends, is-leaf}
 use Rattle.exploring.proofs.Memory.{lent-plan}
 use Rattle.exploring.proofs.Leaving.{opened-same, dead-covers}
 use Rattle.exploring.proofs.Leaf.{leaf-standing}
 use Rattle.exploring.proofs.Opening.{variable-inside, next-holding, next-exact, next-partial}
-use Rattle.exploring.proofs.Trying.{Trying, untried, tried-fewer}
+use Rattle.exploring.proofs.Trying.{leadWith, Trying, untried, tried-fewer}
 use Rattle.exploring.proofs.Trying.{trying-start, trying-standing, trying-next, trying-end}
 use borrow.Fn.Kinds.{In}
 use borrow.Fn.PlainCycle.{Measures, is, falls, and}
@@ -114,7 +114,7 @@ module _ (t : ℕ) where
   abbrev Begun : Type 0
   Begun = open-lts.Start (open-calls t) (open-position-at t) open-position.Post Inv-loop μ-loop
 
-  -- with its memory
+  -- and what the types of its slices say
   abbrev Known : Type 0
   Known = open-lts.After-slice-known (open-calls t) (open-position-at t) open-position.Post Inv-loop μ-loop
 
@@ -259,9 +259,6 @@ module _ (t : ℕ) where
     abbrev v : ℕ
     v = c .variable-at .result
 
-    some-left : begun c .args .node .depth < length (ds (begun c))
-    some-left = inside (inner c)
-
     is-variable : v ≡ next-variable (begun c)
     is-variable = rw (same-plan (begun c)) at (c .variable-at .ensures)
 
@@ -269,7 +266,7 @@ module _ (t : ℕ) where
     variable-below =
         let h = begun c .pre .1 in
         subst (λ (u : ℕ). u < length (ds (begun c))) (sym is-variable)
-        (variable-inside (h .ready .sound) (h .partial) some-left)
+        (variable-inside (h .ready .sound) (h .partial) (inside (inner c)))
 
     size : DomainSize (getD (ds (begun c)) v 0)
     size = all-below DomainSize (ds (begun c)) (begun c .pre .1 .ready .planned .small) v 0 variable-below
@@ -304,7 +301,19 @@ module _ (t : ℕ) where
         Holding (widthOf (entry .args .d)) (entry .args .node .bound) away rows a
     holding a l =
         let h = entry .pre .1 in
-        next-holding (h .ready .sound) (h .partial) (some-left (naming c)) rows away bucket sends a (value-below a l)
+        let i = inside (inner (naming c)) in
+        next-holding (h .ready .sound) (h .partial) i rows away bucket sends a (value-below a l)
+
+    lead-is :
+        (a : ℕ) → a < getD (ds entry) (next-variable entry) 0 →
+        nextBound (entry .args .node .bound) away rows a (leadAt (entry .args .d))
+        ≡ leadWith (entry .args .d) (entry .args .r) (ds entry) (now (entry .args .s)) (plan entry)
+        (entry .args .node) a
+    lead-is a l =
+        let h = entry .pre .1 in
+        let i = inside (inner (naming c)) in
+        let lead = lead-inside (entry .args .d) (h .ready .planned .sensible) in
+        next-exact (h .ready .sound) (h .partial) i rows away bucket sends a l (leadAt (entry .args .d)) lead
 
   value-few : (c : Looping) → c .loop .a < maxDomain
   value-few c = omega (arith, c .loop .inv .0, size (naming (sending c)))
@@ -327,7 +336,7 @@ module _ (t : ℕ) where
         let byte = known (inner (naming w)) .before .before .shared-slice-known .given in
         let bytes : (at : ℕ) → getD (now (origin .args .s)) at 0 < byteEnd = λ at. omega (arith, byte at) in
         let below = value-below w a (turn c .loop .inv .0) in
-        next-partial (h .ready .sound) (h .partial) (some-left (naming w)) (rows w) (away w) (bucket w) (sends w)
+        next-partial (h .ready .sound) (h .partial) (inside (inner (naming w))) (rows w) (away w) (bucket w) (sends w)
         (h .ready .planned) bytes a below (c .row-of .result) (c .row-of .ensures)
 
   next-extends :
@@ -411,7 +420,7 @@ module _ (t : ℕ) where
   open-position-bucket-at-requires c κs =
       let n = named (c .before .before .before) in
       let b = begun n in
-      (planned b, tested b, long-plan b, some-left n, variable-below n, b .pre .1 .partial .choice)
+      (planned b, tested b, long-plan b, inside (inner n), variable-below n, b .pre .1 .partial .choice)
 
   open-position-array-share-prefix-x-2 :
       open-lts.Need-array-share-prefix-x-2 (open-calls t) (open-position-at t) open-position.Post Inv-loop μ-loop
@@ -438,7 +447,7 @@ module _ (t : ℕ) where
   open-position-away-at-requires c κs =
       let n = named (sized (c .before .before .before)) in
       let b = begun n in
-      (planned b, tested b, long-plan b, some-left n)
+      (planned b, tested b, long-plan b, inside (inner n))
 
   open-position-leads-of-requires :
       open-lts.Need-leads-of-requires (open-calls t) (open-position-at t) open-position.Post Inv-loop μ-loop
@@ -455,15 +464,10 @@ module _ (t : ℕ) where
   open-position-loop-holds c =
       let leads = c .before .before in
       let w = sent leads in
-      let h = entry w .pre .1 in
-      let d = entry w .args .d in
-      let n = naming w in
-      let lead = lead-inside d (h .ready .planned .sensible) in
-      let exact = next-exact (h .ready .sound) (h .partial) (some-left n) (rows w) (away w) (bucket w) (sends w) in
       let read = leads .leads-of .ensures in
       let least = c .least-value .ensures in
-      let all = trying-start h (leads .leads-of .result) (read .0) in
-      (least .0, least .1, all (λ a l. read .1 a (rw (← is-variable n) at l) ∙ exact a l (leadAt d) lead))
+      let all = trying-start (entry w .pre .1) (leads .leads-of .result) (read .0) in
+      (least .0, least .1, all (λ a l. read .1 a (rw (← is-variable (naming w)) at l) ∙ lead-is w a l))
 
   open-position-mul-if2 :
       open-lts.Need-mul-if2 (open-calls t) (open-position-at t) open-position.Post Inv-loop μ-loop
@@ -492,7 +496,7 @@ module _ (t : ℕ) where
   open-position-with-requires c κs =
       let n = naming (sending (turn c)) in
       let few = begun n .pre .1 .ready .planned .variables in
-      (omega (arith, some-left n, few), omega (arith, variable-below n, few), value-few (turn c))
+      (omega (arith, inside (inner n), few), omega (arith, variable-below n, few), value-few (turn c))
 
   open-position-try-choice-requires :
       open-lts.Need-try-choice-requires (open-calls t) (open-position-at t) open-position.Post Inv-loop μ-loop
@@ -503,7 +507,7 @@ module _ (t : ℕ) where
       let b = origin r in
       let e = next-extends g in
       let next = trying-standing (b .pre .1) (w .inv .2) (w .a) (r .row-of .result) (g .with .result) e (next-is r) in
-      (omega (arith, e .deeper, some-left (naming (sending (turn r))), b .pre .0), next)
+      (omega (arith, e .deeper, inside (inner (naming (sending (turn r)))), b .pre .0), next)
 
   open-position-mul-leads :
       open-lts.Need-mul-leads (open-calls t) (open-position-at t) open-position.Post Inv-loop μ-loop
@@ -548,7 +552,7 @@ module _ (t : ℕ) where
   open-position-returns-2 c =
       let w = c .before .before in
       let n = naming (sending w) in
-      trying-end (begun n .pre .1) (w .loop .inv .2) (some-left n) (w .loop .a)
+      trying-end (begun n .pre .1) (w .loop .inv .2) (inside (inner n)) (w .loop .a)
       (λ u l. w .loop .inv .1 u (rw (← is-variable n) at l)) (c .if2 .left)
 
   -- ## try_choice
