@@ -1,2 +1,1 @@
 -- The law of the choice of zeros.
-pub mod Zeros

@@ -14,6 +14,7 @@ use Rattle.model.specs.Limits.{maxTables, byteEnd}
 use Rattle.model.specs.Costs.{isChoice, costOf}
 use Rattle.model.proofs.Bits.{test}
 use Rattle.model.proofs.Choices.{choice-length}
+use Rattle.model.proofs.Totals.{totals-from-length}
 use Rattle.groups.specs.Groups.{tablesOver}
 use Rattle.directions.specs.Directions.{directionsOf, widthOf, directionEnd}
 use Rattle.directions.specs.declared.Directions as DD
@@ -23,7 +24,7 @@ use Rattle.buckets.specs.Messages.{sumOver, countFrom, messageAt, sentOv
 use Rattle.buckets.specs.Bounds.{costsOver, recordsOver, contentAt, sentAt, baseAt, boundAt, Agree}
 use Rattle.buckets.specs.Sound.{ReadsBefore, ScopeBefore, Tested, Sound}
 use Rattle.buckets.specs.Content.{Planned}
-use Rattle.buckets.proofs.Sums.{placesOver-all, childrenOver-all, sent-split, received-split, totals-length}
+use Rattle.buckets.proofs.Sums.{placesOver-all, childrenOver-all, sent-split, received-split}
 use Rattle.buckets.proofs.Rearranging.{rearranged-costs}
 use Rattle.buckets.proofs.Reading.{sent-reads, content-reads, records-split}
 use Rattle.buckets.proofs.CostLimits.{costs-small}
@@ -172,5 +173,5 @@ module _ {d : DD.Directions} {r : ℕ} {ds s source plan : List ℕ} (w : Sound 
   bound-limit p bytes k l =
       let places = take r plan in
       let few : length places ≤ maxTables = omega (arith, p .few, length-take r plan) in
-      let small = directions-limit d (costsOver d ds s places y) (p .sensible) (costs-small ds s y bytes (d .objectives) 0 places few) (totals-length (d .objectives) 0 (costOf ds y) (tablesOver ds s places)) j in
+      let small = directions-limit d (costsOver d ds s places y) (p .sensible) (costs-small ds s y bytes (d .objectives) 0 places few) (totals-from-length (d .objectives) 0 (costOf ds y) (tablesOver ds s places)) j in
       omega (arith, bound-rises d r ds s plan y j k (length ds) l, rw (← whole-exact) at small)

@@ -1,5 +1,4 @@
 -- Sums of costs over few records stay below 2^40: each entry is a number of four bytes.
-use mathlib.Core.Path.{_≡_, refl, ap}
 use mathlib.Core.List.{List, [], _∷_}
 use Prim.Native.Nat.{ℕ, zero, suc, _+_, _≤_, _<_}
 use native.Mathlib.Omega.{arith}
@@ -14,11 +13,7 @@ use Rattle.model.proofs.Elements.{all-at, all-each, all-drop}
 use Rattle.model.proofs.Words.{words-below}
 use Rattle.model.proofs.Totals.{total-limit}
 use Rattle.groups.specs.Groups.{tablesOver}
-
-length-over : (ds s places : List ℕ) → length (tablesOver ds s places) ≡ length places
-unfolding tablesOver
-length-over ds s [] = refl
-length-over ds s (at ∷ places) = ap suc (length-over ds s places)
+use Rattle.groups.proofs.PlacedRecords.{tables-count}
 
 module _ (ds s y : List ℕ) (bytes : All Byte s) where
   cost-word : (at : ℕ) → costOf ds y (tableOf ds (drop at s)) < wordEnd
@@ -36,7 +31,7 @@ module _ (ds s y : List ℕ) (bytes : All Byte s) where
   all-words (at ∷ places) = (cost-word at, all-words places)
 
   total-small : (o : ℕ) (places : List ℕ) → length places ≤ maxTables → total o (costOf ds y) (tablesOver ds s places) < sumEnd
-  total-small o places few = omega (arith, total-limit o wordEnd (costOf ds y) (tablesOver ds s places) (all-words places), length-over ds s places)
+  total-small o places few = omega (arith, total-limit o wordEnd (costOf ds y) (tablesOver ds s places) (all-words places), tables-count ds s places)
 
   totals-small : (p o : ℕ) (places : List ℕ) → length places ≤ maxTables → All (λ c. c < sumEnd) (totalsFrom p o (costOf ds y) (tablesOver ds s places))
   unfolding totalsFrom

@@ -20,6 +20,7 @@ use Rattle.model.specs.Archive.{weighted}
 use Rattle.model.proofs.Bits.{test, pick-both}
 use Rattle.model.proofs.Elements.{all-at, all-take}
 use Rattle.model.proofs.Totals.{take-totals}
+use Rattle.model.proofs.Zeros.{zeros-at}
 use Rattle.archive.specs.Changes.{maxWeight}
 use Rattle.directions.specs.Directions.{maxSums, weightsOf, sumsFrom, directionsOf}
 use Rattle.directions.specs.declared.Directions as DD
@@ -57,12 +58,7 @@ weight-times ws small i t = mul-le-mul-right t (all-at (λ w. w ≤ maxWeight) w
 pub counted-small : (o p cost x : ℕ) → x ≡ when (ltb o p) cost → cost < sumEnd → x < sumEnd
 counted-small o p cost x e h = rw e (pick-both (λ n. n < sumEnd) (ltb o p) h (omega arith))
 
--- zeros, and zeros behind a list
-pub zeros-at : (n j : ℕ) → _≡_ {A = ℕ} (getD (replicate n 0) j 0) 0
-zeros-at zero j = refl
-zeros-at (suc n) zero = refl
-zeros-at (suc n) (suc j) = zeros-at n j
-
+-- zeros behind a list
 behind-zeros : (xs : List ℕ) (n j : ℕ) → getD (xs ++ replicate n 0) j 0 ≡ getD xs j 0
 behind-zeros [] n j = zeros-at n j
 behind-zeros (x ∷ xs) n zero = refl

@@ -57,7 +57,7 @@ module _ {w : ℕ} {plan : List ℕ} {first last v size : ℕ} {x before : List 
         small = λ a j k l. omega (arith, u .behind, u .small a j k l, next a j k l, words (messageStart w plan (getD plan (childrenAt + i) 0) (set x v a) + j));
       }
 
-count-next : (i to : ℕ) → i < to → countFrom i (to - i) ≡ i ∷ countFrom (i + 1) (to - (i + 1))
+pub count-next : (i to : ℕ) → i < to → countFrom i (to - i) ≡ i ∷ countFrom (i + 1) (to - (i + 1))
 unfolding countFrom
 count-next i to h =
     let k : to - i ≡ suc (to - (i + 1)) = omega arith in

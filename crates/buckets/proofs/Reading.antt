@@ -12,6 +12,7 @@ use Rattle.model.specs.Reading.{tableScope, tableOf}
 use Rattle.model.specs.Costs.{costOf, total}
 use Rattle.model.proofs.Elements.{all-map}
 use Rattle.model.proofs.LeastEntry.{entry-same}
+use Rattle.model.proofs.Totals.{totals-from-length}
 use Rattle.groups.specs.Groups.{tablesOver}
 use Rattle.directions.specs.Directions.{directionsOf, widthOf}
 use Rattle.directions.specs.declared.Directions as DD
@@ -19,7 +20,7 @@ use Rattle.directions.proofs.DirectionLaws.{directions-added}
 use Rattle.buckets.specs.Places.{fieldIn}
 use Rattle.buckets.specs.Messages.{countFrom, messageAt, sentOver, childrenOver, receivedOver}
 use Rattle.buckets.specs.Bounds.{placesOver, costsOver, recordsOver, contentOver}
-use Rattle.buckets.proofs.Sums.{sumOver-equal, placesOver-split, received-split, shareOf, total-over, totals-same, totals-append, totals-length}
+use Rattle.buckets.proofs.Sums.{sumOver-equal, placesOver-split, received-split, shareOf, total-over, totals-same, totals-append}
 
 -- message g reads only variables that have the property P: a variable with stride 0 is not read
 abbrev pub Reads : (ℕ → Type 0) → List ℕ → ℕ → Type 0
@@ -69,7 +70,7 @@ module _ (d : DD.Directions) (ds s plan : List ℕ) (from to to′ : ℕ) (g : f
   records-split =
       let f = costOf ds y in
       let p = d .objectives in
-      let long : (places : List ℕ) → length (costsOver d ds s places y) ≡ p = λ places. totals-length p 0 f (tablesOver ds s places) in
+      let long : (places : List ℕ) → length (costsOver d ds s places y) ≡ p = λ places. totals-from-length p 0 f (tablesOver ds s places) in
       let before = placesOver plan from to in
       let behind = placesOver plan to to′ in
       rw (placesOver-split plan from to to′ g h, totals-append ds s p 0 f before behind, directions-added d (costsOver d ds s before y) (costsOver d ds s behind y) (long before) (long behind) j) refl

@@ -5,7 +5,7 @@ use Prim.Native.Nat.{ℕ, zero, suc, _+_, _-_, _≤_}
 use native.Mathlib.Nat.{zero-add, add-zero, suc-add}
 use native.Mathlib.Omega.{arith}
 use lib.Dec.{eqb}
-use lib.ListN.{length, take, drop}
+use lib.ListN.{take, drop}
 use lib.Seq.{take-add, take-take, drop-drop}
 use Rattle.model.specs.Basics.{when, All}
 use Rattle.model.specs.Problems.{Table}
@@ -94,8 +94,3 @@ module _ (ds s : List ℕ) where
   unfolding totalsFrom added
   totals-append zero o f xs ys = refl
   totals-append (suc p) o f xs ys = ap₂ _∷_ (total-append o f xs ys) (totals-append p (suc o) f xs ys)
-
-pub totals-length : (p o : ℕ) (f : Table → ℕ) (ts : List Table) → length (totalsFrom p o f ts) ≡ p
-unfolding totalsFrom
-totals-length zero o f ts = refl
-totals-length (suc p) o f ts = ap suc (totals-length p (suc o) f ts)

@@ -1,16 +1,17 @@
 -- Marks: no variable at first, then one more at a time; what reads marked variables reads those that the marks stand for.
-use mathlib.Core.Path.{_≡_, refl, sym, _∙_}
+use mathlib.Core.Path.{_≡_, sym, _∙_}
 use mathlib.Core.Logic.{_⊎_, inl, inr, ⊎-elim}
 use mathlib.Core.List.{List}
-use Prim.Native.Nat.{ℕ, zero, suc, _≤_}
+use Prim.Native.Nat.{ℕ, _≤_}
 use native.Mathlib.Omega.{arith}
 use lib.Dec.{eqb}
-use lib.ListN.{getD, set, drop, replicate}
+use lib.ListN.{set, drop, replicate}
 use lib.Seq.{getD-set-other}
 use borrow.Author.Tests.{eqb-true, eqb-false}
 use Rattle.model.specs.Reading.{tableScope}
 use Rattle.model.proofs.Elements.{all-map, all-append}
 use Rattle.model.proofs.Bits.{test}
+use Rattle.model.proofs.Zeros.{zeros-at}
 use Rattle.buckets.specs.Messages.{childrenOver}
 use Rattle.buckets.specs.Bounds.{placesOver}
 use Rattle.buckets.proofs.Reading.{Reads}
@@ -20,13 +21,8 @@ use Rattle.checking.specs.declared.Part as DP
 use Rattle.checking.specs.Marks.{Marked, ScopeIn, BucketIn}
 use Rattle.checking.specs.Parts.{PartReads}
 
-pub zero-at : (n v : ℕ) → _≡_ {A = ℕ} (getD (replicate n 0) v 0) 0
-zero-at zero v = refl
-zero-at (suc n) zero = refl
-zero-at (suc n) (suc v) = zero-at n v
-
 pub none-marked : (n v : ℕ) → Marked (replicate n 0) v → ⊥
-none-marked n v h = omega (arith, zero-at n v)
+none-marked n v h = omega (arith, zeros-at n v)
 
 pub mark-cases : (marks : List ℕ) (v w : ℕ) → Marked (set marks v 1) w → (w ≡ v) ⊎ Marked marks w
 mark-cases marks v w h = ⊎-elim (λ t. inl (eqb-true w v t)) (λ t. inr (sym (getD-set-other marks v w 1 0 (eqb-false w v t)) ∙ h)) (test (eqb w v))

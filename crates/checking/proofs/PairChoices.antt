@@ -5,16 +5,17 @@ use mathlib.Core.Bool.{true, false}
 use mathlib.Core.List.{List, [], _∷_}
 use Prim.Native.Nat.{ℕ, zero, suc, _≤_, _<_}
 use native.Mathlib.Omega.{arith}
-use borrow.Author.Tests.{eqb-true, eqb-false, ltb-true, ltb-false, lt-ltb}
+use borrow.Author.Tests.{eqb-true, eqb-false, ltb-true, ltb-false}
 use lib.Dec.{eqb, ltb}
 use lib.ListN.{length, getD, take, set, replicate, List·getD-eq-default}
 use lib.Seq.{set-out, getD-set-same, getD-set-other}
 use Rattle.model.specs.Basics.{All}
 use Rattle.model.specs.Problems.{DomainSize}
 use Rattle.model.specs.Costs.{isChoice}
-use Rattle.model.proofs.Bits.{test, and-both}
+use Rattle.model.proofs.Bits.{test}
 use Rattle.model.proofs.Choices.{choice-length}
 use Rattle.model.proofs.Prefixes.{set-choice}
+use Rattle.model.proofs.Zeros.{front-zeros, zeros-choice}
 use Rattle.problem.proofs.Sizes.{domain-size}
 use Rattle.costs.proofs.ScopeVariables.{value-below}
 
@@ -24,16 +25,6 @@ take-set zero l u a = refl
 take-set (suc n) [] u a = refl
 take-set (suc n) (x ∷ l) zero a = refl
 take-set (suc n) (x ∷ l) (suc u) a = ap (_∷_ x) (take-set n l u a)
-
-pub take-zeros : (n m : ℕ) → n ≤ m → take n (replicate {A = ℕ} m 0) ≡ replicate n 0
-take-zeros zero m h = refl
-take-zeros (suc n) zero h = absurd (omega arith)
-take-zeros (suc n) (suc m) h = ap (_∷_ 0) (take-zeros n m (omega arith))
-
-pub zeros-choice : (ds : List ℕ) → All DomainSize ds → isChoice ds (replicate (length ds) 0) ≡ true
-unfolding isChoice
-zeros-choice [] h = refl
-zeros-choice (d ∷ ds) h = and-both (lt-ltb 0 d (h .0 .0)) (zeros-choice ds (h .1))
 
 -- a value of a variable, if there is such a variable
 pub put-choice : (ds x : List ℕ) (u a : ℕ) → isChoice ds x ≡ true → (u < length ds → a < getD ds u 0) → isChoice ds (set x u a) ≡ true
@@ -63,7 +54,7 @@ set-toward x y long p w h =
 
 -- the choice that is made, by its first values
 pub pair-front : (n u i v j : ℕ) (one two : List ℕ) → n ≤ 24 → one ≡ set (replicate 24 0) u i → two ≡ set one v j → take n two ≡ set (set (replicate n 0) u i) v j
-pair-front n u i v j one two few e f = rw (f, take-set n one v j, e, take-set n (replicate 24 0) u i, take-zeros n 24 few)
+pair-front n u i v j one two few e f = rw (f, take-set n one v j, e, take-set n (replicate 24 0) u i, front-zeros n 24 few)
 
 pub pair-choice : (ds : List ℕ) (u i v j : ℕ) → All DomainSize ds → (u < length ds → i < getD ds u 0) → (v < length ds → j < getD ds v 0) → isChoice ds (set (set (replicate (length ds) 0) u i) v j) ≡ true
 pair-choice ds u i v j sizes g h = put-choice ds (set (replicate (length ds) 0) u i) v j (put-choice ds (replicate (length ds) 0) u i (zeros-choice ds sizes) g) h

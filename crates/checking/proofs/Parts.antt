@@ -12,6 +12,7 @@ use Rattle.model.specs.Basics.{All}
 use Rattle.model.specs.Problems.{DomainSize}
 use Rattle.model.proofs.Bits.{test}
 use Rattle.model.proofs.Choices.{choice-length}
+use Rattle.model.proofs.Zeros.{zeros-at}
 use Rattle.costs.proofs.ScopeVariables.{value-below}
 use Rattle.directions.specs.Directions.{widthOf}
 use Rattle.directions.specs.declared.Directions as DD
@@ -26,7 +27,6 @@ use Rattle.checking.specs.declared.Part as DP
 use Rattle.checking.specs.declared.Held as DH
 use Rattle.checking.specs.Parts.{restEnd, Rows, Lowered, RowLeft, PartReads, Fits, ChoiceLeaves, PairLeaves, PartLeaves, Holding, HoldsAt}
 use Rattle.checking.proofs.Ranges.{sent-one, sent-none}
-use Rattle.checking.proofs.Marking.{zero-at}
 use Rattle.checking.proofs.PairChoices.{set-toward, value-small}
 
 most-at : (n i : ℕ) → getD (replicate n restEnd) i 0 ≤ restEnd
@@ -112,7 +112,7 @@ module _ (d : DD.Directions) (ds s plan : List ℕ) (k : ℕ) where
   -- nothing is sent yet
   pub holding-start : (r : ℕ) (h : DH.Held) → Ends (length ds) r plan → k < length ds → h .to ≡ recordEnd plan (k + 1) → h .last ≡ childEnd plan (k + 1) → h .rest ≡ replicate 64 0 → Holding d ds s plan k (messageEnd plan (k + 1)) h
   holding-start r h e less to last none =
-      let zero : (i : ℕ) → getD (h .rest) i 0 ≡ 0 = λ i. rw none (zero-at 64 i) in
+      let zero : (i : ℕ) → getD (h .rest) i 0 ≡ 0 = λ i. rw none (zeros-at 64 i) in
       record {
         records = (omega (arith, to), omega (arith, to, e .records k less));
         children = (omega (arith, last), omega (arith, last, e .children k less));

@@ -1,9 +1,8 @@
 -- Ranges of a plan, one number at a time: places of records, slots and messages.
 use mathlib.Core.Path.{_≡_, refl}
 use mathlib.Core.List.{List, [], _∷_}
-use Prim.Native.Nat.{ℕ, suc, _+_, _-_, _≤_, _<_}
+use Prim.Native.Nat.{ℕ, _+_, _-_, _≤_, _<_}
 use native.Mathlib.Omega.{arith}
-use native.Mathlib.Numerals.{add-one}
 use lib.ListN.{length, getD}
 use Rattle.problem.proofs.Behind.{take-cons}
 use Rattle.buckets.specs.Places.{maxMessages, childrenAt, looseAt}
@@ -27,12 +26,6 @@ module _ (plan : List ℕ) (i to : ℕ) where
 
   pub children-none : to ≤ i → childrenOver plan i to ≡ []
   children-none h = let none : to - i ≡ 0 = omega arith in rw none refl
-
-pub count-next : (i to : ℕ) → i < to → countFrom i (to - i) ≡ i ∷ countFrom (i + 1) (to - (i + 1))
-unfolding countFrom
-count-next i to h =
-    let k : to - i ≡ suc (to - (i + 1)) = omega arith in
-    rw (k, add-one) refl
 
 pub count-none : (i to : ℕ) → to ≤ i → countFrom i (to - i) ≡ []
 unfolding countFrom

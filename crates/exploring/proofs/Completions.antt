@@ -5,25 +5,25 @@ use mathlib.Core.Bool.{true, false}
 use mathlib.Core.List.{List}
 use Prim.Native.Nat.{ℕ, _≤_, _<_}
 use native.Mathlib.Omega.{arith}
-use lib.Dec.{ltb, eqb}
+use lib.Dec.{ltb}
 use lib.ListN.{length, getD, take}
 use lib.Seq.{length-take-le, getD-take}
-use borrow.Author.Tests.{ltb-true, ltb-false, eqb-false}
+use borrow.Author.Tests.{ltb-true, ltb-false}
 use Rattle.model.specs.Costs.{isChoice, costOf, totals, costsOf}
 use Rattle.model.specs.Vectors.{same, earlier}
 use Rattle.model.proofs.Bits.{test, true-false}
 use Rattle.model.proofs.Vectors.{AtMost, NotLater, same-true, same-eq, at-most-earlier, not-earlier, not-later-trans}
 use Rattle.model.proofs.Choices.{choice-length}
+use Rattle.model.proofs.Totals.{totals-from-length}
 use Rattle.groups.specs.Groups.{tablesOver}
 use Rattle.groups.specs.Sources.{sourceIn}
-use Rattle.directions.specs.Directions.{maxDirections, directionsOf, widthOf, leadAt, Sensible}
+use Rattle.directions.specs.Directions.{directionsOf, widthOf}
 use Rattle.directions.specs.declared.Directions as DD
 use Rattle.directions.proofs.AtMostAt.{at-most-each}
 use Rattle.directions.proofs.DirectionLaws.{directions-length}
 use Rattle.buckets.specs.Places.{positionIn}
 use Rattle.buckets.specs.Bounds.{costsOver, Agree}
 use Rattle.buckets.specs.Sound.{Sound}
-use Rattle.buckets.proofs.Sums.{totals-length}
 use Rattle.buckets.proofs.Bounds.{bound-local, bound-below}
 use Rattle.exploring.specs.States.{problemOf, Partial}
 
@@ -33,7 +33,7 @@ unfolding costsOf totals
 costs-over d r ceilings ds s work y = refl
 
 pub costs-over-wide : (d : DD.Directions) (ds s places y : List ℕ) → length (directionsOf d (costsOver d ds s places y)) ≡ widthOf d
-costs-over-wide d ds s places y = directions-length d (costsOver d ds s places y) (totals-length (d .objectives) 0 (costOf ds y) (tablesOver ds s places))
+costs-over-wide d ds s places y = directions-length d (costsOver d ds s places y) (totals-from-length (d .objectives) 0 (costOf ds y) (tablesOver ds s places))
 
 at-most-not-later : (x y : List ℕ) → length x ≡ length y → AtMost x y → NotLater x y
 at-most-not-later x y e h =

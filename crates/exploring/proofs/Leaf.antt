@@ -17,6 +17,7 @@ use Rattle.model.proofs.Choices.{choice-length}
 use Rattle.model.proofs.Frontier.{reached-under}
 use Rattle.model.proofs.Archive.{archived-wide}
 use Rattle.model.proofs.Zones.{zones-follow}
+use Rattle.model.proofs.Totals.{totals-from-length}
 use Rattle.groups.specs.Groups.{tablesOver}
 use Rattle.rows.specs.Rows.{listIn}
 use Rattle.groups.specs.Sources.{sourceIn}
@@ -28,7 +29,6 @@ use Rattle.directions.proofs.DirectionLaws.{directions-costs, directions-lead}
 use Rattle.zones.specs.Zones.{zonesEnd, cornersIn, Measured, SplitAt}
 use Rattle.zones.proofs.ZoneRows.{corners-wide}
 use Rattle.buckets.specs.Bounds.{costsOver}
-use Rattle.buckets.proofs.Sums.{totals-length}
 use Rattle.buckets.proofs.Bounds.{bound-exact}
 use Rattle.pruning.specs.declared.Run as DR
 use Rattle.pruning.specs.Tests.{zonesOf}
@@ -79,7 +79,7 @@ module _
       ext-getD 0 _ _ (long ∙ sym (costs-over-wide d ds s (sourceIn work r) x)) (λ j l. let m : j < widthOf d = omega arith in getD-take (widthOf d) acc j 0 m ∙ exact-at j m)
 
   source-wide : length source-costs ≡ d .objectives
-  source-wide = totals-length (d .objectives) 0 (costOf ds x) (tablesOver ds s (sourceIn work r))
+  source-wide = totals-from-length (d .objectives) 0 (costOf ds x) (tablesOver ds s (sourceIn work r))
 
   in-front : costs ≡ source-costs
   in-front = sym (take-take (d .objectives) (widthOf d) acc (omega arith)) ∙ ap (λ (u : List ℕ). take (d .objectives) u) whole ∙ directions-costs d source-costs source-wide

@@ -39,7 +39,7 @@ use Rattle.exploring.specs.States.{noLimit, planIn, archiveIn, problemOf
 use Rattle.exploring.specs.States.{Standing, OpenedFrom, Between, Passed, ExploredSays}
 use Rattle.exploring.specs.Passes.{ZonesWritten, ZonesHold}
 use Rattle.exploring.proofs.Memory.{still-trans, problem-still, ready-still, framed-still, zones-still, zones-rows}
-use Rattle.branching.proofs.Zeros.{zeros-at, zeros-choice, front-zeros}
+use Rattle.model.proofs.Zeros.{zeros-at, zeros-choice, front-zeros}
 
 -- the empty choice with its bound
 abbrev pub rootNode : List ℕ → DN.Node

@@ -1,8 +1,8 @@
 -- The zones in memory: the first one, and splitting them at archived points.
 use mathlib.Core.Path.{_≡_, sym, _∙_, subst}
 use mathlib.Core.Logic.{inl, inr, ⊎-elim}
-use mathlib.Core.List.{List, [], _∷_, _++_, List·Memᴰ as In}
-use Prim.Native.Nat.{ℕ, suc, _+_, _≤_, _<_}
+use mathlib.Core.List.{List, _++_, List·Memᴰ as In}
+use Prim.Native.Nat.{ℕ, _+_, _≤_, _<_}
 use native.Mathlib.Omega.{arith}
 use lib.ListN.{length, getD, take, drop, length-append, length-drop}
 use lib.Seq.{length-take-le, getD-take, getD-drop}
@@ -11,7 +11,7 @@ use Rattle.model.specs.Limits.{maxObjectives, maxPoints, wordEnd}
 use Rattle.model.specs.Problems.{Word}
 use Rattle.model.specs.Frontiers.{Point}
 use Rattle.model.specs.Archive.{Zoned}
-use Rattle.model.proofs.Elements.{all-take}
+use Rattle.model.proofs.Elements.{all-take, all-each}
 use Rattle.model.proofs.Vectors.{at-most-true}
 use Rattle.model.proofs.Zones.{zones-start, zones-none, zones-split, under-none}
 use Rattle.groups.specs.Layout.{listEnd}
@@ -70,14 +70,10 @@ written-trans f g = record { long = g .long ∙ f .long; behind = g .behind ∙ 
 pub split-costs : (d : DD.Directions) (rows work row : List ℕ) (i m : ℕ) → Sensible d → ZonesWritten d rows work m → row ≡ costsIn maxObjectives work i → take (d .objectives) row ≡ costsIn (d .objectives) rows i
 split-costs d rows work row i m sensible w read = front-costs (d .objectives) work row i (sensible .few) read ∙ zones-costs rows work (w .long) (w .behind) (d .objectives) i
 
-all-places : (P : ℕ → Type 0) (xs : List ℕ) → ((k : ℕ) → P (getD xs k 0)) → All P xs
-all-places P [] h = tt
-all-places P (x ∷ xs) h = (h 0, all-places P xs (λ k. h (suc k)))
-
 pub split-words : (d : DD.Directions) (rows work row : List ℕ) (i m : ℕ) → Sensible d → ZonesWritten d rows work m → row ≡ costsIn maxObjectives work i → ((k : ℕ) → getD rows k 0 < wordEnd) → All Word (take (d .objectives) row)
 split-words d rows work row i m sensible w read words =
     subst (All Word) (sym (split-costs d rows work row i m sensible w read))
-    (all-take Word (d .objectives) (drop (rowAt i) rows) (all-places Word (drop (rowAt i) rows) (λ k. rw (getD-drop (rowAt i) rows k 0) (words (rowAt i + k)))))
+    (all-take Word (d .objectives) (drop (rowAt i) rows) (all-each Word 0 (drop (rowAt i) rows) (λ k. rw (getD-drop (rowAt i) rows k 0) (words (rowAt i + k)))))
 
 -- one more archived point: row i of the points of `rows`
 module _ (d : DD.Directions) (c : ℕ) (rows work z row : List ℕ) (i m t : ℕ) (sensible : Sensible d) (memory : listEnd ≤ length rows) (few : c ≤ maxPoints + 1) (inside : i < c) (w : ZonesWritten d rows work m) (read : row ≡ costsIn maxObjectives work i) (measured : Measured d z t) (e : length z ≡ length (zonesOf work)) (parts : SplitAt (d .objectives) (take (d .objectives) row) (cornersIn (d .objectives) (zonesOf work) 0 m) (cornersIn (d .objectives) z 0 t)) where

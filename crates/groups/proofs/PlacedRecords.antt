@@ -1,16 +1,21 @@
--- r accepted records in work memory: how many places they have, a group that is written before them, and how long one is.
-use mathlib.Core.Path.{_≡_, ap}
+-- r accepted records in work memory: how many places and tables they have, a group that is written before them, and how long one is.
+use mathlib.Core.Path.{_≡_, refl, ap}
 use mathlib.Core.Logic.{inr}
-use mathlib.Core.List.{List}
-use Prim.Native.Nat.{ℕ, _+_, _-_, _≤_, _<_}
+use mathlib.Core.List.{List, [], _∷_}
+use Prim.Native.Nat.{ℕ, suc, _+_, _-_, _≤_, _<_}
 use native.Mathlib.Omega.{arith}
 use lib.ListN.{length, getD, take, drop, length-drop}
 use lib.Seq.{length-take-le}
 use Rattle.model.specs.Limits.{maxTables}
 use Rattle.groups.specs.Layout.{recordsAt}
-use Rattle.groups.specs.Groups.{groupOf, placesIn, Placed, Grouped}
+use Rattle.groups.specs.Groups.{groupOf, placesIn, tablesOver, Placed, Grouped}
 use Rattle.groups.proofs.Keeping.{keeps-few, group-keeps}
 use Rattle.groups.proofs.Adding.{Apart}
+
+pub tables-count : (ds s places : List ℕ) → length (tablesOver ds s places) ≡ length places
+unfolding tablesOver
+tables-count ds s [] = refl
+tables-count ds s (at ∷ places) = ap suc (tables-count ds s places)
 
 module _ (ds s work : List ℕ) (r : ℕ) where
   pub places-length : Placed ds s work r → length (placesIn work r) ≡ r

@@ -2,6 +2,7 @@
 -- tests, elements, vectors
 pub mod Bits
 pub mod Elements
+pub mod Zeros
 pub mod Vectors
 pub mod Sums
 pub mod Totals

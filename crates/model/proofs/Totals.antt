@@ -52,7 +52,7 @@ pub totals-grow : (q : Problem) (f g : Table → ℕ) → ((t : Table) → f t �
 unfolding totals
 totals-grow q f g h = totals-from-grow (q .objectives) 0 f g h (q .tables)
 
-totals-from-length : (p o : ℕ) (f : Table → ℕ) (ts : List Table) → length (totalsFrom p o f ts) ≡ p
+pub totals-from-length : (p o : ℕ) (f : Table → ℕ) (ts : List Table) → length (totalsFrom p o f ts) ≡ p
 unfolding totalsFrom
 totals-from-length zero o f ts = refl
 totals-from-length (suc p) o f ts = ap suc (totals-from-length p (suc o) f ts)

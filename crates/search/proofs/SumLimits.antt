@@ -1,7 +1,6 @@
 -- No sum over the records in work memory is too large: each least entry is a number of four bytes, and the records are few.
-use mathlib.Core.Path.{_≡_, refl, ap}
 use mathlib.Core.List.{List, [], _∷_}
-use Prim.Native.Nat.{ℕ, suc, _+_, _≤_, _<_}
+use Prim.Native.Nat.{ℕ, _+_, _≤_, _<_}
 use native.Mathlib.Omega.{arith}
 use lib.ListN.{length, getD, drop, length-take}
 use Rattle.model.specs.Basics.{All}
@@ -17,12 +16,8 @@ use Rattle.model.proofs.Totals.{total-limit}
 use Rattle.model.proofs.LeastEntry.{least-limit}
 use Rattle.groups.specs.Layout.{recordsAt}
 use Rattle.groups.specs.Groups.{tablesOver, placesIn}
+use Rattle.groups.proofs.PlacedRecords.{tables-count}
 use Rattle.search.specs.States.{tablesIn}
-
-length-over : (ds s places : List ℕ) → length (tablesOver ds s places) ≡ length places
-unfolding tablesOver
-length-over ds s [] = refl
-length-over ds s (at ∷ places) = ap suc (length-over ds s places)
 
 module _ (ds s pre : List ℕ) (bytes : All Byte s) where
   least-word : (at : ℕ) → leastOf ds pre (tableOf ds (drop at s)) < wordEnd
@@ -42,5 +37,5 @@ module _ (ds s pre : List ℕ) (bytes : All Byte s) where
 pub total-fits : (ds s work pre : List ℕ) (r o : ℕ) → r ≤ maxTables → ((i : ℕ) → getD s i 0 < byteEnd) → total o (leastOf ds pre) (tablesIn r ds s work) ≤ sumEnd
 total-fits ds s work pre r o few bytes =
     let ts = tablesIn r ds s work in
-    let n : length ts ≤ maxTables = omega (arith, length-over ds s (placesIn work r), length-take r (drop recordsAt work)) in
+    let n : length ts ≤ maxTables = omega (arith, tables-count ds s (placesIn work r), length-take r (drop recordsAt work)) in
     omega (arith, total-limit o wordEnd (leastOf ds pre) ts (all-words ds s pre (all-each Byte 0 s bytes) (placesIn work r)))

@@ -2,7 +2,7 @@
 use mathlib.Core.Path.{_≡_, refl, _∙_}
 use mathlib.Core.Logic.{_⊎_, inl, inr, ⊎-elim}
 use mathlib.Core.List.{List}
-use Prim.Native.Nat.{ℕ, zero, suc, _+_, _-_, _≤_, _<_}
+use Prim.Native.Nat.{ℕ, _+_, _-_, _≤_, _<_}
 use native.Mathlib.Omega.{arith}
 use lib.Dec.{ltb}
 use lib.ListN.{length, getD, set, replicate, length-set}
@@ -11,6 +11,7 @@ use borrow.Author.Count.{below-more}
 use borrow.Author.Tests.{ltb-true, ltb-false, lt-ltb, le-ltb}
 use Rattle.model.specs.Limits.{wordEnd}
 use Rattle.model.proofs.Bits.{test}
+use Rattle.model.proofs.Zeros.{zeros-at}
 use Rattle.directions.specs.Directions.{maxDirections}
 use Rattle.zones.specs.Zones.{clamped}
 
@@ -40,13 +41,8 @@ pub record Clamping (w : ℕ) (b least : List ℕ) (i : ℕ) : Type 0 where
   pub numbers : (j : ℕ) → j < i → j < w → getD least j 0 ≡ clamped (getD b j 0)
   pub zeros : (j : ℕ) → (i ≤ j) ⊎ (w ≤ j) → getD least j 0 ≡ 0
 
-zero-at : (n j : ℕ) → getD (replicate {A = ℕ} n 0) j 0 ≡ 0
-zero-at zero j = refl
-zero-at (suc n) zero = refl
-zero-at (suc n) (suc j) = zero-at n j
-
 pub clamping-start : (w : ℕ) (b : List ℕ) → Clamping w b (replicate maxDirections 0) 0
-clamping-start w b = record { long = refl; numbers = λ j l. absurd (omega arith); zeros = λ j l. zero-at maxDirections j }
+clamping-start w b = record { long = refl; numbers = λ j l. absurd (omega arith); zeros = λ j l. zeros-at maxDirections j }
 
 module _ {w : ℕ} {b least : List ℕ} {i : ℕ} (u : Clamping w b least i) where
   pub clamping-next : i < maxDirections → i < w → (x : ℕ) → x ≡ clamped (getD b i 0) → Clamping w b (set least i x) (i + 1)

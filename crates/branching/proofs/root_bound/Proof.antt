@@ -11,7 +11,7 @@ use Rattle.model.proofs.Elements.{all-below}
 use Rattle.directions.specs.Directions.{maxDirections}
 use Rattle.buckets.specs.Bounds.{baseAt}
 use Rattle.directions.proofs.Widths.{width-few}
-use Rattle.branching.proofs.Zeros.{front-zeros, zeros-at, zeros-set, zeros-choice}
+use Rattle.model.proofs.Zeros.{front-zeros, zeros-at, zeros-set, zeros-choice}
 use borrow.Author.Needs.{needs}
 use Rattle.branching.proofs.root_bound.Statement.{statement}
 use Rattle.branching.proofs.root_bound.Tie as tie

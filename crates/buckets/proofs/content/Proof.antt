@@ -3,9 +3,9 @@ use native.Mathlib.Omega.{arith}
 use denote.Ref.{now}
 use Rattle.problem.proofs.Sizes.{domain-size}
 use Rattle.costs.proofs.ScopeVariables.{value-exists}
-use Rattle.buckets.proofs.DirectedRows.{zeros-at}
 use Rattle.buckets.proofs.ContentRows.{planned-whole, planned-width, directed-small, content-filled}
 use borrow.Author.Needs.{needs}
+use Rattle.model.proofs.Zeros.{zeros-at}
 use Rattle.buckets.proofs.content.Statement.{statement}
 use Rattle.buckets.proofs.content.Tie as tie
 
