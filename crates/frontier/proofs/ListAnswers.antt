@@ -52,7 +52,8 @@ over-listed false ps old = refl
 
 -- the records are written from the list in work memory, and work memory is settled
 pub list-end : (s w w1 w2 : List ℕ) (old new : List DP.Point) (r : DI.Listed) → ListedSays s (length old) w w1 r → new ≡ over (recordsOf (listIn (r .objectives) (r .variables) w1 0 (r .count))) old
-    → w2 ≡ pick (eqb (r .number) 0) (replicate (length w1) 0) w1 → ListExports s (listOutcome s (asPoints old) w) new w2 (r .number) (r .place) (r .count)
+    → w2 ≡ pick (eqb (r .number) 0) (replicate (length w1) 0) w1
+    → ListExports s (listOutcome s (asPoints old) w) new w2 (r .number) (r .place) (r .count)
 unfolding listOutcome
 list-end s w w1 w2 old new r says e z =
     let v = listVerdict s (length old) w in

@@ -30,7 +30,9 @@ abbrev read-of : tie.Else1 → tie.After-read-problem
 read-of c = c .before .before
 
 accepted : (c : tie.Else1) → AcceptedReading (problem (read-of c)) (read-of c .read-problem .result)
-accepted c = let g = read-of c .read-problem in read-accepted (problem (read-of c)) (g .result) (g .ensures) (c .if1 .left)
+accepted c =
+    let g = read-of c .read-problem in
+    read-accepted (problem (read-of c)) (g .result) (g .ensures) (c .if1 .left)
 
 abbrev opened : tie.After-find-rows → tie.Else2
 opened c = c .before .before .before
@@ -69,10 +71,10 @@ not-listed-requires-2 c κs = search needs
 
 returns-2 : tie.Need-returns-2
 returns-2 c =
-    let a = accepted (c .before .before) in
-    let short = short-verdict _ _ _ (a .none) (c .before .if2 .taken) in
+    let read : tie.Else1 = c .before .before in
+    let short = short-verdict _ _ _ (accepted read .none) (c .before .if2 .taken) in
     rw (c .not-listed2 .ensures)
-    (unchanged-rows _ _ _ (bytes (read-of (c .before .before))) _ short _ _ refl refl (λ z. omega arith) (λ z. omega arith))
+    (unchanged-rows _ _ _ (bytes (read-of read)) _ short _ _ refl refl (λ z. omega arith) (λ z. omega arith))
 
 -- ## the search
 
