@@ -29,9 +29,9 @@ module _ (s : List ℕ) where
   unfolding solveVerdict
   solve-told work room =
       let own = workShort ∷ full ∷ [] in
-      told s own (first (workVerdict work) (roomVerdict room ps))
-      (own-first own (workVerdict work) (roomVerdict room ps)
-      (own-work own (here refl) work) (own-room own (there (here refl)) room ps))
+      told s own [] (first (workVerdict work) (roomVerdict room ps))
+      (own-first own [] (workVerdict work) (roomVerdict room ps)
+      (own-work own [] (here refl) work) (own-room own [] (there (here refl)) room ps))
 
   pub solve-leaves : (costs choices work : List ℕ)
       → Solve-leaves s costs choices work (solveOutcome s costs choices work)
