@@ -28,6 +28,7 @@ use Rattle.directions.proofs.Directions.{the-type}
 use Rattle.directions.proofs.SumsOf.{sums-length}
 use Rattle.directions.proofs.TableRows.{row-read}
 use Rattle.buckets.specs.Adding.{PartFilled, RowFilled, fourSum}
+use Rattle.buckets.specs.declared.Totals as DT
 use Rattle.buckets.proofs.RowSteps.{Filling, filling-start, filling-next}
 
 -- directions that are a parameter have sixteen weights
@@ -89,7 +90,7 @@ module _ (x y z u : ℕ) where
   counted-sum (suc (suc (suc (suc zero)))) h a b c e = omega arith
   counted-sum (suc (suc (suc (suc (suc p))))) h a b c e = absurd (omega arith)
 
-  pub sum-counted : (p : ℕ) → p ≤ 4 → (ws : List ℕ) (i : ℕ) → 4 * i + 4 ≤ length ws → fourSum ws (when (ltb 0 p) x) (when (ltb 1 p) y) (when (ltb 2 p) z) (when (ltb 3 p) u) i ≡ weighted (take p (drop (4 * i) ws)) (fore p)
+  pub sum-counted : (p : ℕ) → p ≤ 4 → (ws : List ℕ) (i : ℕ) → 4 * i + 4 ≤ length ws → fourSum ws (record { one = when (ltb 0 p) x; two = when (ltb 1 p) y; three = when (ltb 2 p) z; four = when (ltb 3 p) u }) i ≡ weighted (take p (drop (4 * i) ws)) (fore p)
   sum-counted p h ws i l =
       let row : take p (getD ws (4 * i) 0 ∷ getD ws (4 * i + 1) 0 ∷ getD ws (4 * i + 2) 0 ∷ getD ws (4 * i + 3) 0 ∷ []) ≡ take p (drop (4 * i) ws) = rw (row-read ws (4 * i) l) (take-take p 4 (drop (4 * i) ws) h) in
       rw (← row) (counted-sum p h (getD ws (4 * i) 0) (getD ws (4 * i + 1) 0) (getD ws (4 * i + 2) 0) (getD ws (4 * i + 3) 0))
@@ -144,13 +145,28 @@ four-put costs rows at room =
     filling-next three room (omega arith) _ refl (at + 3) refl
 
 -- the row of value a, once its costs and then its sums are written
-pub value-directed : (p sums : ℕ) (ws totals : List ℕ) (a : ℕ) (rows rows′ : List ℕ) (x y z u : ℕ) → p ≤ 4 → sums ≤ maxSums → 16 ≤ length ws → 4 * a + 4 ≤ length totals → 8 * a + 8 ≤ length rows → ((i : ℕ) → 8 * a ≤ i → getD rows i 0 ≡ 0) → x ≡ when (ltb 0 p) (getD totals (4 * a) 0) → y ≡ when (ltb 1 p) (getD totals (4 * a + 1) 0) → z ≡ when (ltb 2 p) (getD totals (4 * a + 2) 0) → u ≡ when (ltb 3 p) (getD totals (4 * a + 3) 0) → PartFilled (fourSum ws x y z u) (8 * a + p) sums (set (set (set (set rows (8 * a) x) (8 * a + 1) y) (8 * a + 2) z) (8 * a + 3) u) rows′ → RowFilled (λ j. getD (directionsOf (record { objectives = p; sums = sums; weights = ws }) (take p (take 4 (drop (4 * a) totals)))) j 0) (8 * a) rows rows′
-value-directed p sums ws totals a rows rows′ x y z u few few-sums table inside room blank e f g h put =
+pub value-directed :
+    (p sums : ℕ) (ws totals : List ℕ) (a : ℕ) (rows rows′ : List ℕ) (t : DT.Totals)
+    → p ≤ 4 → sums ≤ maxSums → 16 ≤ length ws → 4 * a + 4 ≤ length totals → 8 * a + 8 ≤ length rows
+    → ((i : ℕ) → 8 * a ≤ i → getD rows i 0 ≡ 0)
+    → t .one ≡ when (ltb 0 p) (getD totals (4 * a) 0) → t .two ≡ when (ltb 1 p) (getD totals (4 * a + 1) 0)
+    → t .three ≡ when (ltb 2 p) (getD totals (4 * a + 2) 0) → t .four ≡ when (ltb 3 p) (getD totals (4 * a + 3) 0)
+    → PartFilled (fourSum ws t) (8 * a + p) sums
+    (set (set (set (set rows (8 * a) (t .one)) (8 * a + 1) (t .two)) (8 * a + 2) (t .three)) (8 * a + 3) (t .four)) rows′
+    → RowFilled (λ j. getD (directionsOf (record { objectives = p; sums = sums; weights = ws })
+    (take p (take 4 (drop (4 * a) totals)))) j 0) (8 * a) rows rows′
+value-directed p sums ws totals a rows rows′ t few few-sums table inside room blank e f g h put =
     let d : DD.Directions = record { objectives = p; sums = sums; weights = ws } in
-    let x′ = getD totals (4 * a) 0 in
-    let y′ = getD totals (4 * a + 1) 0 in
-    let z′ = getD totals (4 * a + 2) 0 in
-    let u′ = getD totals (4 * a + 3) 0 in
-    let costs : x ∷ y ∷ z ∷ u ∷ [] ≡ counted-four x′ y′ z′ u′ p = rw (e, f, g, h) refl in
-    let directed = row-directed d (take p (four totals a)) (length-take-le p (four totals a) few) few few-sums (x ∷ y ∷ z ∷ u ∷ []) (fourSum ws x y z u) (8 * a) rows _ rows′ blank (λ j. ap (λ (l : List ℕ). getD l j 0) costs ∙ counted-at x′ y′ z′ u′ p few j) (λ k l. rw (e, f, g, h) (sum-counted x′ y′ z′ u′ p few ws k (omega arith))) (four-put (x ∷ y ∷ z ∷ u ∷ []) rows (8 * a) (omega arith)) put in
+    let x = getD totals (4 * a) 0 in
+    let y = getD totals (4 * a + 1) 0 in
+    let z = getD totals (4 * a + 2) 0 in
+    let u = getD totals (4 * a + 3) 0 in
+    let row : List ℕ = t .one ∷ t .two ∷ t .three ∷ t .four ∷ [] in
+    let costs : t .one ∷ t .two ∷ t .three ∷ t .four ∷ [] ≡ counted-four x y z u p = rw (e, f, g, h) refl in
+    let directed =
+    row-directed d (take p (four totals a)) (length-take-le p (four totals a) few) few few-sums row (fourSum ws t)
+    (8 * a) rows _ rows′ blank
+    (λ j. ap (λ (l : List ℕ). getD l j 0) costs ∙ counted-at x y z u p few j)
+    (λ k l. rw (e, f, g, h) (sum-counted x y z u p few ws k (omega arith)))
+    (four-put row rows (8 * a) (omega arith)) put in
     rw (← row-read totals (4 * a) inside) directed

@@ -18,7 +18,7 @@ use Rattle.costs.specs.Entries.{scopeAt}
 use Rattle.costs.proofs.ScopeVariables.{scope-end, scope-next, variable-exists, variable-size, value-below}
 use Rattle.costs.proofs.Rooms.{Room, room-index, room-fits, room-next}
 use Rattle.buckets.specs.Adding.{TermSays, EntrySays}
-use Rattle.buckets.specs.declared.Run as DR
+use Rattle.buckets.specs.declared.Progression as DP
 use Rattle.buckets.proofs.Runs.{shifted}
 
 pub record EntrySteps (ds s : List ℕ) (at v : ℕ) (x : List ℕ) (k first stride : ℕ) : Type 0 where
@@ -43,7 +43,7 @@ module _ (ds s : List ℕ) (at v : ℕ) (x : List ℕ) where
       pub stride-fits : k ≤ getD s (at + 3) 0 → stride < 4096
       stride-fits h = omega (arith, u .narrow, whole-few ds s at w, pow-le-pow-right {n = 16} (omega arith) {i = k} {j = 3} (omega (arith, whole-few ds s at w)))
 
-      pub entry-next : k < getD s (at + 3) 0 → (t : DR.Run) → TermSays (getD s (at + 4 + k) 0) 1 v x t → EntrySteps ds s at v x (k + 1) (first * getD ds (getD s (at + 4 + k) 0) 0 + t .first) (stride * getD ds (getD s (at + 4 + k) 0) 0 + t .stride)
+      pub entry-next : k < getD s (at + 3) 0 → (t : DP.Progression) → TermSays (getD s (at + 4 + k) 0) 1 v x t → EntrySteps ds s at v x (k + 1) (first * getD ds (getD s (at + 4 + k) 0) 0 + t .first) (stride * getD ds (getD s (at + 4 + k) 0) 0 + t .stride)
       unfolding entryFrom
       entry-next more t says =
           let z = getD s (at + 4 + k) 0 in

@@ -12,6 +12,7 @@ use Rattle.buckets.specs.Places.{maxMessages, childrenAt, looseAt}
 use Rattle.buckets.specs.Messages.{sumOver, countFrom, messageAt, sentOver, childrenOver, receivedOver}
 use Rattle.buckets.specs.Content.{Summed}
 use Rattle.buckets.specs.Adding.{messageStart, RowAdded, RowsAdded, Received}
+use Rattle.buckets.specs.declared.Span as DS
 
 children-next : (plan : List ℕ) (i last : ℕ) → i < last → last ≤ maxMessages → looseAt ≤ length plan → childrenOver plan i last ≡ getD plan (childrenAt + i) 0 ∷ childrenOver plan (i + 1) last
 children-next plan i last h few long =
@@ -27,35 +28,51 @@ received-none : (w : ℕ) (plan : List ℕ) (i last : ℕ) (y : List ℕ) (j : �
 unfolding sumOver
 received-none w plan i last y j h = let none : last - i ≡ 0 = omega arith in rw none refl
 
--- messages in slots, those from i on left
-pub record Receiving (w : ℕ) (plan : List ℕ) (first last v size : ℕ) (x before : List ℕ) (i : ℕ) (rows : List ℕ) : Type 0 where
-  pub behind : first ≤ i
-  pub ahead : i ≤ last
+-- messages in a span's slots, those from i on left
+pub record Receiving (w : ℕ) (plan : List ℕ) (span : DS.Span) (v size : ℕ) (x before : List ℕ) (i : ℕ) (rows : List ℕ)
+    : Type 0 where
+  pub behind : span .first ≤ i
+  pub ahead : i ≤ span .last
   pub long : length rows ≡ length before
-  pub sums : (a j : ℕ) → a < size → j < 8 → getD rows (8 * a + j) 0 + receivedOver w plan i last (set x v a) j ≡ getD before (8 * a + j) 0 + receivedOver w plan first last (set x v a) j
-  pub small : (a j : ℕ) → a < size → j < 8 → getD rows (8 * a + j) 0 ≤ getD before (8 * a + j) 0 + wordEnd * (i - first)
+  pub sums : (a j : ℕ) → a < size → j < 8
+      → getD rows (8 * a + j) 0 + receivedOver w plan i (span .last) (set x v a) j
+      ≡ getD before (8 * a + j) 0 + receivedOver w plan (span .first) (span .last) (set x v a) j
+  pub small : (a j : ℕ) → a < size → j < 8
+      → getD rows (8 * a + j) 0 ≤ getD before (8 * a + j) 0 + wordEnd * (i - span .first)
 
-pub receiving-start : (w : ℕ) (plan : List ℕ) (first last v size : ℕ) (x before : List ℕ) → first ≤ last → Receiving w plan first last v size x before first before
-receiving-start w plan first last v size x before h =
+pub receiving-start :
+    (w : ℕ) (plan : List ℕ) (span : DS.Span) (v size : ℕ) (x before : List ℕ) → span .first ≤ span .last
+    → Receiving w plan span v size x before (span .first) before
+receiving-start w plan span v size x before h =
     record { behind = omega arith; ahead = h; long = refl; sums = λ a j k l. refl; small = λ a j k l. omega arith }
 
-module _ {w : ℕ} {plan : List ℕ} {first last v size : ℕ} {x before : List ℕ} {i : ℕ} {rows : List ℕ} (u : Receiving w plan first last v size x before i rows) (few : last ≤ maxMessages) where
-  pub receiving-end : last ≤ i → Received w plan first last v size x before rows
-  receiving-end h =
-      record {
-        sums = λ a j k l. omega (arith, u .sums a j k l, received-none w plan i last (set x v a) j h);
-        small = λ a j k l. omega (arith, u .ahead, u .small a j k l);
-      }
+module _
+    {w : ℕ} {plan : List ℕ} {span : DS.Span} {v size : ℕ} {x before : List ℕ} {i : ℕ} {rows : List ℕ}
+    (u : Receiving w plan span v size x before i rows) (few : span .last ≤ maxMessages)
+  where
+    pub receiving-end : span .last ≤ i → Received w plan span v size x before rows
+    receiving-end h =
+        record {
+          sums = λ a j k l. omega (arith, u .sums a j k l, received-none w plan i (span .last) (set x v a) j h);
+          small = λ a j k l. omega (arith, u .ahead, u .small a j k l);
+        }
 
-  pub receiving-next : i < last → looseAt ≤ length plan → ((k : ℕ) → getD plan k 0 < wordEnd) → (rows′ : List ℕ) → length rows′ ≡ length rows → RowsAdded size (λ a j. messageAt w plan (set x v a) j (getD plan (childrenAt + i) 0)) rows rows′ → Receiving w plan first last v size x before (i + 1) rows′
-  receiving-next more long words rows′ same next =
-      record {
-        behind = omega (arith, u .behind);
-        ahead = omega arith;
-        long = omega (arith, u .long);
-        sums = λ a j k l. omega (arith, u .sums a j k l, next a j k l, received-next w plan i last (set x v a) j more few long);
-        small = λ a j k l. omega (arith, u .behind, u .small a j k l, next a j k l, words (messageStart w plan (getD plan (childrenAt + i) 0) (set x v a) + j));
-      }
+    pub receiving-next :
+        i < span .last → looseAt ≤ length plan → ((k : ℕ) → getD plan k 0 < wordEnd) → (rows′ : List ℕ)
+        → length rows′ ≡ length rows
+        → RowsAdded size (λ a j. messageAt w plan (set x v a) j (getD plan (childrenAt + i) 0)) rows rows′
+        → Receiving w plan span v size x before (i + 1) rows′
+    receiving-next more long words rows′ same next =
+        let start : (a : ℕ) → ℕ = λ a. messageStart w plan (getD plan (childrenAt + i) 0) (set x v a) in
+        record {
+          behind = omega (arith, u .behind);
+          ahead = omega arith;
+          long = omega (arith, u .long);
+          sums = λ a j k l.
+              let one = received-next w plan i (span .last) (set x v a) j more few long in
+              omega (arith, u .sums a j k l, next a j k l, one);
+          small = λ a j k l. omega (arith, u .behind, u .small a j k l, next a j k l, words (start a + j));
+        }
 
 pub count-next : (i to : ℕ) → i < to → countFrom i (to - i) ≡ i ∷ countFrom (i + 1) (to - (i + 1))
 unfolding countFrom

@@ -20,6 +20,8 @@ use Rattle.directions.proofs.DirectionLaws.{directions-added}
 use Rattle.buckets.specs.Places.{fieldIn}
 use Rattle.buckets.specs.Messages.{countFrom, messageAt, sentOver, childrenOver, receivedOver}
 use Rattle.buckets.specs.Bounds.{placesOver, costsOver, recordsOver, contentOver}
+use Rattle.buckets.specs.Content.{Ranged}
+use Rattle.buckets.specs.declared.Span as DS
 use Rattle.buckets.proofs.Sums.{sumOver-equal, placesOver-split, received-split, shareOf, total-over, totals-same, totals-append}
 
 -- message g reads only variables that have the property P: a variable with stride 0 is not read
@@ -61,10 +63,17 @@ module _ (P : ℕ → Type 0) (x y : List ℕ) (same : (v : ℕ) → P v → get
       let places = placesOver plan from to in
       ap (λ (v : List ℕ). getD (directionsOf d v) j 0) (totals-same ds s (d .objectives) 0 (costOf ds x) (costOf ds y) places places (λ o. total-reads ds s o places h))
 
-  pub content-reads : (d : DD.Directions) (ds s plan : List ℕ) (from to first last : ℕ) → All (λ at. All P (tableScope (drop at s))) (placesOver plan from to) → All (Reads P plan) (childrenOver plan first last) → (j : ℕ) → contentOver d ds s plan from to first last x j ≡ contentOver d ds s plan from to first last y j
-  content-reads d ds s plan from to first last h k j = ap₂ _+_ (records-read d ds s plan from to h j) (received-reads (widthOf d) plan first last k j)
+  pub content-reads :
+      (d : DD.Directions) (ds s plan : List ℕ) (span : DS.Span)
+      → All (λ at. All P (tableScope (drop at s))) (placesOver plan (span .from) (span .to))
+      → All (Reads P plan) (childrenOver plan (span .first) (span .last))
+      → (j : ℕ) → contentOver d ds s plan span x j ≡ contentOver d ds s plan span y j
+  content-reads d ds s plan span h k j =
+      ap₂ _+_
+      (records-read d ds s plan (span .from) (span .to) h j)
+      (received-reads (widthOf d) plan (span .first) (span .last) k j)
 
--- records, and records with slots, that are cut in two
+-- records that are cut in two
 module _ (d : DD.Directions) (ds s plan : List ℕ) (from to to′ : ℕ) (g : from ≤ to) (h : to ≤ to′) (y : List ℕ) (j : ℕ) where
   pub records-split : recordsOver d ds s plan from to y j + recordsOver d ds s plan to to′ y j ≡ recordsOver d ds s plan from to′ y j
   records-split =
@@ -75,12 +84,27 @@ module _ (d : DD.Directions) (ds s plan : List ℕ) (from to to′ : ℕ) (g : f
       let behind = placesOver plan to to′ in
       rw (placesOver-split plan from to to′ g h, totals-append ds s p 0 f before behind, directions-added d (costsOver d ds s before y) (costsOver d ds s behind y) (long before) (long behind) j) refl
 
-  pub content-split : (first last last′ : ℕ) → first ≤ last → last ≤ last′ → contentOver d ds s plan from to first last y j + contentOver d ds s plan to to′ last last′ y j ≡ contentOver d ds s plan from to′ first last′ y j
-  content-split first last last′ k l = omega (arith, records-split, received-split (widthOf d) plan first last last′ k l y j)
+-- a span, and the one that begins where it ends
+abbrev pub joined : DS.Span → DS.Span → DS.Span
+joined a b = record { from = a .from; to = b .to; first = a .first; last = b .last }
 
--- a part of a bucket holds at most as much
-pub content-grows : (d : DD.Directions) (ds s plan : List ℕ) (from′ from to to′ first′ first last last′ : ℕ) → from′ ≤ from → from ≤ to → to ≤ to′ → first′ ≤ first → first ≤ last → last ≤ last′ → (y : List ℕ) (j : ℕ) → contentOver d ds s plan from to first last y j ≤ contentOver d ds s plan from′ to′ first′ last′ y j
-content-grows d ds s plan from′ from to to′ first′ first last last′ a b c e f g y j =
-    let front = content-split d ds s plan from′ from to a b y j first′ first last e f in
-    let whole = content-split d ds s plan from′ to to′ (omega arith) c y j first′ last last′ (omega arith) g in
-    omega (arith, front, whole)
+-- two spans that follow each other hold what they hold together
+pub content-split :
+    (d : DD.Directions) (ds s plan : List ℕ) (a b : DS.Span) → Ranged a → Ranged b → a .to ≡ b .from
+    → a .last ≡ b .first → (y : List ℕ) (j : ℕ)
+    → contentOver d ds s plan a y j + contentOver d ds s plan b y j ≡ contentOver d ds s plan (joined a b) y j
+content-split d ds s plan a b u w e f y j =
+    let records = records-split d ds s plan (a .from) (a .to) (b .to) (u .records) (omega (arith, w .records)) y j in
+    let received = received-split (widthOf d) plan (a .first) (a .last) (b .last) (u .children) (omega (arith, w .children)) y j in
+    rw (← e, ← f) (omega (arith, records, received))
+
+-- what begins at the same place and ends earlier holds at most as much
+pub content-grows :
+    (d : DD.Directions) (ds s plan : List ℕ) (a : DS.Span) (to last : ℕ) → Ranged a → a .to ≤ to → a .last ≤ last
+    → (y : List ℕ) (j : ℕ)
+    → contentOver d ds s plan a y j
+    ≤ contentOver d ds s plan (record { from = a .from; to = to; first = a .first; last = last }) y j
+content-grows d ds s plan a to last u g h y j =
+    let records = records-split d ds s plan (a .from) (a .to) to (u .records) g y j in
+    let received = received-split (widthOf d) plan (a .first) (a .last) last (u .children) h y j in
+    omega (arith, records, received)

@@ -19,6 +19,7 @@ use Rattle.costs.specs.Entries.{tableAt}
 use Rattle.groups.specs.Groups.{tablesOver}
 use Rattle.buckets.specs.Bounds.{placesOver}
 use Rattle.buckets.specs.Adding.{RecordAdded, Blank, Totalled}
+use Rattle.buckets.specs.declared.Span as DS
 
 -- f's cost was added to objective `own` of each value below a
 pub record AddingRecord (own : ℕ) (f : ℕ → ℕ) (before : List ℕ) (a : ℕ) (totals : List ℕ) : Type 0 where
@@ -77,16 +78,22 @@ total-none : (o : ℕ) (f : Table → ℕ) (ds s plan : List ℕ) (i to : ℕ) �
 unfolding total tablesOver
 total-none o f ds s plan i to h = let none : to - i ≡ 0 = omega arith in rw none refl
 
--- records in the plan, those from number i on left
-pub record Totalling (ds s plan : List ℕ) (from to v : ℕ) (x : List ℕ) (i : ℕ) (totals : List ℕ) : Type 0 where
-  pub behind : from ≤ i
-  pub ahead : i ≤ to
+-- a span's records, those from number i on left
+pub record Totalling (ds s plan : List ℕ) (span : DS.Span) (v : ℕ) (x : List ℕ) (i : ℕ) (totals : List ℕ)
+    : Type 0 where
+  pub behind : span .from ≤ i
+  pub ahead : i ≤ span .to
   pub long : 32 ≤ length totals
-  pub sums : (a o : ℕ) → a < getD ds v 0 → o < 4 → getD totals (4 * a + o) 0 + total o (costOf ds (set x v a)) (tablesOver ds s (placesOver plan i to)) ≡ total o (costOf ds (set x v a)) (tablesOver ds s (placesOver plan from to))
-  pub small : (a o : ℕ) → a < getD ds v 0 → o < 4 → getD totals (4 * a + o) 0 + (i - from) ≤ wordEnd * (i - from)
+  pub sums : (a o : ℕ) → a < getD ds v 0 → o < 4
+      → getD totals (4 * a + o) 0 + total o (costOf ds (set x v a)) (tablesOver ds s (placesOver plan i (span .to)))
+      ≡ total o (costOf ds (set x v a)) (tablesOver ds s (placesOver plan (span .from) (span .to)))
+  pub small : (a o : ℕ) → a < getD ds v 0 → o < 4
+      → getD totals (4 * a + o) 0 + (i - span .from) ≤ wordEnd * (i - span .from)
 
-pub totalling-start : (ds s plan : List ℕ) (from to v : ℕ) (x totals : List ℕ) → from ≤ to → 32 ≤ length totals → Blank totals → Totalling ds s plan from to v x from totals
-totalling-start ds s plan from to v x totals h long blank =
+pub totalling-start :
+    (ds s plan : List ℕ) (span : DS.Span) (v : ℕ) (x totals : List ℕ) → span .from ≤ span .to → 32 ≤ length totals
+    → Blank totals → Totalling ds s plan span v x (span .from) totals
+totalling-start ds s plan span v x totals h long blank =
     record {
       behind = omega arith;
       ahead = h;
@@ -95,16 +102,25 @@ totalling-start ds s plan from to v x totals h long blank =
       small = λ a o k l. omega (arith, blank (4 * a + o));
     }
 
-module _ {ds s plan : List ℕ} {from to v : ℕ} {x : List ℕ} {i : ℕ} {totals : List ℕ} (u : Totalling ds s plan from to v x i totals) (few : to ≤ maxTables) where
-  pub totalling-end : to ≤ i → Totalled ds s plan from to v x totals
-  totalling-end h = λ a o k l. (omega (arith, u .sums a o k l, total-none o (costOf ds (set x v a)) ds s plan i to h), omega (arith, u .behind, u .ahead, u .small a o k l))
+module _
+    {ds s plan : List ℕ} {span : DS.Span} {v : ℕ} {x : List ℕ} {i : ℕ} {totals : List ℕ}
+    (u : Totalling ds s plan span v x i totals) (few : span .to ≤ maxTables)
+  where
+    pub totalling-end : span .to ≤ i → Totalled ds s plan span v x totals
+    totalling-end h = λ a o k l.
+        let none = total-none o (costOf ds (set x v a)) ds s plan i (span .to) h in
+        (omega (arith, u .sums a o k l, none), omega (arith, u .behind, u .ahead, u .small a o k l))
 
-  pub totalling-next : i < to → to ≤ length plan → (totals′ : List ℕ) → length totals′ ≡ length totals → RecordAdded ds s (getD plan i 0) v x totals totals′ → Totalling ds s plan from to v x (i + 1) totals′
-  totalling-next more inside totals′ same next =
-      record {
-        behind = omega (arith, u .behind);
-        ahead = omega arith;
-        long = omega (arith, u .long);
-        sums = λ a o k l. omega (arith, u .sums a o k l, next a o k l .0, total-next o (costOf ds (set x v a)) ds s plan i to more inside);
-        small = λ a o k l. omega (arith, u .behind, u .small a o k l, next a o k l .1);
-      }
+    pub totalling-next :
+        i < span .to → span .to ≤ length plan → (totals′ : List ℕ) → length totals′ ≡ length totals
+        → RecordAdded ds s (getD plan i 0) v x totals totals′ → Totalling ds s plan span v x (i + 1) totals′
+    totalling-next more inside totals′ same next =
+        record {
+          behind = omega (arith, u .behind);
+          ahead = omega arith;
+          long = omega (arith, u .long);
+          sums = λ a o k l.
+              let one = total-next o (costOf ds (set x v a)) ds s plan i (span .to) more inside in
+              omega (arith, u .sums a o k l, next a o k l .0, one);
+          small = λ a o k l. omega (arith, u .behind, u .small a o k l, next a o k l .1);
+        }

@@ -15,7 +15,9 @@ use Rattle.directions.specs.declared.Directions as DD
 use Rattle.buckets.specs.Places.{maxMessages, fieldIn}
 use Rattle.buckets.specs.Messages.{messageEntry, receivedOver}
 use Rattle.buckets.specs.Bounds.{placesOver}
-use Rattle.buckets.specs.declared.Run as DR
+use Rattle.buckets.specs.declared.Progression as DP
+use Rattle.buckets.specs.declared.Span as DS
+use Rattle.buckets.specs.declared.Totals as DT
 
 -- what is added to stays below this, and so does every place that is read
 abbrev pub addEnd : ℕ
@@ -26,19 +28,19 @@ abbrev pub messageStart : ℕ → List ℕ → ℕ → List ℕ → ℕ
 messageStart w plan g y = fieldIn plan g 0 + w * messageEntry plan g y
 
 -- the variable u's value, times t, as the variable v runs through its values
-pub record TermSays (u t v : ℕ) (x : List ℕ) (r : DR.Run) : Type 0 where
+pub record TermSays (u t v : ℕ) (x : List ℕ) (r : DP.Progression) : Type 0 where
   pub term : (a : ℕ) → getD (set x v a) u 0 * t ≡ r .first + a * r .stride
   pub low : r .first ≤ 255 * t
   pub flat : r .stride ≤ t
 
 -- the start of message g, as v runs through its values
-pub record MessageSays (w : ℕ) (plan : List ℕ) (g v : ℕ) (x : List ℕ) (r : DR.Run) : Type 0 where
+pub record MessageSays (w : ℕ) (plan : List ℕ) (g v : ℕ) (x : List ℕ) (r : DP.Progression) : Type 0 where
   pub start : (a : ℕ) → messageStart w plan g (set x v a) ≡ r .first + a * r .stride
   pub low : r .first < 35184372088832
   pub flat : r .stride < 137438953472
 
 -- the entry of the record at `at`, as v runs through its values: it is in the table
-abbrev pub EntrySays : List ℕ → List ℕ → ℕ → ℕ → List ℕ → DR.Run → Type 0
+abbrev pub EntrySays : (ds s : List ℕ) (at v : ℕ) (x : List ℕ) (r : DP.Progression) → Type 0
 EntrySays ds s at v x r =
     (a : ℕ) → a < getD ds v 0
     → (entryFrom 0 ds (scopeAt s at) (set x v a) ≡ r .first + a * r .stride)
@@ -66,14 +68,14 @@ abbrev pub RowsAdded : ℕ → (ℕ → ℕ → ℕ) → List ℕ → List ℕ �
 RowsAdded size f before after =
     (a j : ℕ) → a < size → j < 8 → getD after (8 * a + j) 0 ≡ getD before (8 * a + j) 0 + f a j
 
--- the messages in some slots were added to the rows of v's values
-pub record Received (w : ℕ) (plan : List ℕ) (first last v size : ℕ) (x before after : List ℕ) : Type 0 where
-  pub sums : RowsAdded size (λ a j. receivedOver w plan first last (set x v a) j) before after
+-- the messages in a span's slots were added to the rows of v's values
+pub record Received (w : ℕ) (plan : List ℕ) (span : DS.Span) (v size : ℕ) (x before after : List ℕ) : Type 0 where
+  pub sums : RowsAdded size (λ a j. receivedOver w plan (span .first) (span .last) (set x v a) j) before after
   pub small : (a j : ℕ) → a < size → j < 8
       → getD after (8 * a + j) 0 ≤ getD before (8 * a + j) 0 + wordEnd * maxMessages
 
 -- four totals for each value of v: the record at `at` was added to its objective's
-abbrev pub RecordAdded : List ℕ → List ℕ → ℕ → ℕ → List ℕ → List ℕ → List ℕ → Type 0
+abbrev pub RecordAdded : (ds s : List ℕ) (at v : ℕ) (x before after : List ℕ) → Type 0
 RecordAdded ds s at v x before after =
     (a o : ℕ) → a < getD ds v 0 → o < 4
     → (getD after (4 * a + o) 0
@@ -84,17 +86,26 @@ RecordAdded ds s at v x before after =
 abbrev pub Blank : List ℕ → Type 0
 Blank xs = (i : ℕ) → getD xs i 0 ≡ 0
 
--- the totals of the records from number `from` to below `to`
-abbrev pub Totalled : List ℕ → List ℕ → List ℕ → ℕ → ℕ → ℕ → List ℕ → List ℕ → Type 0
-Totalled ds s plan from to v x t =
+-- the totals of a span's records
+abbrev pub Totalled : (ds s plan : List ℕ) (span : DS.Span) (v : ℕ) (x t : List ℕ) → Type 0
+Totalled ds s plan span v x t =
     (a o : ℕ) → a < getD ds v 0 → o < 4
-    → (getD t (4 * a + o) 0 ≡ total o (costOf ds (set x v a)) (tablesOver ds s (placesOver plan from to)))
+    → (getD t (4 * a + o) 0
+    ≡ total o (costOf ds (set x v a)) (tablesOver ds s (placesOver plan (span .from) (span .to))))
     × (getD t (4 * a + o) 0 < sumEnd)
 
+-- four costs that are sums of a problem's costs
+pub record Small (t : DT.Totals) : Type 0 where
+  pub one : t .one < sumEnd
+  pub two : t .two < sumEnd
+  pub three : t .three < sumEnd
+  pub four : t .four < sumEnd
+
 -- sum i of four costs, by its row of a table of weights
-abbrev pub fourSum : List ℕ → ℕ → ℕ → ℕ → ℕ → ℕ → ℕ
-fourSum ws a b c e i =
-    getD ws (4 * i) 0 * a + getD ws (4 * i + 1) 0 * b + getD ws (4 * i + 2) 0 * c + getD ws (4 * i + 3) 0 * e
+abbrev pub fourSum : List ℕ → DT.Totals → ℕ → ℕ
+fourSum ws t i =
+    getD ws (4 * i) 0 * t .one + getD ws (4 * i + 1) 0 * t .two
+    + getD ws (4 * i + 2) 0 * t .three + getD ws (4 * i + 3) 0 * t .four
 
 -- the totals of each value in every direction
 abbrev pub Directed : DD.Directions → ℕ → List ℕ → List ℕ → Type 0

@@ -14,6 +14,7 @@ use Rattle.directions.specs.declared.Directions as DD
 use Rattle.buckets.specs.Places.{maxMessages, looseAt, childrenAt}
 use Rattle.buckets.specs.Messages.{sentOver}
 use Rattle.buckets.specs.Bounds.{contentOver}
+use Rattle.buckets.specs.declared.Span as DS
 
 -- numbers in rows stay below this: a direction of costs and 120 numbers of 32 bits
 abbrev pub contentEnd : ℕ
@@ -32,21 +33,21 @@ pub record Planned (d : DD.Directions) (r : ℕ) (ds s plan : List ℕ) : Type 0
   pub whole : All (Whole ds s) (take r plan)
   pub long : looseAt ≤ length plan
 
--- parts of it: records from number `from` to below `to`, slots from `first` to below `last`
-pub record Ranged (r from to first last : ℕ) : Type 0 where
-  pub records : from ≤ to
-  pub records-end : to ≤ r
-  pub children : first ≤ last
-  pub children-end : last ≤ maxMessages
+-- a span goes upwards, and there are such slots
+pub record Ranged (span : DS.Span) : Type 0 where
+  pub records : span .from ≤ span .to
+  pub children : span .first ≤ span .last
+  pub children-end : span .last ≤ maxMessages
 
--- rows of eight numbers, one for each value of the variable v: what the records and the received messages hold at the
--- choice x with that value
-abbrev pub Filled : DD.Directions → List ℕ → List ℕ → List ℕ → ℕ → ℕ → ℕ → ℕ → ℕ → List ℕ → List ℕ → Type 0
-Filled d ds s plan from to first last v x rows =
+-- rows of eight numbers, one for each value of the variable v: what the span's records and received messages hold at
+-- the choice x with that value
+abbrev pub Filled :
+    (d : DD.Directions) (ds s plan : List ℕ) (span : DS.Span) (v : ℕ) (x rows : List ℕ) → Type 0
+Filled d ds s plan span v x rows =
     (a j : ℕ) → a < getD ds v 0 → j < widthOf d
-    → (getD rows (8 * a + j) 0 ≡ contentOver d ds s plan from to first last (set x v a) j)
+    → (getD rows (8 * a + j) 0 ≡ contentOver d ds s plan span (set x v a) j)
     × (getD rows (8 * a + j) 0 < contentEnd)
 
 -- the messages from number `from` to below `to` at a choice, in each of w directions
-abbrev pub Summed : ℕ → List ℕ → ℕ → ℕ → List ℕ → List ℕ → Type 0
+abbrev pub Summed : (w : ℕ) (plan : List ℕ) (from to : ℕ) (y t : List ℕ) → Type 0
 Summed w plan from to y t = (j : ℕ) → j < w → (getD t j 0 ≡ sentOver w plan from to y j) × (getD t j 0 < sentEnd)

@@ -24,11 +24,11 @@ abbrev pub messageAt : ℕ → List ℕ → List ℕ → ℕ → ℕ → ℕ
 messageAt w plan y j g = getD plan (fieldIn plan g 0 + w * messageEntry plan g y + j) 0
 
 -- the messages from number `from` to below `to`, and those in these slots
-abbrev pub sentOver : ℕ → List ℕ → ℕ → ℕ → List ℕ → ℕ → ℕ
+abbrev pub sentOver : (w : ℕ) (plan : List ℕ) (from to : ℕ) (y : List ℕ) (j : ℕ) → ℕ
 sentOver w plan from to y j = sumOver (messageAt w plan y j) (countFrom from (to - from))
 
 abbrev pub childrenOver : List ℕ → ℕ → ℕ → List ℕ
 childrenOver plan from to = take (to - from) (drop (childrenAt + from) plan)
 
-abbrev pub receivedOver : ℕ → List ℕ → ℕ → ℕ → List ℕ → ℕ → ℕ
+abbrev pub receivedOver : (w : ℕ) (plan : List ℕ) (from to : ℕ) (y : List ℕ) (j : ℕ) → ℕ
 receivedOver w plan from to y j = sumOver (messageAt w plan y j) (childrenOver plan from to)

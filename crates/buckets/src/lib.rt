@@ -17,7 +17,7 @@ ghost use Rattle.buckets.specs.Messages.{messageAt};
 ghost use Rattle.buckets.specs.Content.{Planned, Ranged, Filled, Summed};
 ghost use Rattle.buckets.specs.Adding.{addEnd, messageStart, TermSays, MessageSays, EntrySays, PartFilled};
 ghost use Rattle.buckets.specs.Adding.{RowFilled, RowAdded, Addable, RowsAdded, Received, RecordAdded, Blank};
-ghost use Rattle.buckets.specs.Adding.{Totalled, fourSum, Directed};
+ghost use Rattle.buckets.specs.Adding.{Totalled, Small, fourSum, Directed};
 
 // Where things stand in a plan, as specs/Places says.
 pub const CHILDREN_AT: usize = 256;
@@ -44,9 +44,26 @@ pub const NUMBERS_AT: usize = 1339;
 pub const MAX_MESSAGES: usize = 120;
 
 // A number that grows evenly with a variable's value: `first` at value 0, and `stride` more at each next one.
-pub struct Run {
+pub struct Progression {
     pub first: usize,
     pub stride: usize,
+}
+
+// A part of a bucket, or the whole: the records from number `from` to below `to`, and the messages in slots `first` to
+// below `last`.
+pub struct Span {
+    pub from: usize,
+    pub to: usize,
+    pub first: usize,
+    pub last: usize,
+}
+
+// What a value costs in each of four objectives.
+struct Totals {
+    one: u64,
+    two: u64,
+    three: u64,
+    four: u64,
 }
 
 // The value of variable `v`, or 0 where there is none.
@@ -70,24 +87,24 @@ pub fn number_at(plan: &[u32], i: usize) -> u64
 }
 
 // The value of variable `u`, times `t`, as `v` runs through its values.
-fn term_of(u: usize, t: usize, v: usize, choice: &[u8]) -> Run
+fn term_of(u: usize, t: usize, v: usize, choice: &[u8]) -> Progression
     requires { ⌜ (t < wordEnd) × (v < length (now choice)) ⌝ }
     ensures { λ r. ⌜ TermSays u t v (now (choice .entry)) r ⌝ }
 {
     if u == v {
-        return Run {
+        return Progression {
             first: 0,
             stride: t,
         };
     }
-    Run {
+    Progression {
         first: value_at(choice, u) * t,
         stride: 0,
     }
 }
 
 // Where the numbers of message `g` start, as `v` runs through its values.
-fn message_run(g: usize, v: usize, choice: &[u8], width: usize, plan: &[u32]) -> Run
+fn message_run(g: usize, v: usize, choice: &[u8], width: usize, plan: &[u32]) -> Progression
     requires { ⌜ (g < wordEnd) × (width ≤ 8) × (v < length (now choice)) ⌝ }
     ensures { λ r. ⌜ MessageSays width (now (plan .entry)) g v (now (choice .entry)) r ⌝ }
 {
@@ -99,7 +116,7 @@ fn message_run(g: usize, v: usize, choice: &[u8], width: usize, plan: &[u32]) ->
     let two_stride = number_at(plan, at + 4) as usize;
     let a = term_of(one, one_stride, v, choice);
     let b = term_of(two, two_stride, v, choice);
-    Run {
+    Progression {
         first: start + width * (a.first + b.first),
         stride: width * (a.stride + b.stride),
     }
@@ -184,10 +201,9 @@ fn add_message(
     }
 }
 
-// Adds the messages in slots `first` to below `last`.
+// Adds the messages in the slots of a span.
 fn add_received(
-    first: usize,
-    last: usize,
+    span: Span,
     v: usize,
     size: usize,
     choice: &[u8],
@@ -195,14 +211,14 @@ fn add_received(
     plan: &[u32],
     rows: &mut [u64],
 )
-    requires { ⌜ (first ≤ last) × (last ≤ maxMessages) × (looseAt ≤ length (now plan)) × (v < length (now choice))
-        × (size ≤ maxDomain) × (width ≤ 8) × (64 ≤ length (now rows))
+    requires { ⌜ (span .first ≤ span .last) × (span .last ≤ maxMessages) × (looseAt ≤ length (now plan))
+        × (v < length (now choice)) × (size ≤ maxDomain) × (width ≤ 8) × (64 ≤ length (now rows))
         × ((a j : ℕ) → a < size → j < 8 → getD (now rows) (8 * a + j) 0 < directionEnd) ⌝ }
-    ensures { λ _. ⌜ Received width (now (plan .entry)) first last v size (now (choice .entry))
+    ensures { λ _. ⌜ Received width (now (plan .entry)) span v size (now (choice .entry))
         (now (rows .entry)) (now (rows .exit)) ⌝ }
 {
-    let mut i = first;
-    while i < last {
+    let mut i = span.first;
+    while i < span.last {
         let g = plan[CHILDREN_AT + i] as usize;
         add_message(g, v, size, choice, width, plan, rows);
         i += 1;
@@ -210,7 +226,7 @@ fn add_received(
 }
 
 // Which entry the record at `at` has, as `v` runs through its values.
-fn entry_run(s: &[u8], at: usize, v: usize, sizes: &[u8], choice: &[u8]) -> Run
+fn entry_run(s: &[u8], at: usize, v: usize, sizes: &[u8], choice: &[u8]) -> Progression
     requires { ⌜ Whole (now sizes) (now s) at × All DomainSize (now sizes) × (v < length (now sizes))
         × (isChoice (now sizes) (now choice) ≡ true) ⌝ }
     ensures { λ r. ⌜ EntrySays (now (sizes .entry)) (now (s .entry)) at v (now (choice .entry)) r ⌝ }
@@ -227,7 +243,7 @@ fn entry_run(s: &[u8], at: usize, v: usize, sizes: &[u8], choice: &[u8]) -> Run
         stride = stride * d + t.stride;
         k += 1;
     }
-    Run { first, stride }
+    Progression { first, stride }
 }
 
 // Adds the record at `at` to the totals of each value of `v`: four to a value.
@@ -252,26 +268,25 @@ fn add_record(s: &[u8], at: usize, v: usize, sizes: &[u8], choice: &[u8], totals
     }
 }
 
-// Fills in what the records from number `from` to below `to` cost in each objective, for each value of `v`:
-// four totals to a value.
+// Fills in what the records of a span cost in each objective, for each value of `v`: four totals to a value.
 fn fill_totals(
     s: &[u8],
     sizes: &[u8],
-    from: usize,
-    to: usize,
+    span: Span,
     v: usize,
     choice: &[u8],
     plan: &[u32],
     totals: &mut [u64],
 )
-    requires { ⌜ All DomainSize (now sizes) × (from ≤ to) × (to ≤ maxTables) × (to ≤ length (now plan))
-        × ((i : ℕ) → i < to → Whole (now sizes) (now s) (getD (now plan) i 0)) × (v < length (now sizes))
+    requires { ⌜ All DomainSize (now sizes) × (span .from ≤ span .to) × (span .to ≤ maxTables)
+        × (span .to ≤ length (now plan))
+        × ((i : ℕ) → i < span .to → Whole (now sizes) (now s) (getD (now plan) i 0)) × (v < length (now sizes))
         × (isChoice (now sizes) (now choice) ≡ true) × (32 ≤ length (now totals)) × Blank (now totals) ⌝ }
-    ensures { λ _. ⌜ Totalled (now (sizes .entry)) (now (s .entry)) (now (plan .entry)) from to v (now (choice .entry))
+    ensures { λ _. ⌜ Totalled (now (sizes .entry)) (now (s .entry)) (now (plan .entry)) span v (now (choice .entry))
         (now (totals .exit)) ⌝ }
 {
-    let mut i = from;
-    while i < to {
+    let mut i = span.from;
+    while i < span.to {
         let at = plan[i] as usize;
         add_record(s, at, v, sizes, choice, totals);
         i += 1;
@@ -289,34 +304,26 @@ fn counted(o: usize, p: usize, cost: u64) -> u64
 }
 
 // Sum `i` of four costs.
-fn sum_at(i: usize, weights: &[u64], a: u64, b: u64, c: u64, e: u64) -> u64
-    requires { ⌜ (4 * i + 4 ≤ length (now weights)) × All (λ w. w ≤ maxWeight) (now weights) × (a < sumEnd)
-        × (b < sumEnd) × (c < sumEnd) × (e < sumEnd) ⌝ }
-    ensures { λ r. ⌜ r ≡ fourSum (now (weights .entry)) a b c e i ⌝ }
+fn sum_at(i: usize, weights: &[u64], t: Totals) -> u64
+    requires { ⌜ (4 * i + 4 ≤ length (now weights)) × All (λ w. w ≤ maxWeight) (now weights) × Small t ⌝ }
+    ensures { λ r. ⌜ r ≡ fourSum (now (weights .entry)) t i ⌝ }
 {
     let at = 4 * i;
-    weights[at] * a + weights[at + 1] * b + weights[at + 2] * c + weights[at + 3] * e
+    weights[at] * t.one
+        + weights[at + 1] * t.two
+        + weights[at + 2] * t.three
+        + weights[at + 3] * t.four
 }
 
 // Writes the sums of four costs from `at` on.
-fn put_sums(
-    at: usize,
-    sums: usize,
-    weights: &[u64],
-    a: u64,
-    b: u64,
-    c: u64,
-    e: u64,
-    rows: &mut [u64],
-)
-    requires { ⌜ (4 * sums ≤ length (now weights)) × All (λ w. w ≤ maxWeight) (now weights) × (a < sumEnd)
-        × (b < sumEnd) × (c < sumEnd) × (e < sumEnd) × (at + sums ≤ length (now rows)) ⌝ }
-    ensures { λ _. ⌜ PartFilled (fourSum (now (weights .entry)) a b c e) at sums
-        (now (rows .entry)) (now (rows .exit)) ⌝ }
+fn put_sums(at: usize, sums: usize, weights: &[u64], t: Totals, rows: &mut [u64])
+    requires { ⌜ (4 * sums ≤ length (now weights)) × All (λ w. w ≤ maxWeight) (now weights) × Small t
+        × (at + sums ≤ length (now rows)) ⌝ }
+    ensures { λ _. ⌜ PartFilled (fourSum (now (weights .entry)) t) at sums (now (rows .entry)) (now (rows .exit)) ⌝ }
 {
     let mut i: usize = 0;
     while i < sums {
-        rows[at + i] = sum_at(i, weights, a, b, c, e);
+        rows[at + i] = sum_at(i, weights, t);
         i += 1;
     }
 }
@@ -349,7 +356,13 @@ fn put_directions(
     rows[at + 1] = two;
     rows[at + 2] = three;
     rows[at + 3] = four;
-    put_sums(at + p, sums, weights, one, two, three, four, rows);
+    let t = Totals {
+        one,
+        two,
+        three,
+        four,
+    };
+    put_sums(at + p, sums, weights, t, rows);
 }
 
 // The totals of each value in every direction, in rows of eight.
@@ -369,34 +382,29 @@ fn put_rows(totals: &[u64], size: usize, d: directions::Directions, rows: &mut [
     }
 }
 
-// What the records from number `from` to below `to` and the messages received in slots `first` to below `last` hold
-// together, for each value of the variable `v` and in every direction: rows of eight numbers. The other variables'
-// values are those of `choice`.
+// What the records and the received messages of a span hold together, for each value of the variable `v` and in every
+// direction: rows of eight numbers. The other variables' values are those of `choice`.
 pub fn content(
     s: &[u8],
     sizes: &[u8],
-    r: usize,
-    from: usize,
-    to: usize,
-    first: usize,
-    last: usize,
+    span: Span,
     v: usize,
     choice: &[u8],
     d: directions::Directions,
     plan: &[u32],
 ) -> [u64; 64]
-    requires { ⌜ Planned d r (now sizes) (now s) (now plan) × Ranged r from to first last × (v < length (now sizes))
+    requires { ⌜ Planned d (span .to) (now sizes) (now s) (now plan) × Ranged span × (v < length (now sizes))
         × (isChoice (now sizes) (now choice) ≡ true) ⌝ }
-    ensures { λ rows. ⌜ Filled d (now (sizes .entry)) (now (s .entry)) (now (plan .entry)) from to first last v
+    ensures { λ rows. ⌜ Filled d (now (sizes .entry)) (now (s .entry)) (now (plan .entry)) span v
         (now (choice .entry)) rows ⌝ }
 {
     let size = sizes[v] as usize;
     let mut totals = [0u64; 32];
-    fill_totals(s, sizes, from, to, v, choice, plan, &mut totals);
+    fill_totals(s, sizes, span, v, choice, plan, &mut totals);
     let mut rows = [0u64; 64];
     put_rows(&totals, size, d, &mut rows);
     let width = d.objectives + d.sums;
-    add_received(first, last, v, size, choice, width, plan, &mut rows);
+    add_received(span, v, size, choice, width, plan, &mut rows);
     rows
 }
 

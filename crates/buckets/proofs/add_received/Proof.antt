@@ -6,13 +6,13 @@ use Rattle.buckets.proofs.add_received.Statement.{statement}
 use Rattle.buckets.proofs.add_received.Tie as tie
 
 abbrev Inv-loop : tie.InvT-loop
-Inv-loop first last v size choice width plan rows₀ i₀ rows i = Receiving width plan first last v size choice rows₀ i rows
+Inv-loop span v size choice width plan rows₀ i₀ rows i = Receiving width plan span v size choice rows₀ i rows
 
 abbrev μ-loop : tie.MeasureT-loop
-μ-loop first last v size choice width plan rows₀ i₀ rows i = last - i
+μ-loop span v size choice width plan rows₀ i₀ rows i = span .last - i
 
 loop-holds : tie.Need-loop-holds Inv-loop μ-loop
-loop-holds c = receiving-start _ _ _ _ _ _ _ _ (c .before .before .before .pre .0)
+loop-holds c = receiving-start _ _ _ _ _ _ _ (c .before .before .before .pre .0)
 
 add-g : tie.Need-add-g Inv-loop μ-loop
 add-g c = omega arith
@@ -24,14 +24,23 @@ shared-slice-read-g : tie.Need-shared-slice-read-g Inv-loop μ-loop
 shared-slice-read-g c = omega arith
 
 cast-g : tie.Need-cast-g Inv-loop μ-loop
-cast-g c = omega (arith, c .shared-slice-known3 .given (256 + c .before .before .loop .i))
+cast-g c = omega (arith, c .shared-slice-known3 .given (256 + c .before .before .before .loop .i))
 
 add-message-requires : tie.Need-add-message-requires Inv-loop μ-loop
 add-message-requires c κs =
-    let s = c .before .before .before .before .before .before .before in
-    let w = c .before .before .before .loop in
-    let u = w .inv in
-    (omega (arith, c .before .shared-slice-known3 .given (256 + w .i)), s .pre .3, s .pre .4, s .pre .5, (omega (arith, u .long, s .pre .6), λ a j h l. omega (arith, s .pre .1, u .behind, u .ahead, u .small a j h l, s .pre .7 a j h l)))
+    let at-loop = c .before .before .before .before in
+    let q = at-loop .before .before .before .before .pre in
+    let w = at-loop .loop in
+    let u = w .inv in (
+      omega (arith, c .before .shared-slice-known3 .given (256 + w .i)),
+      q .3,
+      q .4,
+      q .5,
+      (
+        omega (arith, u .long, q .6),
+        λ a j h l. omega (arith, q .1, u .behind, u .ahead, u .small a j h l, q .7 a j h l),
+      ),
+    )
 
 add-i : tie.Need-add-i Inv-loop μ-loop
 add-i c = omega arith
@@ -41,16 +50,22 @@ loop-less c = omega arith
 
 loop-again : tie.Need-loop-again Inv-loop μ-loop
 loop-again c =
-    let s = c .before .before .before .before .before .before .before .before .before .before in
-    let w = c .before .before .before .before .before .before .loop in
-    let r = c .before .before .add-message in
-    receiving-next (w .inv) (s .pre .1) (omega arith) (s .pre .2) (λ k. omega (arith, c .before .before .before .before .before .before .before .before .shared-slice-known2 .given k)) _ (r .kept .1 .1 .1 .1 .1 .1 .0) (r .ensures)
+    let added = c .before .before in
+    let at-arg = added .before in
+    let at-loop = at-arg .before .before .before .before in
+    let known = at-loop .before .before in
+    let q = known .before .before .pre in
+    let r = added .add-message in
+    receiving-next (at-loop .loop .inv) (q .1) (omega arith) (q .2)
+    (λ k. omega (arith, known .shared-slice-known2 .given k)) _ (r .kept .1 .1 .1 .1 .1 .1 .0) (r .ensures)
 
 same-length : tie.Need-same-length Inv-loop μ-loop
-same-length c = c .before .loop .inv .long
+same-length c = c .before .before .loop .inv .long
 
 returns : tie.Need-returns Inv-loop μ-loop
-returns c = receiving-end (c .before .loop .inv) (c .before .before .before .before .before .pre .1) (omega arith)
+returns c =
+    let at-loop = c .before .before in
+    receiving-end (at-loop .loop .inv) (at-loop .before .before .before .before .pre .1) (omega arith)
 
 pub add-received-spec : {M : Type 1} → statement M
 add-received-spec =

@@ -20,8 +20,18 @@ slice-aggregate-fill-totals c = search needs
 
 fill-totals-requires : tie.Need-fill-totals-requires
 fill-totals-requires c κs =
-    let q = c .before .before .before .before .before .before .pre in
-    (q .0 .small, q .1 .records, omega (arith, q .0 .few, q .1 .records-end), omega (arith, q .0 .few, q .0 .long, q .1 .records-end), λ i h. planned-whole (q .0) i (omega (arith, q .1 .records-end)), q .2, q .3, omega arith, zeros-at 32)
+    let known = c .before .before in
+    let q = known .before .before .before .before .pre in (
+      q .0 .small,
+      q .1 .records,
+      q .0 .few,
+      omega (arith, q .0 .few, q .0 .long),
+      planned-whole (q .0),
+      q .2,
+      q .3,
+      omega arith,
+      zeros-at 32,
+    )
 
 slice-aggregate-put-rows : tie.Need-slice-aggregate-put-rows
 slice-aggregate-put-rows c = search needs
@@ -31,9 +41,18 @@ slice-aggregate-put-rows-2 c = search needs
 
 put-rows-requires : tie.Need-put-rows-requires
 put-rows-requires c κs =
-    let s = c .before .before .before .before .before .before .before .before .before .before in
-    let t = c .before .before .before .fill-totals in
-    (s .pre .0 .sensible, domain-size (now (s .args .sizes)) (s .pre .0 .small) (s .args .v) (s .pre .2) .1, omega (arith, t .kept .1 .1 .1 .1 .1 .1 .1 .0), λ a o h l. t .ensures a o h l .1, omega arith, zeros-at 64)
+    let filled = c .before .before .before in
+    let known = filled .before .before in
+    let s = known .before .before .before .before .before in
+    let t = filled .fill-totals in
+    let domain = domain-size (now (s .args .sizes)) (s .pre .0 .small) (s .args .v) (s .pre .2) .1 in (
+      s .pre .0 .sensible,
+      domain,
+      omega (arith, t .kept .1 .1 .1 .1 .1 .1 .0),
+      λ a o h l. t .ensures a o h l .1,
+      omega arith,
+      zeros-at 64,
+    )
 
 add-width : tie.Need-add-width
 add-width c = search needs
@@ -43,20 +62,42 @@ slice-aggregate-add-received c = search needs
 
 add-received-requires : tie.Need-add-received-requires
 add-received-requires c κs =
-    let s = c .before .before .before .before .before .before .before .before .before .before .before .before .before .before in
+    let directed = c .before .before .before in
+    let filled = directed .before .before .before .before in
+    let known = filled .before .before in
+    let s = known .before .before .before .before .before in
     let q = s .pre in
-    let t = c .before .before .before .before .before .before .before .fill-totals in
-    let r = c .before .before .before .put-rows in
-    let small = directed-small (q .0) (s .args .from) (s .args .to) (s .args .v) (now (s .args .choice)) (t .last .1 .1 .1 .1 .1 .1 .1 .0) (r .last .1 .1 .1 .0) (q .2) (omega (arith, t .kept .1 .1 .1 .1 .1 .1 .1 .0)) (t .ensures) (r .ensures) in
-    (q .1 .children, q .1 .children-end, q .0 .long, value-exists (now (s .args .sizes)) (now (s .args .choice)) (q .3) (s .args .v) (q .2), domain-size (now (s .args .sizes)) (q .0 .small) (s .args .v) (q .2) .1, planned-width (q .0), omega (arith, r .kept .1 .1 .1 .0), small)
+    let a = s .args in
+    let t = filled .fill-totals in
+    let r = directed .put-rows in
+    let small =
+    directed-small (q .0) (a .span) (a .v) (now (a .choice)) (t .last .1 .1 .1 .1 .1 .1 .0) (r .last .1 .1 .1 .0)
+    (q .2) (omega (arith, t .kept .1 .1 .1 .1 .1 .1 .0)) (t .ensures) (r .ensures) in
+    let exists = value-exists (now (a .sizes)) (now (a .choice)) (q .3) (a .v) (q .2) in
+    let domain = domain-size (now (a .sizes)) (q .0 .small) (a .v) (q .2) .1 in (
+      q .1 .children,
+      q .1 .children-end,
+      q .0 .long,
+      exists,
+      domain,
+      planned-width (q .0),
+      omega (arith, r .kept .1 .1 .1 .0),
+      small,
+    )
 
 returns : tie.Need-returns
 returns c =
-    let s = c .before .before .before .before .before .before .before .before .before .before .before .before .before .before .before .before in
+    let added = c .before in
+    let directed = added .before .before .before .before in
+    let filled = directed .before .before .before .before in
+    let known = filled .before .before in
+    let s = known .before .before .before .before .before in
     let q = s .pre in
-    let t = c .before .before .before .before .before .before .before .before .before .fill-totals in
-    let r = c .before .before .before .before .before .put-rows in
-    content-filled (q .0) (s .args .from) (s .args .to) (s .args .v) (now (s .args .choice)) (t .last .1 .1 .1 .1 .1 .1 .1 .0) (r .last .1 .1 .1 .0) (q .2) (omega (arith, t .kept .1 .1 .1 .1 .1 .1 .1 .0)) (t .ensures) (r .ensures) (s .args .first) (s .args .last) _ (c .before .add-received .ensures)
+    let a = s .args in
+    let t = filled .fill-totals in
+    let r = directed .put-rows in
+    content-filled (q .0) (a .span) (a .v) (now (a .choice)) (t .last .1 .1 .1 .1 .1 .1 .0) (r .last .1 .1 .1 .0)
+    (q .2) (omega (arith, t .kept .1 .1 .1 .1 .1 .1 .0)) (t .ensures) (r .ensures) _ (added .add-received .ensures)
 
 pub content-spec : {M : Type 1} → statement M
 content-spec =

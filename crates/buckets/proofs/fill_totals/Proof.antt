@@ -8,15 +8,17 @@ use Rattle.buckets.proofs.fill_totals.Statement.{statement}
 use Rattle.buckets.proofs.fill_totals.Tie as tie
 
 abbrev Inv-loop : tie.InvT-loop
-Inv-loop s sizes from to v choice plan totals₀ i₀ totals i = Totalling sizes s plan from to v choice i totals × (length totals ≡ length totals₀)
+Inv-loop s sizes span v choice plan totals₀ i₀ totals i =
+    Totalling sizes s plan span v choice i totals × (length totals ≡ length totals₀)
 
 abbrev μ-loop : tie.MeasureT-loop
-μ-loop s sizes from to v choice plan totals₀ i₀ totals i = to - i
+μ-loop s sizes span v choice plan totals₀ i₀ totals i = span .to - i
 
 loop-holds : tie.Need-loop-holds Inv-loop μ-loop
 loop-holds c =
-    let q = c .before .before .before .before .before .pre in
-    (totalling-start _ _ _ _ _ _ _ _ (q .1) (q .7) (q .8), refl)
+    let known = c .before .before .before in
+    let q = known .before .before .pre in
+    (totalling-start _ _ _ _ _ _ _ (q .1) (q .7) (q .8), refl)
 
 mul-at : tie.Need-mul-at Inv-loop μ-loop
 mul-at c = omega arith
@@ -25,14 +27,22 @@ shared-slice-read-at : tie.Need-shared-slice-read-at Inv-loop μ-loop
 shared-slice-read-at c = omega arith
 
 cast-at : tie.Need-cast-at Inv-loop μ-loop
-cast-at c = omega (arith, c .shared-slice-known5 .given (c .before .before .loop .i))
+cast-at c = omega (arith, c .shared-slice-known5 .given (c .before .before .before .loop .i))
 
 add-record-requires : tie.Need-add-record-requires Inv-loop μ-loop
 add-record-requires c κs =
-    let q = c .before .before .before .before .before .before .before .before .before .pre in
-    let w = c .before .before .before .loop in
-    let u = w .inv .0 in
-    (q .4 (w .i) (omega arith), q .0, q .5, q .6, u .long, λ a o h l. omega (arith, q .2, u .behind, u .ahead, u .small a o h l))
+    let at-loop = c .before .before .before .before in
+    let known = at-loop .before .before .before .before in
+    let q = known .before .before .pre in
+    let w = at-loop .loop in
+    let u = w .inv .0 in (
+      q .4 (w .i) (omega arith),
+      q .0,
+      q .5,
+      q .6,
+      u .long,
+      λ a o h l. omega (arith, q .2, u .behind, u .ahead, u .small a o h l),
+    )
 
 add-i : tie.Need-add-i Inv-loop μ-loop
 add-i c = omega arith
@@ -42,17 +52,24 @@ loop-less c = omega arith
 
 loop-again : tie.Need-loop-again Inv-loop μ-loop
 loop-again c =
-    let q = c .before .before .before .before .before .before .before .before .before .before .before .before .pre in
-    let w = c .before .before .before .before .before .before .loop in
-    let r = c .before .before .add-record in
+    let added = c .before .before in
+    let at-arg = added .before in
+    let at-loop = at-arg .before .before .before .before in
+    let known = at-loop .before .before .before .before in
+    let q = known .before .before .pre in
+    let w = at-loop .loop in
+    let r = added .add-record in
     let kept = r .kept .1 .1 .1 .1 .1 .0 in
     (totalling-next (w .inv .0) (q .2) (omega arith) (q .3) _ kept (r .ensures), kept ∙ w .inv .1)
 
 same-length : tie.Need-same-length Inv-loop μ-loop
-same-length c = c .before .loop .inv .1
+same-length c = c .before .before .loop .inv .1
 
 returns : tie.Need-returns Inv-loop μ-loop
-returns c = totalling-end (c .before .loop .inv .0) (c .before .before .before .before .before .before .before .pre .2) (omega arith)
+returns c =
+    let at-loop = c .before .before in
+    let known = at-loop .before .before .before .before in
+    totalling-end (at-loop .loop .inv .0) (known .before .before .pre .2) (omega arith)
 
 pub fill-totals-spec : {M : Type 1} → statement M
 fill-totals-spec =

@@ -4,6 +4,7 @@ use native.Mathlib.Omega.{arith}
 use native.Mathlib.Nat.{add-zero}
 use lib.ListN.{length-set}
 use denote.Ref.{now}
+use Rattle.buckets.specs.Adding.{Small}
 use Rattle.buckets.proofs.DirectedRows.{counted-small, value-directed}
 use borrow.Author.Needs.{needs}
 use Rattle.buckets.proofs.put_directions.Statement.{statement}
@@ -98,18 +99,41 @@ add-put-sums c = search needs
 
 put-sums-requires : tie.Need-put-sums-requires
 put-sums-requires c κs =
-    let q = c .before .before .before .before .before .before .before .before .before .before .before .before .pre in
-    let p = c .before .before .before .before .before .before .before .before .before .before .before .before .args .p in
-    (omega (arith, q .3, q .4), q .5, counted-small 0 p _ _ (c .before .before .before .before .before .before .before .counted .ensures) (rw add-zero at (q .1 0 (omega arith))), counted-small 1 p _ _ (c .before .before .before .before .before .counted2 .ensures) (q .1 1 (omega arith)), counted-small 2 p _ _ (c .before .before .before .counted3 .ensures) (q .1 2 (omega arith)), counted-small 3 p _ _ (c .before .counted4 .ensures) (q .1 3 (omega arith)), simp length-set (omega (arith, q)))
+    let fourth = c .before in
+    let third = fourth .before .before in
+    let second = third .before .before in
+    let first = second .before .before in
+    let known = first .before .before in
+    let start = known .before .before .before in
+    let q = start .pre in
+    let p = start .args .p in
+    let small : Small _ =
+    record {
+      one = counted-small 0 p _ _ (first .counted .ensures) (rw add-zero at (q .1 0 (omega arith)));
+      two = counted-small 1 p _ _ (second .counted2 .ensures) (q .1 1 (omega arith));
+      three = counted-small 2 p _ _ (third .counted3 .ensures) (q .1 2 (omega arith));
+      four = counted-small 3 p _ _ (fourth .counted4 .ensures) (q .1 3 (omega arith));
+    } in
+    (omega (arith, q .3, q .4), q .5, small, simp length-set (omega (arith, q)))
 
 same-length : tie.Need-same-length
-same-length c = c .before .before .put-sums .kept .1 .1 .1 .1 .1 .1 .1 .0 ∙ simp length-set
+same-length c = c .before .before .put-sums .kept .1 .1 .1 .1 .0 ∙ simp length-set
 
 returns : tie.Need-returns
 returns c =
-    let s = c .before .before .before .before .before .before .before .before .before .before .before .before .before .before .before in
-    let q = s .pre in
-    value-directed (s .args .p) (s .args .sums) (now (s .args .weights)) (now (s .args .totals)) (s .args .a) (now (s .args .rows)) _ _ _ _ _ (q .2) (q .3) (q .4) (q .0) (q .6) (q .7) (c .before .before .before .before .before .before .before .before .before .before .counted .ensures) (c .before .before .before .before .before .before .before .before .counted2 .ensures) (c .before .before .before .before .before .before .counted3 .ensures) (c .before .before .before .before .counted4 .ensures) (c .before .before .put-sums .ensures)
+    let put = c .before .before in
+    let fourth = put .before .before in
+    let third = fourth .before .before in
+    let second = third .before .before in
+    let first = second .before .before in
+    let known = first .before .before in
+    let start = known .before .before .before in
+    let a = start .args in
+    let q = start .pre in
+    value-directed (a .p) (a .sums) (now (a .weights)) (now (a .totals)) (a .a) (now (a .rows)) _ _
+    (q .2) (q .3) (q .4) (q .0) (q .6) (q .7)
+    (first .counted .ensures) (second .counted2 .ensures) (third .counted3 .ensures) (fourth .counted4 .ensures)
+    (put .put-sums .ensures)
 
 pub put-directions-spec : {M : Type 1} → statement M
 put-directions-spec =

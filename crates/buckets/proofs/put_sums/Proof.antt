@@ -8,10 +8,10 @@ use Rattle.buckets.proofs.put_sums.Statement.{statement}
 use Rattle.buckets.proofs.put_sums.Tie as tie
 
 abbrev Inv-loop : tie.InvT-loop
-Inv-loop at sums weights a b c e rows₀ i₀ rows i = Filling (fourSum weights a b c e) at sums rows₀ i rows
+Inv-loop at sums weights t rows₀ i₀ rows i = Filling (fourSum weights t) at sums rows₀ i rows
 
 abbrev μ-loop : tie.MeasureT-loop
-μ-loop at sums weights a b c e rows₀ i₀ rows i = sums - i
+μ-loop at sums weights t rows₀ i₀ rows i = sums - i
 
 loop-holds : tie.Need-loop-holds Inv-loop μ-loop
 loop-holds c = filling-start _ _ _ _
@@ -19,7 +19,7 @@ loop-holds c = filling-start _ _ _ _
 sum-at-requires : tie.Need-sum-at-requires Inv-loop μ-loop
 sum-at-requires c κs =
     let q = c .before .before .before .before .pre in
-    (omega (arith, q .0), q .1, q .2, q .3, q .4, q .5)
+    (omega (arith, q .0), q .1, q .2)
 
 add-rows : tie.Need-add-rows Inv-loop μ-loop
 add-rows c = omega arith
@@ -28,7 +28,7 @@ mul-rows : tie.Need-mul-rows Inv-loop μ-loop
 mul-rows c = omega arith
 
 slice-write-rows : tie.Need-slice-write-rows Inv-loop μ-loop
-slice-write-rows c = omega (arith, c .before .before .loop .inv .long, c .before .before .before .before .before .pre .6)
+slice-write-rows c = omega (arith, c .before .before .loop .inv .long, c .before .before .before .before .before .pre .3)
 
 add-i : tie.Need-add-i Inv-loop μ-loop
 add-i c = omega arith
@@ -37,7 +37,7 @@ loop-less : tie.Need-loop-less Inv-loop μ-loop
 loop-less c = omega arith
 
 loop-again : tie.Need-loop-again Inv-loop μ-loop
-loop-again c = filling-next (c .before .before .loop .inv) (c .before .before .before .before .before .pre .6) (omega arith) _ (c .sum-at .ensures) _ refl
+loop-again c = filling-next (c .before .before .loop .inv) (c .before .before .before .before .before .pre .3) (omega arith) _ (c .sum-at .ensures) _ refl
 
 same-length : tie.Need-same-length Inv-loop μ-loop
 same-length c = c .before .loop .inv .long

@@ -12,11 +12,18 @@ use Rattle.buckets.proofs.sum_at.Reads as reads
 use Rattle.buckets.proofs.sum_at.Lts as lts
 
 -- the four products
-small : (s : lts.Start reads.Pre reads.Post) → let ws = now (s .args .weights) in let at = 4 * s .args .i in (getD ws at 0 * s .args .a ≤ maxWeight * s .args .a) × (getD ws (at + 1) 0 * s .args .b ≤ maxWeight * s .args .b) × (getD ws (at + 2) 0 * s .args .c ≤ maxWeight * s .args .c) × (getD ws (at + 3) 0 * s .args .e ≤ maxWeight * s .args .e)
+small :
+    (s : lts.Start reads.Pre reads.Post)
+    → let ws = now (s .args .weights) in
+    let at = 4 * s .args .i in
+    let t = s .args .t in
+    (getD ws at 0 * t .one ≤ maxWeight * t .one) × (getD ws (at + 1) 0 * t .two ≤ maxWeight * t .two)
+    × (getD ws (at + 2) 0 * t .three ≤ maxWeight * t .three) × (getD ws (at + 3) 0 * t .four ≤ maxWeight * t .four)
 small s =
     let times = weight-times (now (s .args .weights)) (s .pre .1) in
     let at = 4 * s .args .i in
-    (times at (s .args .a), times (at + 1) (s .args .b), times (at + 2) (s .args .c), times (at + 3) (s .args .e))
+    let t = s .args .t in
+    (times at (t .one), times (at + 1) (t .two), times (at + 2) (t .three), times (at + 3) (t .four))
 
 mul-at : tie.Need-mul-at
 mul-at c = search needs
@@ -28,7 +35,9 @@ shared-slice-read-result : tie.Need-shared-slice-read-result
 shared-slice-read-result c = search needs
 
 mul-result-2 : tie.Need-mul-result-2
-mul-result-2 c = omega (arith, small (c .before), c .before .pre)
+mul-result-2 c =
+    let start = c .before .before in
+    omega (arith, small start, start .pre .2)
 
 add-result : tie.Need-add-result
 add-result c = search needs
@@ -40,10 +49,14 @@ shared-slice-read-result-2 : tie.Need-shared-slice-read-result-2
 shared-slice-read-result-2 c = search needs
 
 mul-result-4 : tie.Need-mul-result-4
-mul-result-4 c = omega (arith, small (c .before .before), c .before .before .pre)
+mul-result-4 c =
+    let start = c .before .before .before .before in
+    omega (arith, small start, start .pre .2)
 
 add-result-2 : tie.Need-add-result-2
-add-result-2 c = omega (arith, small (c .before .before), c .before .before .pre)
+add-result-2 c =
+    let start = c .before .before .before .before in
+    omega (arith, small start, start .pre .2)
 
 add-result-3 : tie.Need-add-result-3
 add-result-3 c = search needs
@@ -55,10 +68,16 @@ shared-slice-read-result-3 : tie.Need-shared-slice-read-result-3
 shared-slice-read-result-3 c = search needs
 
 mul-result-6 : tie.Need-mul-result-6
-mul-result-6 c = omega (arith, small (c .before .before .before), c .before .before .before .pre)
+mul-result-6 c =
+    let second = c .before .before in
+    let start = second .before .before .before .before in
+    omega (arith, small start, start .pre .2)
 
 add-result-4 : tie.Need-add-result-4
-add-result-4 c = omega (arith, small (c .before .before .before), c .before .before .before .pre)
+add-result-4 c =
+    let second = c .before .before in
+    let start = second .before .before .before .before in
+    omega (arith, small start, start .pre .2)
 
 add-result-5 : tie.Need-add-result-5
 add-result-5 c = search needs
@@ -70,10 +89,16 @@ shared-slice-read-result-4 : tie.Need-shared-slice-read-result-4
 shared-slice-read-result-4 c = search needs
 
 mul-result-8 : tie.Need-mul-result-8
-mul-result-8 c = omega (arith, small (c .before .before .before .before), c .before .before .before .before .pre)
+mul-result-8 c =
+    let second = c .before .before .before .before in
+    let start = second .before .before .before .before in
+    omega (arith, small start, start .pre .2)
 
 add-result-6 : tie.Need-add-result-6
-add-result-6 c = omega (arith, small (c .before .before .before .before), c .before .before .before .before .pre)
+add-result-6 c =
+    let second = c .before .before .before .before in
+    let start = second .before .before .before .before in
+    omega (arith, small start, start .pre .2)
 
 returns : tie.Need-returns
 returns c = search needs
