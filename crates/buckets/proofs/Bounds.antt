@@ -26,13 +26,9 @@ use Rattle.buckets.specs.Sound.{ReadsBefore, ScopeBefore, Tested, Sound}
 use Rattle.buckets.specs.Content.{Planned}
 use Rattle.buckets.proofs.Sums.{placesOver-all, childrenOver-all, sent-split, received-split}
 use Rattle.buckets.proofs.Rearranging.{rearranged-costs}
+use Rattle.buckets.proofs.Ends.{record-limit, child-limit, message-limit}
 use Rattle.buckets.proofs.Reading.{sent-reads, content-reads, records-split}
 use Rattle.buckets.proofs.CostLimits.{costs-small}
-
--- what falls as positions rise is largest at the first
-falls : (end : ℕ → ℕ) (n : ℕ) → ((k : ℕ) → k < n → end (k + 1) ≤ end k) → (k : ℕ) → k ≤ n → end k ≤ end 0
-falls end n h zero l = omega arith
-falls end n h (suc k) l = rw (← add-one k) (omega (arith, h k (omega arith), falls end n h k (omega arith)))
 
 -- what agrees at k positions agrees at fewer
 pub agree-fewer : (plan : List ℕ) (k m : ℕ) (x y : List ℕ) → m ≤ k → Agree plan k x y → Agree plan m x y
@@ -71,13 +67,13 @@ module _ (d : DD.Directions) (r : ℕ) (ds s plan y : List ℕ) (j : ℕ) where
 -- the ends of every position lie inside
 module _ {d : DD.Directions} {r : ℕ} {ds s plan : List ℕ} (t : Tested d r ds s plan) where
   pub records-inside : (k : ℕ) → k ≤ length ds → recordEnd plan k ≤ r
-  records-inside k l = omega (arith, falls (recordEnd plan) (length ds) (t .ends .records) k l, t .ends .records-first)
+  records-inside = record-limit (t .ends)
 
   pub children-inside : (k : ℕ) → k ≤ length ds → childEnd plan k ≤ maxMessages
-  children-inside k l = omega (arith, falls (childEnd plan) (length ds) (t .ends .children) k l, t .ends .children-first)
+  children-inside = child-limit (t .ends)
 
   pub messages-inside : (k : ℕ) → k ≤ length ds → messageEnd plan k ≤ maxMessages
-  messages-inside k l = omega (arith, falls (messageEnd plan) (length ds) (t .ends .messages) k l, t .ends .messages-first)
+  messages-inside = message-limit (t .ends)
 
   -- a bucket, what it sends and the bound of the positions before it
   pub content-local : (k : ℕ) → k < length ds → (x y : List ℕ) → length x ≡ length ds → length y ≡ length ds → Agree plan (k + 1) x y → (j : ℕ) → contentAt d ds s plan k x j ≡ contentAt d ds s plan k y j

@@ -1,7 +1,9 @@
 -- The laws of buckets and messages: sums, rearranged lists, what is read, and bounds; and the steps of the functions.
 pub mod Sums
 pub mod Rearranging
+pub mod Ranges
 pub mod Reading
+pub mod Ends
 pub mod CostLimits
 pub mod Bounds
 pub mod RowSteps

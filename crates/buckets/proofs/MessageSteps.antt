@@ -3,22 +3,15 @@ use mathlib.Core.Path.{_≡_, refl}
 use mathlib.Core.List.{List, _∷_}
 use Prim.Native.Nat.{ℕ, suc, _+_, _-_, _*_, _≤_, _<_}
 use native.Mathlib.Omega.{arith}
-use native.Mathlib.Numerals.{add-one}
 use native.Mathlib.Nat.{zero-add}
 use lib.ListN.{length, getD, set, replicate, getD-replicate}
 use Rattle.model.specs.Limits.{wordEnd}
-use Rattle.problem.proofs.Behind.{take-cons}
 use Rattle.buckets.specs.Places.{maxMessages, childrenAt, looseAt}
 use Rattle.buckets.specs.Messages.{sumOver, countFrom, messageAt, sentOver, childrenOver, receivedOver}
 use Rattle.buckets.specs.Content.{Summed}
 use Rattle.buckets.specs.Adding.{messageStart, RowAdded, RowsAdded, Received}
 use Rattle.buckets.specs.declared.Span as DS
-
-children-next : (plan : List ℕ) (i last : ℕ) → i < last → last ≤ maxMessages → looseAt ≤ length plan → childrenOver plan i last ≡ getD plan (childrenAt + i) 0 ∷ childrenOver plan (i + 1) last
-children-next plan i last h few long =
-    let k : last - i - 1 ≡ last - (i + 1) = omega arith in
-    let m : childrenAt + i + 1 ≡ childrenAt + (i + 1) = omega arith in
-    rw (← k, ← m) (take-cons (last - i) (childrenAt + i) plan (omega arith) (omega arith))
+use Rattle.buckets.proofs.Ranges.{children-next, children-none, sent-next, sent-none}
 
 received-next : (w : ℕ) (plan : List ℕ) (i last : ℕ) (y : List ℕ) (j : ℕ) → i < last → last ≤ maxMessages → looseAt ≤ length plan → receivedOver w plan i last y j ≡ messageAt w plan y j (getD plan (childrenAt + i) 0) + receivedOver w plan (i + 1) last y j
 unfolding sumOver
@@ -26,7 +19,7 @@ received-next w plan i last y j h few long = rw (children-next plan i last h few
 
 received-none : (w : ℕ) (plan : List ℕ) (i last : ℕ) (y : List ℕ) (j : ℕ) → last ≤ i → receivedOver w plan i last y j ≡ 0
 unfolding sumOver
-received-none w plan i last y j h = let none : last - i ≡ 0 = omega arith in rw none refl
+received-none w plan i last y j h = rw (children-none plan i last h) refl
 
 -- messages in a span's slots, those from i on left
 pub record Receiving (w : ℕ) (plan : List ℕ) (span : DS.Span) (v size : ℕ) (x before : List ℕ) (i : ℕ) (rows : List ℕ)
@@ -73,20 +66,6 @@ module _
               omega (arith, u .sums a j k l, next a j k l, one);
           small = λ a j k l. omega (arith, u .behind, u .small a j k l, next a j k l, words (start a + j));
         }
-
-pub count-next : (i to : ℕ) → i < to → countFrom i (to - i) ≡ i ∷ countFrom (i + 1) (to - (i + 1))
-unfolding countFrom
-count-next i to h =
-    let k : to - i ≡ suc (to - (i + 1)) = omega arith in
-    rw (k, add-one) refl
-
-sent-next : (w : ℕ) (plan : List ℕ) (i to : ℕ) (y : List ℕ) (j : ℕ) → i < to → sentOver w plan i to y j ≡ messageAt w plan y j i + sentOver w plan (i + 1) to y j
-unfolding sumOver
-sent-next w plan i to y j h = rw (count-next i to h) refl
-
-sent-none : (w : ℕ) (plan : List ℕ) (i to : ℕ) (y : List ℕ) (j : ℕ) → to ≤ i → sentOver w plan i to y j ≡ 0
-unfolding sumOver countFrom
-sent-none w plan i to y j h = let none : to - i ≡ 0 = omega arith in rw none refl
 
 -- messages sent, those from i on left
 pub record Sending (w : ℕ) (plan : List ℕ) (from to : ℕ) (y : List ℕ) (i : ℕ) (t : List ℕ) : Type 0 where

@@ -14,12 +14,12 @@ use Rattle.model.specs.Limits.{maxTables, wordEnd}
 use Rattle.model.specs.Problems.{Table}
 use Rattle.model.specs.Reading.{tableObjective, tableOf}
 use Rattle.model.specs.Costs.{costOf, total}
-use Rattle.problem.proofs.Behind.{take-cons}
 use Rattle.costs.specs.Entries.{tableAt}
 use Rattle.groups.specs.Groups.{tablesOver}
 use Rattle.buckets.specs.Bounds.{placesOver}
 use Rattle.buckets.specs.Adding.{RecordAdded, Blank, Totalled}
 use Rattle.buckets.specs.declared.Span as DS
+use Rattle.buckets.proofs.Ranges.{places-next, places-none}
 
 -- f's cost was added to objective `own` of each value below a
 pub record AddingRecord (own : ℕ) (f : ℕ → ℕ) (before : List ℕ) (a : ℕ) (totals : List ℕ) : Type 0 where
@@ -65,18 +65,13 @@ module _ {own : ℕ} {f : ℕ → ℕ} {before : List ℕ} {a : ℕ} {totals : L
       })
 
 -- a record's share of a total
-places-next : (plan : List ℕ) (i to : ℕ) → i < to → to ≤ length plan → placesOver plan i to ≡ getD plan i 0 ∷ placesOver plan (i + 1) to
-places-next plan i to h l =
-    let k : to - i - 1 ≡ to - (i + 1) = omega arith in
-    rw (← k) (take-cons (to - i) i plan (omega arith) (omega arith))
-
 total-next : (o : ℕ) (f : Table → ℕ) (ds s plan : List ℕ) (i to : ℕ) → i < to → to ≤ length plan → total o f (tablesOver ds s (placesOver plan i to)) ≡ when (eqb (tableObjective (drop (getD plan i 0) s)) o) (f (tableAt ds s (getD plan i 0))) + total o f (tablesOver ds s (placesOver plan (i + 1) to))
 unfolding total tablesOver tableOf
 total-next o f ds s plan i to h l = rw (places-next plan i to h l) refl
 
 total-none : (o : ℕ) (f : Table → ℕ) (ds s plan : List ℕ) (i to : ℕ) → to ≤ i → total o f (tablesOver ds s (placesOver plan i to)) ≡ 0
 unfolding total tablesOver
-total-none o f ds s plan i to h = let none : to - i ≡ 0 = omega arith in rw none refl
+total-none o f ds s plan i to h = rw (places-none plan i to h) refl
 
 -- a span's records, those from number i on left
 pub record Totalling (ds s plan : List ℕ) (span : DS.Span) (v : ℕ) (x : List ℕ) (i : ℕ) (totals : List ℕ)

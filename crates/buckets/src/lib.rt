@@ -6,14 +6,16 @@ ghost use Prim.Native.Nat.{ℕ, _+_, _*_, _<_, _≤_};
 ghost use lib.ListN.{length, getD, take, drop, set};
 ghost use lib.Dec.{ltb};
 ghost use Rattle.model.specs.Basics.{All, when};
-ghost use Rattle.model.specs.Limits.{maxTables, maxDomain, maxObjectives, byteEnd, wordEnd, sumEnd};
+ghost use Rattle.model.specs.Limits.{maxTables, maxVariables, maxDomain, maxObjectives};
+ghost use Rattle.model.specs.Limits.{byteEnd, wordEnd, sumEnd};
 ghost use Rattle.model.specs.Problems.{DomainSize};
 ghost use Rattle.model.specs.Costs.{isChoice};
 ghost use Rattle.problem.specs.Records.{Whole};
 ghost use Rattle.archive.specs.Changes.{maxWeight};
 ghost use Rattle.directions.specs.Directions.{maxSums, directionsOf, directionEnd, Sensible};
-ghost use Rattle.buckets.specs.Places.{maxMessages, looseAt};
+ghost use Rattle.buckets.specs.Places.{maxMessages, looseAt, numbersAt, orderIn};
 ghost use Rattle.buckets.specs.Messages.{messageAt};
+ghost use Rattle.buckets.specs.Bounds.{spanAt};
 ghost use Rattle.buckets.specs.Content.{Planned, Ranged, Filled, Summed};
 ghost use Rattle.buckets.specs.Adding.{addEnd, messageStart, TermSays, MessageSays, EntrySays, PartFilled};
 ghost use Rattle.buckets.specs.Adding.{RowFilled, RowAdded, Addable, RowsAdded, Received, RecordAdded, Blank};
@@ -66,24 +68,61 @@ struct Totals {
     four: u64,
 }
 
-// The value of variable `v`, or 0 where there is none.
-pub fn value_at(choice: &[u8], v: usize) -> usize
-    ensures { λ r. ⌜ (r ≡ getD (now (choice .entry)) v 0) × (r < byteEnd) ⌝ }
+// Byte `i`, or 0 behind the end.
+pub fn byte_at(s: &[u8], i: usize) -> usize
+    ensures { λ r. ⌜ (r ≡ getD (now (s .entry)) i 0) × (r < byteEnd) ⌝ }
 {
-    if v < choice.len() {
-        return choice[v] as usize;
+    if i < s.len() {
+        return s[i] as usize;
     }
     0
 }
 
-// Number `i` of the plan, or 0 where there is none.
-pub fn number_at(plan: &[u32], i: usize) -> u64
+// Number `i` of the plan, or 0 behind the end.
+pub fn number_at(plan: &[u32], i: usize) -> usize
     ensures { λ r. ⌜ (r ≡ getD (now (plan .entry)) i 0) × (r < wordEnd) ⌝ }
 {
     if i < plan.len() {
-        return plan[i] as u64;
+        return plan[i] as usize;
     }
     0
+}
+
+// The variable at position `k`.
+pub fn variable_at(k: usize, plan: &[u32]) -> usize
+    requires { ⌜ k ≤ maxVariables ⌝ }
+    ensures { λ v. ⌜ (v ≡ orderIn (now (plan .entry)) k) × (v < wordEnd) ⌝ }
+{
+    number_at(plan, ORDER_AT + k)
+}
+
+// The bucket of position `k`.
+pub fn span_at(k: usize, plan: &[u32]) -> Span
+    requires { ⌜ (k < maxVariables) × (numbersAt ≤ length (now plan)) ⌝ }
+    ensures { λ span. ⌜ span ≡ spanAt (now (plan .entry)) k ⌝ }
+{
+    let from = plan[RECORD_ENDS_AT + (k + 1)] as usize;
+    let to = plan[RECORD_ENDS_AT + k] as usize;
+    let first = plan[CHILD_ENDS_AT + (k + 1)] as usize;
+    let last = plan[CHILD_ENDS_AT + k] as usize;
+    Span {
+        from,
+        to,
+        first,
+        last,
+    }
+}
+
+// The choice with value `a` of variable `v`, if there is such a variable.
+pub fn with_value(x: [u8; 24], v: usize, a: usize) -> [u8; 24]
+    requires { ⌜ a < byteEnd ⌝ }
+    ensures { λ y. ⌜ y ≡ set x v a ⌝ }
+{
+    let mut y = x;
+    if v < 24 {
+        y[v] = a as u8;
+    }
+    y
 }
 
 // The value of variable `u`, times `t`, as `v` runs through its values.
@@ -98,7 +137,7 @@ fn term_of(u: usize, t: usize, v: usize, choice: &[u8]) -> Progression
         };
     }
     Progression {
-        first: value_at(choice, u) * t,
+        first: byte_at(choice, u) * t,
         stride: 0,
     }
 }
@@ -109,17 +148,16 @@ fn message_run(g: usize, v: usize, choice: &[u8], width: usize, plan: &[u32]) ->
     ensures { λ r. ⌜ MessageSays width (now (plan .entry)) g v (now (choice .entry)) r ⌝ }
 {
     let at = MESSAGES_AT + MESSAGE_WIDTH * g;
-    let start = number_at(plan, at) as usize;
-    let one = number_at(plan, at + 1) as usize;
-    let one_stride = number_at(plan, at + 2) as usize;
-    let two = number_at(plan, at + 3) as usize;
-    let two_stride = number_at(plan, at + 4) as usize;
+    let start = number_at(plan, at);
+    let one = number_at(plan, at + 1);
+    let one_stride = number_at(plan, at + 2);
+    let two = number_at(plan, at + 3);
+    let two_stride = number_at(plan, at + 4);
     let a = term_of(one, one_stride, v, choice);
     let b = term_of(two, two_stride, v, choice);
-    Progression {
-        first: start + width * (a.first + b.first),
-        stride: width * (a.stride + b.stride),
-    }
+    let first = start + width * (a.first + b.first);
+    let stride = width * (a.stride + b.stride);
+    Progression { first, stride }
 }
 
 // Where the numbers of message `g` at a choice start.
@@ -128,12 +166,12 @@ pub fn message_start(g: usize, choice: &[u8], width: usize, plan: &[u32]) -> usi
     ensures { λ r. ⌜ (r ≡ messageStart width (now (plan .entry)) g (now (choice .entry))) × (r < addEnd) ⌝ }
 {
     let at = MESSAGES_AT + MESSAGE_WIDTH * g;
-    let start = number_at(plan, at) as usize;
-    let one = number_at(plan, at + 1) as usize;
-    let one_stride = number_at(plan, at + 2) as usize;
-    let two = number_at(plan, at + 3) as usize;
-    let two_stride = number_at(plan, at + 4) as usize;
-    start + width * (value_at(choice, one) * one_stride + value_at(choice, two) * two_stride)
+    let start = number_at(plan, at);
+    let one = number_at(plan, at + 1);
+    let one_stride = number_at(plan, at + 2);
+    let two = number_at(plan, at + 3);
+    let two_stride = number_at(plan, at + 4);
+    start + width * (byte_at(choice, one) * one_stride + byte_at(choice, two) * two_stride)
 }
 
 // Adds eight numbers of the plan, all of which exist, to the row at `at`.
@@ -157,7 +195,7 @@ fn add_partly(start: usize, at: usize, plan: &[u32], rows: &mut [u64])
 {
     let mut j: usize = 0;
     while j < 8 {
-        rows[at + j] = rows[at + j] + number_at(plan, start + j);
+        rows[at + j] = rows[at + j] + (number_at(plan, start + j) as u64);
         j += 1;
     }
 }

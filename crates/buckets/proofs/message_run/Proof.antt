@@ -65,20 +65,20 @@ term-of-requires c κs = search needs
 term-of-requires-2 : tie.Need-term-of-requires-2
 term-of-requires-2 c κs = search needs
 
-add-t14 : tie.Need-add-t14
-add-t14 c = search needs
+add-first : tie.Need-add-first
+add-first c = search needs
 
-mul-t16 : tie.Need-mul-t16
-mul-t16 c = omega (arith, low (c .before .before))
+mul-first : tie.Need-mul-first
+mul-first c = omega (arith, low (c .before .before))
 
-add-t17 : tie.Need-add-t17
-add-t17 c = omega (arith, low (c .before .before))
+add-first-2 : tie.Need-add-first-2
+add-first-2 c = omega (arith, low (c .before .before))
 
-add-t18 : tie.Need-add-t18
-add-t18 c = search needs
+add-stride : tie.Need-add-stride
+add-stride c = search needs
 
-mul-t19 : tie.Need-mul-t19
-mul-t19 c = omega (arith, flat (c .before .before .before .before))
+mul-stride : tie.Need-mul-stride
+mul-stride c = omega (arith, flat (c .before .before .before .before))
 
 returns : tie.Need-returns
 returns c =
@@ -108,9 +108,9 @@ message-run-spec =
     number-at-requires-5
     term-of-requires
     term-of-requires-2
-    add-t14
-    mul-t16
-    add-t17
-    add-t18
-    mul-t19
+    add-first
+    mul-first
+    add-first-2
+    add-stride
+    mul-stride
     returns)

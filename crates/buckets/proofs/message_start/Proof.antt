@@ -9,17 +9,17 @@ use Rattle.buckets.proofs.message_start.Tie as tie
 use Rattle.buckets.proofs.message_start.Reads as reads
 use Rattle.buckets.proofs.message_start.Lts as lts
 use Rattle.buckets.proofs.number_at.Reads as number-at-reads
-use Rattle.buckets.proofs.value_at.Reads as value-at-reads
+use Rattle.buckets.proofs.byte_at.Reads as byte-at-reads
 
 -- both products are small, and so is the whole
-small : (c : lts.After-value-at2 (number-at-reads.Asked, number-at-reads.Learnt, value-at-reads.Asked, value-at-reads.Learnt) reads.Pre reads.Post) → let s = c .before .before .before .before .before .before .before .before .before in let p = c .before .value-at .result * c .before .before .before .before .number-at3 .result in let q = c .value-at2 .result * c .before .before .number-at5 .result in (p + q < 35184372088832) × (c .before .before .before .before .before .before .number-at .result + s .args .width * (p + q) < 35184372088832)
+small : (c : lts.After-byte-at2 (number-at-reads.Asked, number-at-reads.Learnt, byte-at-reads.Asked, byte-at-reads.Learnt) reads.Pre reads.Post) → let s = c .before .before .before .before .before .before .before .before .before in let p = c .before .byte-at .result * c .before .before .before .before .number-at3 .result in let q = c .byte-at2 .result * c .before .before .number-at5 .result in (p + q < 35184372088832) × (c .before .before .before .before .before .before .number-at .result + s .args .width * (p + q) < 35184372088832)
 small c =
     let s = c .before .before .before .before .before .before .before .before .before in
     let n = c .before .before .before .before .before .before .number-at in
     let t = c .before .before .before .before .number-at3 in
     let t′ = c .before .before .number-at5 in
-    let p = byte-times (c .before .value-at .result) (t .result) (c .before .value-at .ensures .1) in
-    let q = byte-times (c .value-at2 .result) (t′ .result) (c .value-at2 .ensures .1) in
+    let p = byte-times (c .before .byte-at .result) (t .result) (c .before .byte-at .ensures .1) in
+    let q = byte-times (c .byte-at2 .result) (t′ .result) (c .byte-at2 .ensures .1) in
     (omega (arith, p, q, t .ensures, t′ .ensures), start-small (s .args .width) (n .result) (t .result) (t′ .result) (n .ensures .1) (t .ensures .1) (t′ .ensures .1) (s .pre .1) _ _ p q)
 
 mul-at : tie.Need-mul-at
@@ -55,21 +55,21 @@ add-number-at-4 c = search needs
 number-at-requires-5 : tie.Need-number-at-requires-5
 number-at-requires-5 c κs = search needs
 
-value-at-requires : tie.Need-value-at-requires
-value-at-requires c κs = search needs
+byte-at-requires : tie.Need-byte-at-requires
+byte-at-requires c κs = search needs
 
 mul-result : tie.Need-mul-result
 mul-result c =
     let t = c .before .before .before .number-at3 in
-    omega (arith, t .ensures, byte-times (c .value-at .result) (t .result) (c .value-at .ensures .1))
+    omega (arith, t .ensures, byte-times (c .byte-at .result) (t .result) (c .byte-at .ensures .1))
 
-value-at-requires-2 : tie.Need-value-at-requires-2
-value-at-requires-2 c κs = search needs
+byte-at-requires-2 : tie.Need-byte-at-requires-2
+byte-at-requires-2 c κs = search needs
 
 mul-result-2 : tie.Need-mul-result-2
 mul-result-2 c =
     let t = c .before .before .number-at5 in
-    omega (arith, t .ensures, byte-times (c .value-at2 .result) (t .result) (c .value-at2 .ensures .1))
+    omega (arith, t .ensures, byte-times (c .byte-at2 .result) (t .result) (c .byte-at2 .ensures .1))
 
 add-result : tie.Need-add-result
 add-result c = omega (arith, small c)
@@ -88,7 +88,7 @@ returns c =
     let t = c .before .before .before .before .number-at3 in
     let u′ = c .before .before .before .number-at4 in
     let t′ = c .before .before .number-at5 in
-    (message-start-is (s .args .width) (now (s .args .plan)) (s .args .g) (n .result) (u .result) (t .result) (u′ .result) (t′ .result) (n .ensures .0) (u .ensures .0) (t .ensures .0) (u′ .ensures .0) (t′ .ensures .0) (now (s .args .choice)) (c .before .value-at .result) (c .value-at2 .result) (c .before .value-at .ensures .0) (c .value-at2 .ensures .0), omega (arith, small c))
+    (message-start-is (s .args .width) (now (s .args .plan)) (s .args .g) (n .result) (u .result) (t .result) (u′ .result) (t′ .result) (n .ensures .0) (u .ensures .0) (t .ensures .0) (u′ .ensures .0) (t′ .ensures .0) (now (s .args .choice)) (c .before .byte-at .result) (c .byte-at2 .result) (c .before .byte-at .ensures .0) (c .byte-at2 .ensures .0), omega (arith, small c))
 
 pub message-start-spec : {M : Type 1} → statement M
 message-start-spec =
@@ -105,9 +105,9 @@ message-start-spec =
     number-at-requires-4
     add-number-at-4
     number-at-requires-5
-    value-at-requires
+    byte-at-requires
     mul-result
-    value-at-requires-2
+    byte-at-requires-2
     mul-result-2
     add-result
     mul-result-3

@@ -11,19 +11,19 @@ returns c =
     let s = c .before .before in
     own-term (s .args .u) (s .args .t) (s .args .v) (now (s .args .choice)) (c .if1 .taken) (s .pre .1)
 
-value-at-requires : tie.Need-value-at-requires
-value-at-requires c κs = search needs
+byte-at-requires : tie.Need-byte-at-requires
+byte-at-requires c κs = search needs
 
 mul-t7 : tie.Need-mul-t7
 mul-t7 c =
     let s = c .before .before .before in
-    omega (arith, s .pre, c .value-at .ensures, byte-times (c .value-at .result) (s .args .t) (c .value-at .ensures .1))
+    omega (arith, s .pre, c .byte-at .ensures, byte-times (c .byte-at .result) (s .args .t) (c .byte-at .ensures .1))
 
 returns-2 : tie.Need-returns-2
 returns-2 c =
     let s = c .before .before .before in
-    let y = c .value-at in
+    let y = c .byte-at in
     other-term (s .args .u) (s .args .t) (s .args .v) (now (s .args .choice)) (y .result) (c .before .if1 .left) (y .ensures .0) (omega (arith, y .ensures))
 
 pub term-of-spec : {M : Type 1} → statement M
-term-of-spec = tie.close (tie.spec returns value-at-requires mul-t7 returns-2)
+term-of-spec = tie.close (tie.spec returns byte-at-requires mul-t7 returns-2)
