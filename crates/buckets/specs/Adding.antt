@@ -5,7 +5,8 @@ use Prim.Native.Nat.{ℕ, _+_, _*_, _≤_, _<_}
 use lib.Dec.{eqb}
 use lib.ListN.{length, getD, take, drop, set}
 use Rattle.model.specs.Basics.{when}
-use Rattle.model.specs.Limits.{wordEnd, sumEnd}
+use Rattle.model.specs.Limits.{wordEnd}
+use Rattle.model.specs.Core.{coreSumEnd}
 use Rattle.model.specs.Reading.{tableObjective}
 use Rattle.model.specs.Costs.{entryFrom, costOf, total}
 use Rattle.costs.specs.Entries.{tableAt, scopeAt, entriesAt}
@@ -89,7 +90,7 @@ abbrev pub Totalled : List ℕ → List ℕ → List ℕ → ℕ → ℕ → ℕ
 Totalled ds s plan from to v x t =
     (a o : ℕ) → a < getD ds v 0 → o < 4
     → (getD t (4 * a + o) 0 ≡ total o (costOf ds (set x v a)) (tablesOver ds s (placesOver plan from to)))
-    × (getD t (4 * a + o) 0 < sumEnd)
+    × (getD t (4 * a + o) 0 < coreSumEnd)
 
 -- sum i of four costs, by its row of a table of weights
 abbrev pub fourSum : List ℕ → ℕ → ℕ → ℕ → ℕ → ℕ → ℕ

@@ -6,7 +6,8 @@ ghost use Prim.Native.Nat.{ℕ, _+_, _*_, _<_, _≤_};
 ghost use lib.ListN.{length, getD, take, drop, set};
 ghost use lib.Dec.{ltb};
 ghost use Rattle.model.specs.Basics.{All, when};
-ghost use Rattle.model.specs.Limits.{maxTables, maxDomain, maxObjectives, byteEnd, wordEnd, sumEnd};
+ghost use Rattle.model.specs.Limits.{maxTables, maxDomain, maxObjectives, byteEnd, wordEnd};
+ghost use Rattle.model.specs.Core.{coreSumEnd};
 ghost use Rattle.model.specs.Problems.{DomainSize};
 ghost use Rattle.model.specs.Costs.{isChoice};
 ghost use Rattle.problem.specs.Records.{Whole};
@@ -290,8 +291,8 @@ fn counted(o: usize, p: usize, cost: u64) -> u64
 
 // Sum `i` of four costs.
 fn sum_at(i: usize, weights: &[u64], a: u64, b: u64, c: u64, e: u64) -> u64
-    requires { ⌜ (4 * i + 4 ≤ length (now weights)) × All (λ w. w ≤ maxWeight) (now weights) × (a < sumEnd)
-        × (b < sumEnd) × (c < sumEnd) × (e < sumEnd) ⌝ }
+    requires { ⌜ (4 * i + 4 ≤ length (now weights)) × All (λ w. w ≤ maxWeight) (now weights) × (a < coreSumEnd)
+        × (b < coreSumEnd) × (c < coreSumEnd) × (e < coreSumEnd) ⌝ }
     ensures { λ r. ⌜ r ≡ fourSum (now (weights .entry)) a b c e i ⌝ }
 {
     let at = 4 * i;
@@ -309,8 +310,8 @@ fn put_sums(
     e: u64,
     rows: &mut [u64],
 )
-    requires { ⌜ (4 * sums ≤ length (now weights)) × All (λ w. w ≤ maxWeight) (now weights) × (a < sumEnd)
-        × (b < sumEnd) × (c < sumEnd) × (e < sumEnd) × (at + sums ≤ length (now rows)) ⌝ }
+    requires { ⌜ (4 * sums ≤ length (now weights)) × All (λ w. w ≤ maxWeight) (now weights) × (a < coreSumEnd)
+        × (b < coreSumEnd) × (c < coreSumEnd) × (e < coreSumEnd) × (at + sums ≤ length (now rows)) ⌝ }
     ensures { λ _. ⌜ PartFilled (fourSum (now (weights .entry)) a b c e) at sums
         (now (rows .entry)) (now (rows .exit)) ⌝ }
 {
@@ -331,7 +332,7 @@ fn put_directions(
     weights: &[u64],
     rows: &mut [u64],
 )
-    requires { ⌜ (4 * a + 4 ≤ length (now totals)) × ((o : ℕ) → o < 4 → getD (now totals) (4 * a + o) 0 < sumEnd)
+    requires { ⌜ (4 * a + 4 ≤ length (now totals)) × ((o : ℕ) → o < 4 → getD (now totals) (4 * a + o) 0 < coreSumEnd)
         × (p ≤ maxObjectives) × (sums ≤ maxSums) × (16 ≤ length (now weights)) × All (λ w. w ≤ maxWeight) (now weights)
         × (8 * a + 8 ≤ length (now rows)) × ((i : ℕ) → 8 * a ≤ i → getD (now rows) i 0 ≡ 0) ⌝ }
     ensures { λ _. ⌜ RowFilled
@@ -355,7 +356,7 @@ fn put_directions(
 // The totals of each value in every direction, in rows of eight.
 fn put_rows(totals: &[u64], size: usize, d: directions::Directions, rows: &mut [u64])
     requires { ⌜ Sensible d × (size ≤ maxDomain) × (32 ≤ length (now totals))
-        × ((a o : ℕ) → a < size → o < 4 → getD (now totals) (4 * a + o) 0 < sumEnd) × (64 ≤ length (now rows))
+        × ((a o : ℕ) → a < size → o < 4 → getD (now totals) (4 * a + o) 0 < coreSumEnd) × (64 ≤ length (now rows))
         × Blank (now rows) ⌝ }
     ensures { λ _. ⌜ Directed d size (now (totals .entry)) (now (rows .exit)) ⌝ }
 {

@@ -14,11 +14,13 @@ use denote.Struct.Declared.{row}
 use Rattle.model.specs.Basics.{All}
 use Rattle.model.specs.Limits.{maxVariables, byteEnd, wordEnd}
 use Rattle.model.specs.Problems.{Problem, Word}
-use Rattle.model.specs.Frontiers.{Point, sorted, frontier, Reached}
+use Rattle.model.specs.Frontiers.{Point, sorted}
+use Rattle.model.specs.Core.{coreFrontier, CoreReached}
 use Rattle.model.specs.Archive.{weighted, Distinct}
 use Rattle.model.proofs.Bits.{true-false}
 use Rattle.model.proofs.Elements.{all-take, all-drop}
-use Rattle.model.proofs.Frontier.{reached-width, reached-length, reached-under, under-words}
+use Rattle.model.proofs.Frontier.{reached-width, reached-length, under-words}
+use Rattle.model.proofs.Core.{core-under}
 use Rattle.model.proofs.Weighted.{weighted-limit}
 use Rattle.model.proofs.Archive.{archive-start, archived-wide}
 use Rattle.model.proofs.ArchiveEnd.{archive-frontier, archive-full}
@@ -111,7 +113,7 @@ module _ {d : DD.Directions} {r room : ℕ} {ceilings ds s work : List ℕ} (h :
           still = still-trans zones-kept (o .still);
           running = subst (λ (q : Problem). Running q d room (length ds) work″ run″) same-problem (o .running);
           covered = λ y m′.
-              o .covered y (subst (λ (q : Problem). Reached q y) (sym same-problem) m′) (λ v l p. absurd (omega arith));
+              o .covered y (subst (λ (q : Problem). CoreReached q y) (sym same-problem) m′) (λ v l p. absurd (omega arith));
         }
       where
         same-problem : problemOf d r ceilings ds s work′ ≡ problem
@@ -121,11 +123,11 @@ module _ {d : DD.Directions} {r room : ℕ} {ceilings ds s work : List ℕ} (h :
 
   -- sums of consistent choices are below the limit while nothing is left out
   module _ (four : d .objectives ≤ length ceilings) where
-    sum-below : (y : Point) → Reached problem y → weighted (leadWeights d) (y .costs) < noLimit
+    sum-below : (y : Point) → CoreReached problem y → weighted (leadWeights d) (y .costs) < noLimit
     sum-below y m =
         let p = d .objectives in
         let wide : length (y .costs) ≡ p = reached-width problem y m in
-        let words : All Word (y .costs) = under-words (y .costs) (take p ceilings) (wide ∙ sym (length-take-le p ceilings four)) (reached-under problem y m) (all-take Word p ceilings (h .words)) in
+        let words : All Word (y .costs) = under-words (y .costs) (take p ceilings) (wide ∙ sym (length-take-le p ceilings four)) (core-under problem y m) (all-take Word p ceilings (h .words)) in
         let weights : All (λ w. w ≤ maxWeight) (leadWeights d) = all-take (λ w. w ≤ maxWeight) p (drop (4 * 0) (d .weights)) (all-drop (λ w. w ≤ maxWeight) (4 * 0) (d .weights) (sensible .small)) in
         omega (arith, weighted-limit maxWeight wordEnd (leadWeights d) (y .costs) weights words, mul-le-mul-right (maxWeight * wordEnd) (sensible .few))
 
@@ -145,24 +147,24 @@ module _ {d : DD.Directions} {r room : ℕ} {ceilings ds s work : List ℕ} (h :
           }
 
       -- more points than room
-      pub passed-full : length (d .weights) ≡ 16 → room < run .points → ExploredSays (d .objectives) (length ds) (frontier (problemOf d r ceilings ds s work)) room r work work′ (record { decided = true; full = true; count = 0 })
+      pub passed-full : length (d .weights) ≡ 16 → room < run .points → ExploredSays (d .objectives) (length ds) (coreFrontier (problemOf d r ceilings ds s work)) room r work work′ (record { decided = true; full = true; count = 0 })
       passed-full weights more =
           let long : length (leadWeights d) ≡ d .objectives = length-take-le (d .objectives) (drop (4 * 0) (d .weights)) (omega (arith, sensible .few)) in
           let held = archive-full (passed .running .archived) (passed .covered) (omega arith) (sensible .every) (passed .running .distinct) in
           record {
-            full = λ e. sym (lt-ltb room (length (frontier problem)) (omega (arith, held, rows-length (d .objectives) (length ds) work′ 0 (run .points))));
+            full = λ e. sym (lt-ltb room (length (coreFrontier problem)) (omega (arith, held, rows-length (d .objectives) (length ds) work′ 0 (run .points))));
             count = λ e. refl;
             list = λ e f. absurd (true-false refl f);
             still = passed .still;
           }
 
       -- nothing was left out
-      pub passed-list : run .points ≤ room → run .limit ≡ noLimit → (work″ : List ℕ) → Framed work′ work″ → (Distinct (listIn (d .objectives) (length ds) work′ 0 (run .points)) → listIn (d .objectives) (length ds) work″ 0 (run .points) ≡ sorted (listIn (d .objectives) (length ds) work′ 0 (run .points))) → ExploredSays (d .objectives) (length ds) (frontier (problemOf d r ceilings ds s work)) room r work work″ (record { decided = true; full = false; count = run .points })
+      pub passed-list : run .points ≤ room → run .limit ≡ noLimit → (work″ : List ℕ) → Framed work′ work″ → (Distinct (listIn (d .objectives) (length ds) work′ 0 (run .points)) → listIn (d .objectives) (length ds) work″ 0 (run .points) ≡ sorted (listIn (d .objectives) (length ds) work′ 0 (run .points))) → ExploredSays (d .objectives) (length ds) (coreFrontier (problemOf d r ceilings ds s work)) room r work work″ (record { decided = true; full = false; count = run .points })
       passed-list few none work″ framed order =
-          let is : sorted archive ≡ frontier problem = archive-frontier (passed .running .archived) (passed .covered) (λ y m. rw none (sum-below y m)) in
-          let long : length (frontier problem) ≡ run .points = sym (ap length is) ∙ sorted-length (d .objectives) (length ds) archive sized (passed .running .distinct) ∙ rows-length (d .objectives) (length ds) work′ 0 (run .points) in
+          let is : sorted archive ≡ coreFrontier problem = archive-frontier (passed .running .archived) (passed .covered) (λ y m. rw none (sum-below y m)) in
+          let long : length (coreFrontier problem) ≡ run .points = sym (ap length is) ∙ sorted-length (d .objectives) (length ds) archive sized (passed .running .distinct) ∙ rows-length (d .objectives) (length ds) work′ 0 (run .points) in
           record {
-            full = λ e. sym (le-ltb room (length (frontier problem)) (omega arith));
+            full = λ e. sym (le-ltb room (length (coreFrontier problem)) (omega arith));
             count = λ e. sym long;
             list = λ e f. order (passed .running .distinct) ∙ is;
             still = still-trans (passed .still) (framed-still framed r (h .planned .few));
@@ -176,9 +178,9 @@ module _ {r : ℕ} {work work′ : List ℕ} (k : Still r work work′) (d : DD.
   pub between-later : (q : List ℕ) (points : ℕ) → Between (problemOf d r ceilings ds s work) d room (length ds) q points → Between (problemOf d r ceilings ds s work′) d room (length ds) q points
   between-later q points h = subst (λ (u : Problem). Between u d room (length ds) q points) (sym (problem-still k d room ceilings ds s)) h
 
-  pub explored-still : (work″ : List ℕ) (e : DE.Explored) → ExploredSays (d .objectives) (length ds) (frontier (problemOf d r ceilings ds s work′)) room r work′ work″ e → ExploredSays (d .objectives) (length ds) (frontier (problemOf d r ceilings ds s work)) room r work work″ e
+  pub explored-still : (work″ : List ℕ) (e : DE.Explored) → ExploredSays (d .objectives) (length ds) (coreFrontier (problemOf d r ceilings ds s work′)) room r work′ work″ e → ExploredSays (d .objectives) (length ds) (coreFrontier (problemOf d r ceilings ds s work)) room r work work″ e
   explored-still work″ e h =
-      let g = subst (λ (u : Problem). ExploredSays (d .objectives) (length ds) (frontier u) room r work′ work″ e) (problem-still k d room ceilings ds s) h in
+      let g = subst (λ (u : Problem). ExploredSays (d .objectives) (length ds) (coreFrontier u) room r work′ work″ e) (problem-still k d room ceilings ds s) h in
       record { full = g .full; count = g .count; list = g .list; still = still-trans k (g .still) }
 
 -- the weights are sixteen in any value

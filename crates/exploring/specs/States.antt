@@ -10,7 +10,8 @@ use Rattle.model.specs.Basics.{All, when}
 use Rattle.model.specs.Limits.{maxPoints}
 use Rattle.model.specs.Problems.{Problem, Word}
 use Rattle.model.specs.Costs.{isChoice}
-use Rattle.model.specs.Frontiers.{Point, Reached}
+use Rattle.model.specs.Frontiers.{Point}
+use Rattle.model.specs.Core.{CoreReached}
 use Rattle.model.specs.Archive.{Covered, Archived, Distinct, Follows, Zoned}
 use Rattle.groups.specs.Layout.{listEnd}
 use Rattle.rows.specs.Rows.{listIn}
@@ -90,7 +91,7 @@ pub record Still (r : ℕ) (work work′ : List ℕ) : Type 0 where
 -- every consistent choice that a test lets through is covered
 abbrev pub AllCovered : Problem → DD.Directions → (List ℕ → Type 0) → List Point → ℕ → Type 0
 AllCovered q d among archive limit =
-    (y : Point) → Reached q y → among (y .choice) → Covered (leadWeights d) archive limit y
+    (y : Point) → CoreReached q y → among (y .choice) → Covered (leadWeights d) archive limit y
 
 -- what opening a partial choice ensures: the completions are covered, and what was covered stays so
 pub record Opened
@@ -124,7 +125,7 @@ pub record Between (q : Problem) (d : DD.Directions) (room n : ℕ) (work : List
 pub record Passed (q : Problem) (d : DD.Directions) (r room n : ℕ) (work work′ : List ℕ) (run′ : DR.Run) : Type 0 where
   pub still : Still r work work′
   pub running : Running q d room n work′ run′
-  pub covered : (y : Point) → Reached q y → Covered (leadWeights d) (archiveIn d n work′ run′) (run′ .limit) y
+  pub covered : (y : Point) → CoreReached q y → Covered (leadWeights d) (archiveIn d n work′ run′) (run′ .limit) y
 
 -- the list fs is in work memory, or it is longer than the room; or the search was given up
 pub record ExploredSays (p n : ℕ) (fs : List Point) (room r : ℕ) (work work′ : List ℕ) (e : DE.Explored) : Type 0 where

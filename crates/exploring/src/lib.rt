@@ -6,7 +6,7 @@ ghost use lib.ListN.{length};
 ghost use Rattle.model.specs.Basics.{All};
 ghost use Rattle.model.specs.Limits.{maxVariables, maxDomain, maxPoints};
 ghost use Rattle.model.specs.Problems.{Word};
-ghost use Rattle.model.specs.Frontiers.{frontier};
+ghost use Rattle.model.specs.Core.{coreFrontier};
 ghost use Rattle.groups.specs.Layout.{listEnd};
 ghost use Rattle.directions.specs.Directions.{Sensible};
 ghost use Rattle.zones.specs.Zones.{Measured};
@@ -239,7 +239,7 @@ pub fn explore(
 ) -> Explored
     requires { ⌜ Ready d r room ceilings (now sizes) (now s) (now work) ⌝ }
     ensures { λ e. ⌜ ExploredSays (d .objectives) (length (now (sizes .entry)))
-        (frontier (problemOf d r ceilings (now (sizes .entry)) (now (s .entry)) (now (work .entry))))
+        (coreFrontier (problemOf d r ceilings (now (sizes .entry)) (now (s .entry)) (now (work .entry))))
         room r (now (work .entry)) (now (work .exit)) e ⌝ }
 {
     let mut points: usize = 0;

@@ -8,7 +8,8 @@ use lib.ListN.{length, take, drop, length-drop}
 use Rattle.model.specs.Basics.{All}
 use Rattle.model.specs.Limits.{maxPoints, maxTables}
 use Rattle.model.specs.Problems.{DomainSize}
-use Rattle.model.specs.Frontiers.{Point, frontier}
+use Rattle.model.specs.Frontiers.{Point}
+use Rattle.model.specs.Core.{coreFrontier}
 use Rattle.model.proofs.Bits.{true-false}
 use Rattle.problem.specs.Records.{Whole}
 use Rattle.groups.specs.Layout.{sourceAt}
@@ -59,8 +60,8 @@ module _ {p r : ℕ} {ceilings ds s work : List ℕ} (source : Source p r ceilin
     same-problem : sourceProblem p r ceilings ds s work′ ≡ sourceProblem p r ceilings ds s work
     same-problem = rw (kept .source)
 
-    pub first-after : (room : ℕ) (after : List ℕ) (f : DF.Found) → FoundSays p (length ds) (frontier (sourceProblem p r ceilings ds s work′)) room work′ after f → FoundSays p (length ds) (frontier (sourceProblem p r ceilings ds s work)) room work after f
-    first-after room after f = says-since (kept .long) (ap frontier same-problem)
+    pub first-after : (room : ℕ) (after : List ℕ) (f : DF.Found) → FoundSays p (length ds) (coreFrontier (sourceProblem p r ceilings ds s work′)) room work′ after f → FoundSays p (length ds) (coreFrontier (sourceProblem p r ceilings ds s work)) room work after f
+    first-after room after f = says-since (kept .long) (ap coreFrontier same-problem)
 
     -- a plan that passed its test
     module _ (d : DD.Directions) (same : d .objectives ≡ p) (room : ℕ) (small : room ≤ maxPoints) where
@@ -78,10 +79,10 @@ module _ {p r : ℕ} {ceilings ds s work : List ℕ} (source : Source p r ceilin
       searched : problemOf d r ceilings ds s work′ ≡ sourceProblem p r ceilings ds s work
       searched = rw same same-problem
 
-      pub explored-says : (after : List ℕ) (e : DE.Explored) → ExploredSays (d .objectives) (length ds) (frontier (problemOf d r ceilings ds s work′)) room r work′ after e → Kept r work after × SecondSays p (length ds) (frontier (sourceProblem p r ceilings ds s work)) room after e
+      pub explored-says : (after : List ℕ) (e : DE.Explored) → ExploredSays (d .objectives) (length ds) (coreFrontier (problemOf d r ceilings ds s work′)) room r work′ after e → Kept r work after × SecondSays p (length ds) (coreFrontier (sourceProblem p r ceilings ds s work)) room after e
       explored-says after e says =
-          let same-list : frontier (problemOf d r ceilings ds s work′) ≡ frontier (sourceProblem p r ceilings ds s work) = ap frontier searched in (
+          let same-list : coreFrontier (problemOf d r ceilings ds s work′) ≡ coreFrontier (sourceProblem p r ceilings ds s work) = ap coreFrontier searched in (
             record { long = says .still .long ∙ kept .long; source = says .still .source ∙ kept .source },
-            subst (λ (k : ℕ). SecondSays k (length ds) (frontier (sourceProblem p r ceilings ds s work)) room after e) same
+            subst (λ (k : ℕ). SecondSays k (length ds) (coreFrontier (sourceProblem p r ceilings ds s work)) room after e) same
                 (subst (λ (fs : List Point). SecondSays (d .objectives) (length ds) fs room after e) same-list (record { full = says .full; count = says .count; list = says .list })),
           )

@@ -9,7 +9,8 @@ ghost use Rattle.model.specs.Basics.{All, keepIf};
 ghost use Rattle.model.specs.Limits.{maxObjectives, maxVariables, maxPoints, workNeed};
 ghost use Rattle.model.specs.Problems.{Word};
 ghost use Rattle.model.specs.Vectors.{under, earlier, added};
-ghost use Rattle.model.specs.Frontiers.{best, frontier};
+ghost use Rattle.model.specs.Frontiers.{best};
+ghost use Rattle.model.specs.Core.{coreFrontier};
 ghost use Rattle.model.specs.Search.{nothing, just};
 ghost use Rattle.model.specs.Cuts.{sidesOk, uncrossed};
 ghost use Rattle.model.specs.Views.{view};
@@ -242,7 +243,7 @@ fn keep_half(
         × (length (now sides) ≡ length (now sizes)) × (secondRow ≤ row) × (row ≤ firstRow)
         × (workNeed ≤ length (now work)) ⌝ }
     ensures { λ f. ⌜ KeptSays p (length (now (sizes .entry)))
-        (frontier (view side (problemAt p ceilings (now (sizes .entry)) (now (s .entry)) at r) (now (sides .entry))))
+        (coreFrontier (view side (problemAt p ceilings (now (sizes .entry)) (now (s .entry)) at r) (now (sides .entry))))
         row (now (work .entry)) (now (work .exit)) f ⌝ }
 {
     let found = listing::find_half(

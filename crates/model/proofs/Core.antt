@@ -1,20 +1,21 @@
 -- The core's form of a problem: what is used of weights, and that the core's list is the frontier list.
 use mathlib.Core.Path.{_≡_, refl, ap, ap₂, sym, _∙_, subst}
 use mathlib.Core.Bool.{Bool, true, false}
-use mathlib.Core.List.{List, [], _∷_}
+use mathlib.Core.List.{List, [], _∷_, _++_}
 use Prim.Native.Nat.{ℕ, zero, suc, _+_, _-_, _*_, _≤_, _<_, min}
 use native.Mathlib.Omega.{arith}
 use lib.Dec.{ltb, leb}
 use lib.ListN.{length, getD, take}
 use borrow.Author.Tests.{ltb-true, leb-true, leb-false}
-use Rattle.model.specs.Basics.{All}
+use Rattle.model.specs.Basics.{keepIf, All}
 use Rattle.model.specs.Limits.{wordEnd, maxTables}
 use Rattle.model.specs.Problems.{Table, Problem, Word}
-use Rattle.model.specs.Vectors.{under}
+use Rattle.model.specs.Vectors.{under, added}
 use Rattle.model.specs.Costs.{entryFrom, costOf, total, totalsFrom, totals, costsOf}
 use Rattle.model.specs.Frontiers.{consistent, Point, frontier}
 use Rattle.model.specs.Bounds.{leastTo, leastFrom, leastOf}
 use Rattle.model.specs.Cuts.{sidesOk, crosses, uncrossed, inHalf, halfTable, halfTables, half}
+use Rattle.model.specs.Cuts.{pairOf, pairsWith, allPairs}
 use Rattle.model.specs.Core.{entryEnd, coreSumEnd, Ceiling, entry, plain, weighed, coreTable, coreTables}
 use Rattle.model.specs.Core.{coreCeiling, coreCeilings, coreOf, coreConsistent, coreFrontier, CoreReached}
 use Rattle.model.proofs.Bits.{and-left, and-right}
@@ -44,25 +45,25 @@ pub core-ceiling : (c : ℕ) → c < wordEnd → Ceiling (coreCeiling c)
 unfolding coreCeiling
 core-ceiling c h = omega arith
 
+same-entries : (xs : List ℕ) → weighed xs ≡ xs
+unfolding weighed entry
+same-entries [] = refl
+same-entries (y ∷ ys) = ap (_∷_ y) (same-entries ys)
+
+same-tables : (ts : List Table) → coreTables ts ≡ ts
+unfolding coreTables
+same-tables [] = refl
+same-tables (t ∷ ts) =
+    ap₂ (λ (cs : List ℕ) rest. record { objective = t .objective; scope = t .scope; costs = cs } ∷ rest)
+    (same-entries (t .costs)) (same-tables ts)
+
+same-ceilings : (cs : List ℕ) → coreCeilings cs ≡ cs
+unfolding coreCeilings coreCeiling
+same-ceilings [] = refl
+same-ceilings (c ∷ cs) = ap (_∷_ c) (same-ceilings cs)
+
 -- a consistent choice costs the same in the core, and the core's test of a choice is the problem's
 module _ (q : Problem) (x : List ℕ) where
-  same-entries : (xs : List ℕ) → weighed xs ≡ xs
-  unfolding weighed entry
-  same-entries [] = refl
-  same-entries (y ∷ ys) = ap (_∷_ y) (same-entries ys)
-
-  same-tables : (ts : List Table) → coreTables ts ≡ ts
-  unfolding coreTables
-  same-tables [] = refl
-  same-tables (t ∷ ts) =
-      ap₂ (λ (cs : List ℕ) rest. record { objective = t .objective; scope = t .scope; costs = cs } ∷ rest)
-      (same-entries (t .costs)) (same-tables ts)
-
-  same-ceilings : (cs : List ℕ) → coreCeilings cs ≡ cs
-  unfolding coreCeilings coreCeiling
-  same-ceilings [] = refl
-  same-ceilings (c ∷ cs) = ap (_∷_ c) (same-ceilings cs)
-
   pub core-costs : consistent q x ≡ true → costsOf (coreOf q) x ≡ costsOf q x
   unfolding costsOf totals
   core-costs h = ap (totalsFrom (q .objectives) 0 (costOf (q .domains) x)) (same-tables (q .tables))
@@ -165,9 +166,10 @@ pub under-ceilings : (xs cs : List ℕ) → length xs ≡ length cs → under xs
 unfolding under
 under-ceilings [] cs e u w = tt
 under-ceilings (x ∷ xs) [] e u w = absurd (omega arith)
-under-ceilings (x ∷ xs) (c ∷ cs) e u w =
-    ( omega (arith, ltb-true x c (and-left (ltb x c) (under xs cs) u), w .0)
-    , under-ceilings xs cs (omega arith) (and-right (ltb x c) (under xs cs) u) (w .1))
+under-ceilings (x ∷ xs) (c ∷ cs) e u w = (
+  omega (arith, ltb-true x c (and-left (ltb x c) (under xs cs) u), w .0),
+  under-ceilings xs cs (omega arith) (and-right (ltb x c) (under xs cs) u) (w .1),
+)
 
 -- ## halves: the core's form of a half is the half of the core's form
 
@@ -191,6 +193,24 @@ module _ (k : ℕ) (ss : List ℕ) where
         domains = half k q ss .domains;
         tables = ts;
       }) (half-tables (q .tables))
+
+  -- so that the core's list of a half is the half's list
+  pub core-half-list : (q : Problem) → coreFrontier (half k (coreOf q) ss) ≡ frontier (half k q ss)
+  core-half-list q = ap coreFrontier (core-half q) ∙ core-frontier (half k q ss)
+
+-- sums of the halves' points are under the ceilings where they are under the core's
+module _ (q : Problem) (ss : List ℕ) where
+  pairs-with : (a : Point) (bs : List Point) → pairsWith q ss a bs ≡ pairsWith (coreOf q) ss a bs
+  unfolding pairsWith
+  pairs-with a [] = refl
+  pairs-with a (b ∷ bs) =
+      ap₂ (λ cs ps. keepIf (under (added (a .costs) (b .costs)) cs) (pairOf ss a b) ps)
+      (sym (same-ceilings (q .ceilings))) (pairs-with a bs)
+
+  pub core-pairs : (xs bs : List Point) → allPairs q ss xs bs ≡ allPairs (coreOf q) ss xs bs
+  unfolding allPairs
+  core-pairs [] bs = refl
+  core-pairs (a ∷ xs) bs = ap₂ _++_ (pairs-with a bs) (core-pairs xs bs)
 
 pub core-uncrossed : (ss : List ℕ) (ts : List Table) → uncrossed ss (coreTables ts) ≡ uncrossed ss ts
 unfolding uncrossed coreTables crosses

@@ -8,7 +8,7 @@ use borrow.Author.Needs.{needs}
 use mir.Syntax.{w64}
 use denote.Ref.{now}
 use Rattle.model.specs.Limits.{maxObjectives}
-use Rattle.model.specs.Frontiers.{frontier}
+use Rattle.model.specs.Core.{coreFrontier}
 use Rattle.rows.proofs.Arrays.{array-length}
 use Rattle.exploring.specs.declared.Explored as DE
 use Rattle.exploring.specs.States.{problemOf, Ready, Still, Between, ExploredSays}
@@ -44,7 +44,7 @@ module _ (c : tie.After-run-pass Inv-loop μ-loop) where
   four = omega (arith, ready .planned .sensible .few, array-length w64 maxObjectives (begun .args .ceilings) _ (begun .good .1 .1 .1 .0))
 
   -- what an answer says of the memory before this pass, it says of the memory at the start
-  from-start : (work : List ℕ) (e : DE.Explored) → ExploredSays (begun .args .d .objectives) (length (now (begun .args .sizes))) (frontier (problemOf (begun .args .d) (begun .args .r) (begun .args .ceilings) (now (begun .args .sizes)) (now (begun .args .s)) before-pass)) (begun .args .room) (begun .args .r) before-pass work e → ExploredSays (begun .args .d .objectives) (length (now (begun .args .sizes))) (frontier (problemOf (begun .args .d) (begun .args .r) (begun .args .ceilings) (now (begun .args .sizes)) (now (begun .args .s)) (now (begun .args .work)))) (begun .args .room) (begun .args .r) (now (begun .args .work)) work e
+  from-start : (work : List ℕ) (e : DE.Explored) → ExploredSays (begun .args .d .objectives) (length (now (begun .args .sizes))) (coreFrontier (problemOf (begun .args .d) (begun .args .r) (begun .args .ceilings) (now (begun .args .sizes)) (now (begun .args .s)) before-pass)) (begun .args .room) (begun .args .r) before-pass work e → ExploredSays (begun .args .d .objectives) (length (now (begun .args .sizes))) (coreFrontier (problemOf (begun .args .d) (begun .args .r) (begun .args .ceilings) (now (begun .args .sizes)) (now (begun .args .s)) (now (begun .args .work)))) (begun .args .room) (begun .args .r) (now (begun .args .work)) work e
   from-start = explored-still kept (begun .args .d) (begun .args .room) (begun .args .ceilings) (now (begun .args .sizes)) (now (begun .args .s))
 
 loop-holds : tie.Need-loop-holds Inv-loop μ-loop
