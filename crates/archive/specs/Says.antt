@@ -6,7 +6,8 @@ use mathlib.Core.List.{List, List·Memᴰ as In}
 use Prim.Native.Nat.{ℕ, _+_, _≤_}
 use lib.ListN.{take}
 use Rattle.model.specs.Problems.{Problem}
-use Rattle.model.specs.Frontiers.{Point, point, Reached}
+use Rattle.model.specs.Frontiers.{Point, point}
+use Rattle.model.specs.Core.{CoreReached}
 use Rattle.model.specs.Archive.{weighted, Covered, Archived, Distinct, Follows}
 use Rattle.rows.specs.Rows.{listIn, Framed}
 use Rattle.archive.specs.declared.Taken as DT
@@ -16,7 +17,7 @@ abbrev pub Meets : List ℕ → List Point → ℕ → Point → List Point → 
 Meets ws archive limit y archive′ limit′ =
     (q : Problem)
     → Archived q ws archive limit
-    → Reached q y
+    → CoreReached q y
     → weighted ws (y .costs) ≤ limit
     → Archived q ws archive′ limit′ × Follows ws archive limit archive′ limit′ × Covered ws archive′ limit′ y
 

@@ -4,7 +4,8 @@ use Prim.Native.Nat.{ℕ, zero, suc, _+_, _≤_, _<_}
 use native.Mathlib.Omega.{arith}
 use lib.ListN.{length, getD, drop}
 use Rattle.model.specs.Basics.{All}
-use Rattle.model.specs.Limits.{maxTables, byteEnd, wordEnd, sumEnd}
+use Rattle.model.specs.Limits.{maxTables, byteEnd, wordEnd}
+use Rattle.model.specs.Core.{coreSumEnd}
 use Rattle.model.specs.Problems.{Word, sizeOf}
 use Rattle.model.specs.Encoding.{Byte}
 use Rattle.model.specs.Reading.{wordsIn, tableArity, tableScope, tableOf}
@@ -30,14 +31,14 @@ module _ (ds s y : List ℕ) (bytes : All Byte s) where
   all-words [] = tt
   all-words (at ∷ places) = (cost-word at, all-words places)
 
-  total-small : (o : ℕ) (places : List ℕ) → length places ≤ maxTables → total o (costOf ds y) (tablesOver ds s places) < sumEnd
+  total-small : (o : ℕ) (places : List ℕ) → length places ≤ maxTables → total o (costOf ds y) (tablesOver ds s places) < coreSumEnd
   total-small o places few = omega (arith, total-limit o wordEnd (costOf ds y) (tablesOver ds s places) (all-words places), tables-count ds s places)
 
-  totals-small : (p o : ℕ) (places : List ℕ) → length places ≤ maxTables → All (λ c. c < sumEnd) (totalsFrom p o (costOf ds y) (tablesOver ds s places))
+  totals-small : (p o : ℕ) (places : List ℕ) → length places ≤ maxTables → All (λ c. c < coreSumEnd) (totalsFrom p o (costOf ds y) (tablesOver ds s places))
   unfolding totalsFrom
   totals-small zero o places few = tt
   totals-small (suc p) o places few = (total-small o places few, totals-small p (suc o) places few)
 
 -- s has bytes only
-pub costs-small : (ds s y : List ℕ) → ((i : ℕ) → getD s i 0 < byteEnd) → (p o : ℕ) (places : List ℕ) → length places ≤ maxTables → All (λ c. c < sumEnd) (totalsFrom p o (costOf ds y) (tablesOver ds s places))
+pub costs-small : (ds s y : List ℕ) → ((i : ℕ) → getD s i 0 < byteEnd) → (p o : ℕ) (places : List ℕ) → length places ≤ maxTables → All (λ c. c < coreSumEnd) (totalsFrom p o (costOf ds y) (tablesOver ds s places))
 costs-small ds s y bytes p o places few = totals-small ds s y (all-each Byte 0 s bytes) p o places few

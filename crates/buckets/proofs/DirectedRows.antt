@@ -13,7 +13,8 @@ use mir.Val.{Val}
 use denote.Laws.{Is}
 use denote.Struct.Declared.{row}
 use Rattle.model.specs.Basics.{All, when}
-use Rattle.model.specs.Limits.{maxObjectives, sumEnd}
+use Rattle.model.specs.Limits.{maxObjectives}
+use Rattle.model.specs.Core.{coreSumEnd}
 use Rattle.model.specs.Problems.{Table}
 use Rattle.model.specs.Costs.{total, totalsFrom}
 use Rattle.model.specs.Archive.{weighted}
@@ -40,8 +41,8 @@ module _ (totals : List ℕ) (a : ℕ) where
   abbrev pub four : List ℕ
   four = getD totals (4 * a) 0 ∷ getD totals (4 * a + 1) 0 ∷ getD totals (4 * a + 2) 0 ∷ getD totals (4 * a + 3) 0 ∷ []
 
-  pub four-small : (p : ℕ) → ((o : ℕ) → o < 4 → getD totals (4 * a + o) 0 < sumEnd) → All (λ c. c < sumEnd) (take p four)
-  four-small p h = all-take (λ c. c < sumEnd) p four (rw add-zero at (h 0 (omega arith)), (h 1 (omega arith), (h 2 (omega arith), (h 3 (omega arith), tt))))
+  pub four-small : (p : ℕ) → ((o : ℕ) → o < 4 → getD totals (4 * a + o) 0 < coreSumEnd) → All (λ c. c < coreSumEnd) (take p four)
+  four-small p h = all-take (λ c. c < coreSumEnd) p four (rw add-zero at (h 0 (omega arith)), (h 1 (omega arith), (h 2 (omega arith), (h 3 (omega arith), tt))))
 
   -- they are the totals of the first p objectives
   pub four-totals : (f : Table → ℕ) (ts : List Table) (p : ℕ) → p ≤ maxObjectives → 4 * a + 4 ≤ length totals → ((o : ℕ) → o < 4 → getD totals (4 * a + o) 0 ≡ total o f ts) → take p (take 4 (drop (4 * a) totals)) ≡ totalsFrom p 0 f ts
@@ -56,8 +57,8 @@ pub weight-times : (ws : List ℕ) → All (λ w. w ≤ maxWeight) ws → (i t :
 weight-times ws small i t = mul-le-mul-right t (all-at (λ w. w ≤ maxWeight) ws small i 0 (omega arith))
 
 -- what is not counted stays below every limit that 0 does
-pub counted-small : (o p cost x : ℕ) → x ≡ when (ltb o p) cost → cost < sumEnd → x < sumEnd
-counted-small o p cost x e h = rw e (pick-both (λ n. n < sumEnd) (ltb o p) h (omega arith))
+pub counted-small : (o p cost x : ℕ) → x ≡ when (ltb o p) cost → cost < coreSumEnd → x < coreSumEnd
+counted-small o p cost x e h = rw e (pick-both (λ n. n < coreSumEnd) (ltb o p) h (omega arith))
 
 -- zeros behind a list
 behind-zeros : (xs : List ℕ) (n j : ℕ) → getD (xs ++ replicate n 0) j 0 ≡ getD xs j 0

@@ -5,7 +5,8 @@ use Prim.Native.Nat.{ℕ, _+_, _*_, _≤_, _<_}
 use lib.Dec.{eqb}
 use lib.ListN.{length, getD, take, drop, set}
 use Rattle.model.specs.Basics.{when}
-use Rattle.model.specs.Limits.{wordEnd, sumEnd}
+use Rattle.model.specs.Limits.{wordEnd}
+use Rattle.model.specs.Core.{coreSumEnd}
 use Rattle.model.specs.Reading.{tableObjective}
 use Rattle.model.specs.Costs.{entryFrom, costOf, total}
 use Rattle.costs.specs.Entries.{tableAt, scopeAt, entriesAt}

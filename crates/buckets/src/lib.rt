@@ -376,7 +376,7 @@ fn put_directions(
     weights: &[u64],
     rows: &mut [u64],
 )
-    requires { ⌜ (4 * a + 4 ≤ length (now totals)) × ((o : ℕ) → o < 4 → getD (now totals) (4 * a + o) 0 < sumEnd)
+    requires { ⌜ (4 * a + 4 ≤ length (now totals)) × ((o : ℕ) → o < 4 → getD (now totals) (4 * a + o) 0 < coreSumEnd)
         × (p ≤ maxObjectives) × (sums ≤ maxSums) × (16 ≤ length (now weights)) × All (λ w. w ≤ maxWeight) (now weights)
         × (8 * a + 8 ≤ length (now rows)) × ((i : ℕ) → 8 * a ≤ i → getD (now rows) i 0 ≡ 0) ⌝ }
     ensures { λ _. ⌜ RowFilled
@@ -406,7 +406,7 @@ fn put_directions(
 // The totals of each value in every direction, in rows of eight.
 fn put_rows(totals: &[u64], size: usize, d: directions::Directions, rows: &mut [u64])
     requires { ⌜ Sensible d × (size ≤ maxDomain) × (32 ≤ length (now totals))
-        × ((a o : ℕ) → a < size → o < 4 → getD (now totals) (4 * a + o) 0 < sumEnd) × (64 ≤ length (now rows))
+        × ((a o : ℕ) → a < size → o < 4 → getD (now totals) (4 * a + o) 0 < coreSumEnd) × (64 ≤ length (now rows))
         × Blank (now rows) ⌝ }
     ensures { λ _. ⌜ Directed d size (now (totals .entry)) (now (rows .exit)) ⌝ }
 {

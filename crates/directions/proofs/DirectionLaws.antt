@@ -8,7 +8,7 @@ use lib.ListN.{length, getD, take, length-append}
 use lib.Seq.{take-at, getD-at, getD-append-add}
 use borrow.Author.Tests.{ne-eqb}
 use Rattle.model.specs.Basics.{All, pick}
-use Rattle.model.specs.Limits.{sumEnd}
+use Rattle.model.specs.Core.{coreSumEnd}
 use Rattle.model.specs.Vectors.{added}
 use Rattle.model.specs.Archive.{weighted}
 use Rattle.model.proofs.Vectors.{AtMost}
@@ -63,11 +63,11 @@ directions-lead d v s e = go (d .sums) refl
     go zero none = rw (append-nil v, s .alone none .1) (alone-sum v (e ∙ s .alone none .0))
     go (suc c) some = rw (ne-eqb (suc c) 0 (λ z. omega arith)) (getD-at v (weighted (leadWeights d) v) (sumsFrom d c 1 v) 0 (d .objectives) e)
 
-pub directions-limit : (d : DD.Directions) (v : List ℕ) → Sensible d → All (λ c. c < sumEnd) v → length v ≡ d .objectives → (j : ℕ) → getD (directionsOf d v) j 0 < directionEnd
+pub directions-limit : (d : DD.Directions) (v : List ℕ) → Sensible d → All (λ c. c < coreSumEnd) v → length v ≡ d .objectives → (j : ℕ) → getD (directionsOf d v) j 0 < directionEnd
 unfolding directionsOf
 directions-limit d v s h e j =
     all-at (λ k. k < directionEnd) (v ++ sumsFrom d (d .sums) 0 v)
     (all-append (λ k. k < directionEnd) v (sumsFrom d (d .sums) 0 v)
-    (all-map (λ c. c < sumEnd) (λ k. k < directionEnd) (λ k l. omega arith) v h)
+    (all-map (λ c. c < coreSumEnd) (λ k. k < directionEnd) (λ k l. omega arith) v h)
     (sums-limit d (s .small) (d .sums) 0 v (omega (arith, s .few)) h))
     j 0 (omega arith)

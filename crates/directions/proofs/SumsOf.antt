@@ -6,7 +6,8 @@ use native.Mathlib.Omega.{arith}
 use native.Mathlib.Nat.{suc-mul, mul-le-mul}
 use lib.ListN.{length, getD, drop, set, length-append}
 use Rattle.model.specs.Basics.{All}
-use Rattle.model.specs.Limits.{maxObjectives, sumEnd}
+use Rattle.model.specs.Limits.{maxObjectives}
+use Rattle.model.specs.Core.{coreSumEnd}
 use Rattle.model.specs.Vectors.{added}
 use Rattle.model.specs.Calls.{padded}
 use Rattle.model.specs.Archive.{weighted}
@@ -52,12 +53,12 @@ module _ (d : DD.Directions) where
   sums-added zero i u v e = refl
   sums-added (suc c) i u v e = rw (weighted-added (weightsOf d i) u v e, sums-added c (suc i) u v e)
 
-  pub sums-limit : All (λ w. w ≤ maxWeight) (d .weights) → (c i : ℕ) (v : List ℕ) → length v ≤ maxObjectives → All (λ k. k < sumEnd) v → All (λ k. k < directionEnd) (sumsFrom d c i v)
+  pub sums-limit : All (λ w. w ≤ maxWeight) (d .weights) → (c i : ℕ) (v : List ℕ) → length v ≤ maxObjectives → All (λ k. k < coreSumEnd) v → All (λ k. k < directionEnd) (sumsFrom d c i v)
   unfolding sumsFrom
   sums-limit small zero i v l h = tt
   sums-limit small (suc c) i v l h =
       let weights = all-take (λ w. w ≤ maxWeight) (d .objectives) (drop (4 * i) (d .weights)) (all-drop (λ w. w ≤ maxWeight) (4 * i) (d .weights) small) in
-      (omega (arith, weighted-most maxWeight (sumEnd - 1) (weightsOf d i) v weights h), sums-limit small c (suc i) v l h)
+      (omega (arith, weighted-most maxWeight (coreSumEnd - 1) (weightsOf d i) v weights h), sums-limit small c (suc i) v l h)
 
   -- an array with the costs and i sums in it gets the next sum
   pub sums-stored : (v xs : List ℕ) (p i sum : ℕ) → length v ≡ p → p + i < maxDirections → sum ≡ weighted (weightsOf d i) v → xs ≡ padded maxDirections (v ++ sumsFrom d i 0 v) → set xs (p + i) sum ≡ padded maxDirections (v ++ sumsFrom d (i + 1) 0 v)

@@ -3,7 +3,8 @@ ghost use mathlib.Core.Path.{_≡_};
 ghost use Prim.Native.Nat.{ℕ, _*_, _<_, _≤_};
 ghost use lib.ListN.{getD, take, drop};
 ghost use Rattle.model.specs.Basics.{All};
-ghost use Rattle.model.specs.Limits.{maxObjectives, sumEnd};
+ghost use Rattle.model.specs.Limits.{maxObjectives};
+ghost use Rattle.model.specs.Core.{coreSumEnd};
 ghost use Rattle.model.specs.Calls.{padded};
 ghost use Rattle.model.specs.Archive.{weighted};
 ghost use Rattle.archive.specs.Changes.{maxWeight};
@@ -53,7 +54,7 @@ fn row_of(table: [u64; 16], i: usize) -> [u64; 4]
 
 // Sum `i` of the first costs of `v`.
 pub fn sum_at(v: [u64; 4], i: usize, d: Directions) -> u64
-    requires { ⌜ Sensible d × (i < d .sums) × All (λ c. c < sumEnd) (take (d .objectives) v) ⌝ }
+    requires { ⌜ Sensible d × (i < d .sums) × All (λ c. c < coreSumEnd) (take (d .objectives) v) ⌝ }
     ensures { λ r. ⌜ r ≡ weighted (weightsOf d i) (take (d .objectives) v) ⌝ }
 {
     let weights = d.weights;
@@ -62,7 +63,7 @@ pub fn sum_at(v: [u64; 4], i: usize, d: Directions) -> u64
 
 // The first costs of `v` in every direction, and zeros.
 pub fn directions_of(v: [u64; 4], d: Directions) -> [u64; 8]
-    requires { ⌜ Sensible d × All (λ c. c < sumEnd) (take (d .objectives) v) ⌝ }
+    requires { ⌜ Sensible d × All (λ c. c < coreSumEnd) (take (d .objectives) v) ⌝ }
     ensures { λ r. ⌜ r ≡ padded maxDirections (directionsOf d (take (d .objectives) v)) ⌝ }
 {
     let p = d.objectives;
@@ -137,7 +138,7 @@ pub fn larger(a: u64, b: u64) -> u64
 // How far apart the costs of an objective are, for its weight: at least 1. Where they are not apart at all
 // its weight does not matter, and it counts as the largest spread, so that the others' weights stay large.
 fn range_of(spread: u64) -> u64
-    ensures { λ r. ⌜ (1 ≤ r) × (r ≤ sumEnd) ⌝ }
+    ensures { λ r. ⌜ (1 ≤ r) × (r ≤ coreSumEnd) ⌝ }
 {
     if spread == 0 {
         return MAX_SPREAD;

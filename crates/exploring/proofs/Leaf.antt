@@ -9,12 +9,13 @@ use lib.Seq.{length-take-le, take-take, getD-take, ext-getD}
 use Rattle.model.specs.Problems.{Problem}
 use Rattle.model.specs.Costs.{isChoice, costOf, costsOf}
 use Rattle.model.specs.Vectors.{under}
-use Rattle.model.specs.Frontiers.{Point, point, consistent, Reached}
+use Rattle.model.specs.Frontiers.{Point, point}
+use Rattle.model.specs.Core.{coreConsistent, CoreReached}
 use Rattle.model.specs.Archive.{weighted, Covered, Archived, Follows, Zoned}
 use Rattle.model.proofs.Bits.{true-false}
 use Rattle.model.proofs.Points.{point-eq}
 use Rattle.model.proofs.Choices.{choice-length}
-use Rattle.model.proofs.Frontier.{reached-under}
+use Rattle.model.proofs.Core.{core-under}
 use Rattle.model.proofs.Archive.{archived-wide}
 use Rattle.model.proofs.Zones.{zones-follow}
 use Rattle.model.proofs.Totals.{totals-from-length}
@@ -111,7 +112,7 @@ module _
       (λ v l. g v l (h .ready .sound .tested .ordered .position v (omega arith)))
 
   leaf-only :
-      (y : Point) → Reached problem y → Completes (planIn work) (length ds) (leaf ds values acc) (y .choice) →
+      (y : Point) → CoreReached problem y → Completes (planIn work) (length ds) (leaf ds values acc) (y .choice) →
       y ≡ point costs x
   leaf-only y m g =
       let e : x ≡ y .choice = only-choice (y .choice) (m .complete) g in
@@ -120,18 +121,18 @@ module _
   -- what covers the point covers the completions
   leaf-covers :
       (archive : List Point) (limit : ℕ) →
-      (Reached problem (point costs x) → Covered (leadWeights d) archive limit (point costs x)) →
+      (CoreReached problem (point costs x) → Covered (leadWeights d) archive limit (point costs x)) →
       AllCovered problem d (Completes (planIn work) (length ds) (leaf ds values acc)) archive limit
   leaf-covers archive limit c y m g =
       let e = leaf-only y m g in
-      subst (λ (u : Point). Covered (leadWeights d) archive limit u) (sym e) (c (subst (λ (u : Point). Reached problem u) e m))
+      subst (λ (u : Point). Covered (leadWeights d) archive limit u) (sym e) (c (subst (λ (u : Point). CoreReached problem u) e m))
 
   -- over a ceiling
   pub over-covers :
       under (take (d .objectives) acc) ceilings ≡ false →
       AllCovered problem d (Completes (planIn work) (length ds) (leaf ds values acc)) (archiveIn d (length ds) work run)
       (run .limit)
-  over-covers o = leaf-covers _ _ (λ m. absurd (true-false (reached-under problem (point costs x) m) o))
+  over-covers o = leaf-covers _ _ (λ m. absurd (true-false (core-under problem (point costs x) m) o))
 
   leaf-reached : under costs ceilings ≡ true → Reached problem (point costs x)
   unfolding consistent

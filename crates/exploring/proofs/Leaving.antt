@@ -8,7 +8,8 @@ use lib.ListN.{length, getD, take}
 use lib.Seq.{length-take-le}
 use Rattle.model.specs.Limits.{maxPoints}
 use Rattle.model.specs.Problems.{Problem}
-use Rattle.model.specs.Frontiers.{Point, Reached}
+use Rattle.model.specs.Frontiers.{Point}
+use Rattle.model.specs.Core.{CoreReached}
 use Rattle.model.specs.Archive.{weighted}
 use Rattle.model.proofs.Bits.{true-false}
 use Rattle.model.proofs.Vectors.{AtMost, NotLater, at-most-test}
@@ -58,7 +59,7 @@ module _
         covered = c;
       }
 
-  module _ (y : Point) (m : Reached problem y) where
+  module _ (y : Point) (m : CoreReached problem y) where
     -- its costs, by the records' places
     exact : y .costs ≡ costsOver d ds s (sourceIn work (task .records)) (y .choice)
     exact = m .exact ∙ costs-over d task ds s work (y .choice)
@@ -83,7 +84,7 @@ module _
 
     -- an archived point that may have the costs of a completion has a choice that is not later
     untied-not-later :
-        (y : Point) → Reached problem y → Completes (planIn work) (length ds) node (y .choice) →
+        (y : Point) → CoreReached problem y → Completes (planIn work) (length ds) node (y .choice) →
         ((i : ℕ) → i < run .points → Untied d (length ds) work (node .choice) acc i) →
         (a : Point) → In a archive → AtMost (take (widthOf d) acc) (directionsOf d (a .costs)) →
         NotLater (a .choice) (y .choice)

@@ -14,11 +14,13 @@ use denote.Struct.Declared.{row}
 use Rattle.model.specs.Basics.{All}
 use Rattle.model.specs.Limits.{maxVariables, byteEnd, wordEnd}
 use Rattle.model.specs.Problems.{Problem, Word}
-use Rattle.model.specs.Frontiers.{Point, sorted, frontier, Reached}
+use Rattle.model.specs.Frontiers.{Point, sorted}
+use Rattle.model.specs.Core.{coreFrontier, CoreReached}
 use Rattle.model.specs.Archive.{weighted, Distinct}
 use Rattle.model.proofs.Bits.{true-false}
 use Rattle.model.proofs.Elements.{all-take, all-drop}
-use Rattle.model.proofs.Frontier.{reached-width, reached-length, reached-under, under-words}
+use Rattle.model.proofs.Frontier.{reached-width, reached-length, under-words}
+use Rattle.model.proofs.Core.{core-under}
 use Rattle.model.proofs.Weighted.{weighted-limit}
 use Rattle.model.proofs.Archive.{archive-start, archived-wide}
 use Rattle.model.proofs.ArchiveEnd.{archive-frontier, archive-full}
@@ -144,7 +146,7 @@ module _ {d : DD.Directions} {task : DT.Task} {ds s work : List ℕ} (h : Ready 
           still = still-trans zones-kept (o .still);
           running = subst (λ (q : Problem). Running q d task (length ds) work″ run″) same-problem (o .running);
           covered = λ y m′.
-              o .covered y (subst (λ (q : Problem). Reached q y) (sym same-problem) m′) (λ v l p. absurd (omega arith));
+              o .covered y (subst (λ (q : Problem). CoreReached q y) (sym same-problem) m′) (λ v l p. absurd (omega arith));
         }
       where
         same-problem : problemOf d task ds s work′ ≡ problem

@@ -10,7 +10,8 @@ use Rattle.model.specs.Basics.{All, when}
 use Rattle.model.specs.Limits.{maxPoints}
 use Rattle.model.specs.Problems.{Problem, Word}
 use Rattle.model.specs.Costs.{isChoice}
-use Rattle.model.specs.Frontiers.{Point, Reached}
+use Rattle.model.specs.Frontiers.{Point}
+use Rattle.model.specs.Core.{CoreReached}
 use Rattle.model.specs.Archive.{Covered, Archived, Distinct, Follows, Zoned}
 use Rattle.groups.specs.Layout.{listEnd}
 use Rattle.rows.specs.Rows.{listIn}
@@ -104,7 +105,7 @@ pub record Still (task : DT.Task) (work work′ : List ℕ) : Type 0 where
 -- every consistent choice that a test lets through is covered
 abbrev pub AllCovered : Problem → DD.Directions → (List ℕ → Type 0) → List Point → ℕ → Type 0
 AllCovered q d among archive limit =
-    (y : Point) → Reached q y → among (y .choice) → Covered (leadWeights d) archive limit y
+    (y : Point) → CoreReached q y → among (y .choice) → Covered (leadWeights d) archive limit y
 
 -- what opening a partial choice ensures: the completions are covered, and what was covered stays so
 pub record Opened

@@ -6,7 +6,7 @@ ghost use lib.ListN.{length};
 ghost use Rattle.model.specs.Basics.{All};
 ghost use Rattle.model.specs.Limits.{maxVariables, maxDomain, maxPoints};
 ghost use Rattle.model.specs.Problems.{Word};
-ghost use Rattle.model.specs.Frontiers.{frontier};
+ghost use Rattle.model.specs.Core.{coreFrontier};
 ghost use Rattle.groups.specs.Layout.{listEnd};
 ghost use Rattle.directions.specs.Directions.{Sensible};
 ghost use Rattle.zones.specs.Zones.{Measured};

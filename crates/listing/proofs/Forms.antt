@@ -8,7 +8,8 @@ use lib.ListN.{length, take, drop, length-drop}
 use Rattle.model.specs.Basics.{All}
 use Rattle.model.specs.Limits.{maxPoints, maxTables}
 use Rattle.model.specs.Problems.{DomainSize}
-use Rattle.model.specs.Frontiers.{Point, frontier}
+use Rattle.model.specs.Frontiers.{Point}
+use Rattle.model.specs.Core.{coreFrontier}
 use Rattle.model.proofs.Bits.{true-false}
 use Rattle.problem.specs.Records.{Whole}
 use Rattle.groups.specs.Layout.{sourceAt}
@@ -60,8 +61,8 @@ module _ {p r : ℕ} {ceilings ds s work : List ℕ} (source : Source p r ceilin
     same-problem : sourceProblem p r ceilings ds s work′ ≡ sourceProblem p r ceilings ds s work
     same-problem = rw (kept .source)
 
-    pub first-after : (room : ℕ) (after : List ℕ) (f : DF.Found) → FoundSays p (length ds) (frontier (sourceProblem p r ceilings ds s work′)) room work′ after f → FoundSays p (length ds) (frontier (sourceProblem p r ceilings ds s work)) room work after f
-    first-after room after f = says-since (kept .long) (ap frontier same-problem)
+    pub first-after : (room : ℕ) (after : List ℕ) (f : DF.Found) → FoundSays p (length ds) (coreFrontier (sourceProblem p r ceilings ds s work′)) room work′ after f → FoundSays p (length ds) (coreFrontier (sourceProblem p r ceilings ds s work)) room work after f
+    first-after room after f = says-since (kept .long) (ap coreFrontier same-problem)
 
     -- a plan that passed its test
     module _ (d : DD.Directions) (same : d .objectives ≡ p) (room : ℕ) (small : room ≤ maxPoints) where

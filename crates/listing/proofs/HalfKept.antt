@@ -8,7 +8,7 @@ use lib.ListN.{length, take, drop}
 use Rattle.model.specs.Basics.{All}
 use Rattle.model.specs.Limits.{maxObjectives, maxTables, maxPoints}
 use Rattle.model.specs.Reading.{tablesAt, placesAt}
-use Rattle.model.specs.Frontiers.{frontier}
+use Rattle.model.specs.Core.{coreFrontier}
 use Rattle.model.specs.Views.{narrowed, within, kept, view}
 use Rattle.model.specs.Calls.{over as filled}
 use Rattle.problem.specs.Records.{Whole}
@@ -100,7 +100,7 @@ module _ (p r at side : ℕ) (ceilings ds ss s work : List ℕ) (a : Accepted p 
         unfolding view
         side-problem = rw (same-ceilings, sizes, after-places, side-tables)
 
-        pub side-says : (work′ : List ℕ) (f : DF.Found) → FoundSays p (length narrow) (frontier (sourceProblem p count wide narrow s after)) maxPoints after work′ f → FoundSays p (length ds) (frontier (view side (problemAt p ceilings ds s at r) ss)) maxPoints work work′ f
+        pub side-says : (work′ : List ℕ) (f : DF.Found) → FoundSays p (length narrow) (coreFrontier (sourceProblem p count wide narrow s after)) maxPoints after work′ f → FoundSays p (length ds) (coreFrontier (view side (problemAt p ceilings ds s at r) ss)) maxPoints work work′ f
         side-says work′ f h =
-            subst (λ (n : ℕ). FoundSays p n (frontier (view side (problemAt p ceilings ds s at r) ss)) maxPoints work work′ f) narrow-length
-            (says-since after-length (ap frontier side-problem) h)
+            subst (λ (n : ℕ). FoundSays p n (coreFrontier (view side (problemAt p ceilings ds s at r) ss)) maxPoints work work′ f) narrow-length
+            (says-since after-length (ap coreFrontier side-problem) h)

@@ -7,7 +7,7 @@ use lib.ListN.{length, take, drop, length-drop}
 use lib.Seq.{take-all, drop-drop, drop-length}
 use Rattle.model.specs.Basics.{All}
 use Rattle.model.specs.Limits.{maxObjectives}
-use Rattle.model.specs.Frontiers.{frontier}
+use Rattle.model.specs.Core.{coreFrontier}
 use Rattle.model.specs.Reading.{tableLength, tableOf, tablesAt, placesAt}
 use Rattle.model.specs.Calls.{over as filled}
 use Rattle.problem.specs.Records.{Whole, AllWhole}
@@ -89,7 +89,7 @@ module _ (p r at room : ℕ) (ceilings ds s work : List ℕ) (a : Accepted p r a
         long = omega (arith, written-length r at ds s work sourceAt inside kept says, a .memory);
       }
 
-  pub kept-says : (work′ : List ℕ) (f : DF.Found) → FoundSays p (length ds) (frontier (sourceProblem p r wide ds s after)) room after work′ f → FoundSays p (length ds) (frontier (problemAt p ceilings ds s at r)) room work work′ f
+  pub kept-says : (work′ : List ℕ) (f : DF.Found) → FoundSays p (length ds) (coreFrontier (sourceProblem p r wide ds s after)) room after work′ f → FoundSays p (length ds) (coreFrontier (problemAt p ceilings ds s at r)) room work work′ f
   kept-says work′ f =
       let q : sourceProblem p r wide ds s after ≡ problemAt p ceilings ds s at r = rw (same, written-places r at ds s work sourceAt inside kept says, places-tables ds s r at) in
-      says-since (written-length r at ds s work sourceAt inside kept says) (ap frontier q)
+      says-since (written-length r at ds s work sourceAt inside kept says) (ap coreFrontier q)

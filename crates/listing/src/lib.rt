@@ -4,7 +4,7 @@ ghost use mathlib.Core.Bool.{true, false};
 ghost use Prim.Native.Nat.{_≤_};
 ghost use lib.ListN.{length};
 ghost use Rattle.model.specs.Limits.{maxPoints};
-ghost use Rattle.model.specs.Frontiers.{frontier};
+ghost use Rattle.model.specs.Core.{coreFrontier};
 ghost use Rattle.model.specs.Views.{view};
 ghost use Rattle.groups.specs.Sources.{Source, sourceProblem};
 ghost use Rattle.passes.specs.Says.{FoundSays};
@@ -68,7 +68,7 @@ fn explore_source(
     requires { ⌜ Source p r ceilings (now sizes) (now s) (now work) × (room ≤ maxPoints) ⌝ }
     ensures { λ e. ⌜ Kept r (now (work .entry)) (now (work .exit))
         × SecondSays p (length (now (sizes .entry)))
-        (frontier (sourceProblem p r ceilings (now (sizes .entry)) (now (s .entry)) (now (work .entry))))
+        (coreFrontier (sourceProblem p r ceilings (now (sizes .entry)) (now (s .entry)) (now (work .entry))))
         room (now (work .exit)) e ⌝ }
 {
     let n = sizes.len();
@@ -106,7 +106,7 @@ pub fn find_source(
 ) -> passes::Found
     requires { ⌜ Source p r ceilings (now sizes) (now s) (now work) × (room ≤ maxPoints) ⌝ }
     ensures { λ f. ⌜ FoundSays p (length (now (sizes .entry)))
-        (frontier (sourceProblem p r ceilings (now (sizes .entry)) (now (s .entry)) (now (work .entry))))
+        (coreFrontier (sourceProblem p r ceilings (now (sizes .entry)) (now (s .entry)) (now (work .entry))))
         room (now (work .entry)) (now (work .exit)) f ⌝ }
 {
     if by_passes {
@@ -137,7 +137,7 @@ pub fn find_list(
 ) -> passes::Found
     requires { ⌜ Accepted p r at room ceilings (now sizes) (now s) (now work) ⌝ }
     ensures { λ f. ⌜ FoundSays p (length (now (sizes .entry)))
-        (frontier (problemAt p ceilings (now (sizes .entry)) (now (s .entry)) at r))
+        (coreFrontier (problemAt p ceilings (now (sizes .entry)) (now (s .entry)) at r))
         room (now (work .entry)) (now (work .exit)) f ⌝ }
 {
     problem::keep_places(s, at, r, sizes, &mut work[groups::SOURCE_AT..]);
@@ -160,7 +160,7 @@ pub fn find_half(
     requires { ⌜ Accepted p r at maxPoints ceilings (now sizes) (now s) (now work)
         × (length (now sides) ≡ length (now sizes)) ⌝ }
     ensures { λ f. ⌜ FoundSays p (length (now (sizes .entry)))
-        (frontier (view side (problemAt p ceilings (now (sizes .entry)) (now (s .entry)) at r) (now (sides .entry))))
+        (coreFrontier (view side (problemAt p ceilings (now (sizes .entry)) (now (s .entry)) at r) (now (sides .entry))))
         maxPoints (now (work .entry)) (now (work .exit)) f ⌝ }
 {
     problem::keep_places(s, at, r, sizes, &mut work[groups::RECORDS_AT..]);

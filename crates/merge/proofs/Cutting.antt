@@ -9,7 +9,8 @@ use lib.ListN.{length, take}
 use Rattle.model.specs.Basics.{All}
 use Rattle.model.specs.Limits.{maxPoints, workNeed}
 use Rattle.model.specs.Problems.{Problem, Word}
-use Rattle.model.specs.Frontiers.{Point, best, frontier}
+use Rattle.model.specs.Frontiers.{Point, best}
+use Rattle.model.specs.Core.{coreFrontier}
 use Rattle.model.specs.Cuts.{sidesOk, uncrossed, halfSize}
 use Rattle.model.specs.Views.{view}
 use Rattle.groups.specs.Layout.{searchEnd}
@@ -40,7 +41,7 @@ half-accepted a work′ long =
     }
 
 -- a list on the way is too long
-pub cut-full : (q : Problem) (ss : List ℕ) (room : ℕ) (work work′ : List ℕ) → (ltb maxPoints (halfSize 0 q ss) || (ltb maxPoints (halfSize 1 q ss) || ltb room (length (frontier q)))) ≡ true → length work′ ≡ length work → CutFound q ss room work work′ noLists
+pub cut-full : (q : Problem) (ss : List ℕ) (room : ℕ) (work work′ : List ℕ) → (ltb maxPoints (halfSize 0 q ss) || (ltb maxPoints (halfSize 1 q ss) || ltb room (length (coreFrontier q)))) ≡ true → length work′ ≡ length work → CutFound q ss room work work′ noLists
 cut-full q ss room work work′ h long = record { full = sym h; count = refl; first = refl; second = refl; list = λ e. absurd (true-false refl e); long = long }
 
 module _ {p r at room : ℕ} {ceilings ds s was : List ℕ} (ss : List ℕ) (a : Accepted p r at room ceilings ds s was) (sides : sidesOk (problemAt p ceilings ds s at r) ss ≡ true) (free : uncrossed ss (problemAt p ceilings ds s at r .tables) ≡ true) (memory : workNeed ≤ length was) where
@@ -48,7 +49,7 @@ module _ {p r at room : ℕ} {ceilings ds s was : List ℕ} (ss : List ℕ) (a :
   q = problemAt p ceilings ds s at r
 
   abbrev listOf : ℕ → List Point
-  listOf k = frontier (view k q ss)
+  listOf k = coreFrontier (view k q ss)
 
   half-told : (k : ℕ) {row : ℕ} {before after : List ℕ} {f : DF.Found} → KeptSays p (length ds) (listOf k) row before after f → ltb maxPoints (halfSize k q ss) ≡ f .full
   half-told k h = ap (ltb maxPoints) (sym (view-size q ss sides free k)) ∙ sym (h .full)
@@ -91,10 +92,10 @@ module _ {p r at room : ℕ} {ceilings ds s was : List ℕ} (ss : List ℕ) (a :
           cut-words = rw same (all-take Word p ceilings (a .words))
 
           module _ {three : List ℕ} {m : DF.Found} (merged : FoundSays p (length ds) (best (sumsIn p (length ds) wide two (f .count) (g .count))) room two three m) where
-            sums-are : best (sumsIn p (length ds) wide two (f .count) (g .count)) ≡ frontier q
+            sums-are : best (sumsIn p (length ds) wide two (f .count) (g .count)) ≡ coreFrontier q
             sums-are = rw (same, first-is, second-is) (sums-best q ss sides free)
 
-            merged-told : ltb room (length (frontier q)) ≡ m .full
+            merged-told : ltb room (length (coreFrontier q)) ≡ m .full
             merged-told = ap (λ ps. ltb room (length ps)) (sym sums-are) ∙ sym (merged .full)
 
             pub merged-full : m .full ≡ true → CutFound q ss room was three noLists

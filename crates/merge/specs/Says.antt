@@ -8,7 +8,8 @@ use lib.ListN.{length, drop}
 use Rattle.model.specs.Basics.{when}
 use Rattle.model.specs.Limits.{maxPoints}
 use Rattle.model.specs.Problems.{Problem}
-use Rattle.model.specs.Frontiers.{Point, frontier}
+use Rattle.model.specs.Frontiers.{Point}
+use Rattle.model.specs.Core.{coreFrontier}
 use Rattle.model.specs.Cuts.{halfSize}
 use Rattle.rows.specs.Rows.{rowAt, listIn}
 use Rattle.passes.specs.declared.Found as DF
@@ -32,9 +33,9 @@ noLists = record { full = true; count = 0; first = 0; second = 0 }
 -- how many points each half has
 pub record CutFound (q : Problem) (sides : List ℕ) (room : ℕ) (work work′ : List ℕ) (f : DL.Lists) : Type 0 where
   pub full : f .full
-      ≡ (ltb maxPoints (halfSize 0 q sides) || (ltb maxPoints (halfSize 1 q sides) || ltb room (length (frontier q))))
-  pub count : f .count ≡ when (not (f .full)) (length (frontier q))
+      ≡ (ltb maxPoints (halfSize 0 q sides) || (ltb maxPoints (halfSize 1 q sides) || ltb room (length (coreFrontier q))))
+  pub count : f .count ≡ when (not (f .full)) (length (coreFrontier q))
   pub first : f .first ≡ when (not (f .full)) (halfSize 0 q sides)
   pub second : f .second ≡ when (not (f .full)) (halfSize 1 q sides)
-  pub list : f .full ≡ false → listIn (q .objectives) (length (q .domains)) work′ 0 (f .count) ≡ frontier q
+  pub list : f .full ≡ false → listIn (q .objectives) (length (q .domains)) work′ 0 (f .count) ≡ coreFrontier q
   pub long : length work′ ≡ length work

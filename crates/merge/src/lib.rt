@@ -28,7 +28,7 @@ fn keep_half(
         × (length (now sides) ≡ length (now sizes)) × (secondRow ≤ row) × (row ≤ firstRow)
         × (workNeed ≤ length (now work)) ⌝ }
     ensures { λ f. ⌜ KeptSays p (length (now (sizes .entry)))
-        (frontier (view side (problemAt p ceilings (now (sizes .entry)) (now (s .entry)) at r) (now (sides .entry))))
+        (coreFrontier (view side (problemAt p ceilings (now (sizes .entry)) (now (s .entry)) at r) (now (sides .entry))))
         row (now (work .entry)) (now (work .exit)) f ⌝ }
 {
     let found = listing::find_half(

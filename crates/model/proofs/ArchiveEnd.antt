@@ -8,7 +8,8 @@ use lib.ListN.{length}
 use Rattle.model.specs.Basics.{All}
 use Rattle.model.specs.Problems.{Problem}
 use Rattle.model.specs.Vectors.{same}
-use Rattle.model.specs.Frontiers.{Point, sorted, frontier, Reached}
+use Rattle.model.specs.Frontiers.{Point, sorted}
+use Rattle.model.specs.Core.{coreFrontier, CoreReached}
 use Rattle.model.specs.Archive.{weighted, Covered, Archived, Distinct}
 use Rattle.model.proofs.Bits.{test, true-false}
 use Rattle.model.proofs.Vectors.{AtMost, same-true, same-eq, at-most-test, at-most-refl, at-most-trans, at-most-antisym}
@@ -59,17 +60,17 @@ module _ {q : Problem} {ws : List ℕ} {archive : List Point} {limit : ℕ} (h :
         matched = λ r m. let (s, i, e, c) = sorted-covers (q .objectives) (length (q .domains)) archive sized r m in (s, i, subst (AtMost (s .costs)) e (at-most-refl (s .costs)));
       }
 
-  module _ (covered : (y : Point) → Reached q y → Covered ws archive limit y) where
+  module _ (covered : (y : Point) → CoreReached q y → Covered ws archive limit y) where
     -- a limit above every sum: the frontier
-    pub archive-frontier : ((y : Point) → Reached q y → weighted ws (y .costs) < limit) → sorted archive ≡ frontier q
-    archive-frontier below = best-frontier q (sorted archive) (best-cover (q .objectives) (λ a. In a archive) (Reached q) (sorted archive) (reached-width q) (h .reached) served archive-best)
+    pub archive-frontier : ((y : Point) → CoreReached q y → weighted ws (y .costs) < limit) → sorted archive ≡ coreFrontier q
+    archive-frontier below = best-frontier q (sorted archive) (best-cover (q .objectives) (λ a. In a archive) (CoreReached q) (sorted archive) (reached-width q) (h .reached) served archive-best)
       where
-        served : (y : Point) → Reached q y → (a : Point) × In a archive × AsGood a y
+        served : (y : Point) → CoreReached q y → (a : Point) × In a archive × AsGood a y
         served y r = ⊎-elim (λ l. absurd (omega (arith, below y r))) (λ (a, m, s). (a, m, serves-as-good a y s)) (covered y r)
 
     -- any limit: what beats an archived point has a smaller sum, so an archived point matches it, and the first one too
     module _ (long : q .objectives ≤ length ws) (weights : All (λ w. 1 ≤ w) ws) where
-      archive-unbeaten : (a r : Point) → In a archive → Reached q r → AtMost (r .costs) (a .costs) → r .costs ≡ a .costs
+      archive-unbeaten : (a r : Point) → In a archive → CoreReached q r → AtMost (r .costs) (a .costs) → r .costs ≡ a .costs
       archive-unbeaten a r m k t = ⊎-elim (λ s. same-true (r .costs) (a .costs) s) (λ s. beaten (λ e. true-false (same-eq e) s)) (test (same (r .costs) (a .costs)))
         where
           width : length (r .costs) ≡ length (a .costs)
@@ -86,10 +87,10 @@ module _ {q : Problem} {ws : List ℕ} {archive : List Point} {limit : ℕ} (h :
               at-most-antisym (r .costs) (a .costs) width t (subst (λ (c : Point). AtMost (c .costs) (r .costs)) one u))
               (covered r k)
 
-      pub archive-full : Distinct archive → length archive ≤ length (frontier q)
-      archive-full d = omega (arith, sorted-length (q .objectives) (length (q .domains)) archive sized d, costs-count (frontier q) (sorted archive) (frontier-best q .listed .order) (archive-best .listed .order) found)
+      pub archive-full : Distinct archive → length archive ≤ length (coreFrontier q)
+      archive-full d = omega (arith, sorted-length (q .objectives) (length (q .domains)) archive sized d, costs-count (coreFrontier q) (sorted archive) (frontier-best q .listed .order) (archive-best .listed .order) found)
         where
-          found : (a : Point) → In a (sorted archive) → (f : Point) × In f (frontier q) × (f .costs ≡ a .costs)
+          found : (a : Point) → In a (sorted archive) → (f : Point) × In f (coreFrontier q) × (f .costs ≡ a .costs)
           found a m =
               let (f, n, t) = frontier-best q .matched a (h .reached a (in-archive a m)) in
               (f, n, archive-unbeaten a f (in-archive a m) (frontier-best q .listed .sound f n) t)

@@ -29,7 +29,7 @@ module _ (p : ℕ) (ds : List ℕ) (few : p ≤ maxObjectives) (small : length d
   table-bytes : (t : Table) → TableRules p ds t → All Byte (tableBytes t)
   unfolding tableBytes
   table-bytes t r =
-      (omega arith, (omega arith, (omega (arith, r .owner), (omega (arith, r .arity), all-append Byte (t .scope) (wordBytes (t .costs)) (all-map (λ v. v < length ds) Byte (λ v l. omega arith) (t .scope) (distinct-range (length ds) (t .scope) (scope-distinct (length ds) 0 (t .scope) (r .rising)))) (words-bytes (t .costs) (r .words))))))
+      (omega arith, (omega arith, (omega (arith, r .owner), (omega (arith, r .arity), all-append Byte (t .scope) (wordBytes (t .costs)) (all-map (λ v. v < length ds) Byte (λ v l. omega arith) (t .scope) (distinct-range (length ds) (t .scope) (scope-distinct (length ds) (t .scope) (r .rising)))) (words-bytes (t .costs) (r .words))))))
 
   tables-bytes : (ts : List Table) → All (TableRules p ds) ts → All Byte (tablesBytes ts)
   unfolding tablesBytes

@@ -1,7 +1,7 @@
--- `choices ds` lists exactly the choices of ds, and `pointsFrom` their consistent points.
+-- `choices ds` lists exactly the choices of ds, and `pointsBy` the points of those that pass a test.
 use mathlib.Core.Path.{_≡_, refl, ap, sym, _∙_, subst}
 use mathlib.Core.Logic.{_⊎_, inl, inr, ⊎-elim}
-use mathlib.Core.Bool.{true, false≢true}
+use mathlib.Core.Bool.{Bool, true, false≢true}
 use mathlib.Core.List.{List, [], _∷_, List·Memᴰ as In, List·Memᴰ·head as here, List·Memᴰ·tail as there, List·Memᴰ·not-nil as in-none, List·Memᴰ·cases-cons as in-cases, List·Memᴰ·append-cases as in-append, Memᴰ·append-left as in-left, Memᴰ·append-right as in-right}
 use Prim.Native.Nat.{ℕ, zero, suc, _+_, _≤_, _<_}
 use native.Mathlib.Omega.{arith}
@@ -10,7 +10,7 @@ use lib.ListN.{length}
 use borrow.Author.Tests.{ltb-true, ltb-false, lt-ltb}
 use Rattle.model.specs.Problems.{Problem}
 use Rattle.model.specs.Costs.{isChoice, costsOf}
-use Rattle.model.specs.Frontiers.{consistent, Point, point, withFirst, firstsFrom, choices, pointsFrom}
+use Rattle.model.specs.Frontiers.{Point, point, withFirst, firstsFrom, choices, pointsBy}
 use Rattle.model.proofs.Bits.{test, and-left, and-right, and-both, kept-cases, kept-here, kept-there}
 
 in-first : (v : ℕ) {x : List ℕ} (cs : List (List ℕ)) → In x cs → In (v ∷ x) (withFirst v cs)
@@ -65,20 +65,27 @@ choice-length [] (v ∷ x) h = absurd (false≢true h)
 choice-length (d ∷ ds) [] h = absurd (false≢true h)
 choice-length (d ∷ ds) (v ∷ x) h = ap suc (choice-length ds x (and-right (ltb v d) (isChoice ds x) h))
 
-pub in-points : (q : Problem) (xs : List (List ℕ)) (p : Point) → In p (pointsFrom q xs) → In (p .choice) xs × (consistent q (p .choice) ≡ true) × (p .costs ≡ costsOf q (p .choice))
-unfolding pointsFrom
-in-points q [] p m = absurd (in-none m)
-in-points q (x ∷ xs) p m =
-    ⊎-elim
-    (λ h. let c : p .choice ≡ x = ap (λ (t : Point). t .choice) (h .0) in (here c, rw c (h .1), ap (λ (t : Point). t .costs) (h .0) ∙ ap (costsOf q) (sym c)))
-    (λ n. let k = in-points q xs p n in (there (k .0), k .1, k .2))
-    (kept-cases (consistent q x) m)
+-- of those that pass a test
+module _ (test : List ℕ → Bool) (q : Problem) where
+  pub in-points : (xs : List (List ℕ)) (p : Point) → In p (pointsBy test q xs)
+      → In (p .choice) xs × (test (p .choice) ≡ true) × (p .costs ≡ costsOf q (p .choice))
+  unfolding pointsBy
+  in-points [] p m = absurd (in-none m)
+  in-points (x ∷ xs) p m =
+      ⊎-elim
+      (λ h.
+      let c : p .choice ≡ x = ap (λ (t : Point). t .choice) (h .0) in
+      (here c, rw c (h .1), ap (λ (t : Point). t .costs) (h .0) ∙ ap (costsOf q) (sym c)))
+      (λ n. let k = in-points xs p n in (there (k .0), k .1, k .2))
+      (kept-cases (test x) m)
 
-pub points-in : (q : Problem) (xs : List (List ℕ)) (x : List ℕ) → In x xs → consistent q x ≡ true → In (point (costsOf q x) x) (pointsFrom q xs)
-unfolding pointsFrom
-points-in q [] x m h = absurd (in-none m)
-points-in q (y ∷ xs) x m h =
-    ⊎-elim
-    (λ (e : x ≡ y). subst (λ (z : List ℕ). In (point (costsOf q z) z) (pointsFrom q (y ∷ xs))) (sym e) (kept-here (point (costsOf q y) y) (pointsFrom q xs) (rw e at h)))
-    (λ n. kept-there (consistent q y) (point (costsOf q y) y) (points-in q xs x n h))
-    (in-cases m)
+  pub points-in : (xs : List (List ℕ)) (x : List ℕ) → In x xs → test x ≡ true
+      → In (point (costsOf q x) x) (pointsBy test q xs)
+  unfolding pointsBy
+  points-in [] x m h = absurd (in-none m)
+  points-in (y ∷ xs) x m h =
+      ⊎-elim
+      (λ (e : x ≡ y). subst (λ (z : List ℕ). In (point (costsOf q z) z) (pointsBy test q (y ∷ xs))) (sym e)
+      (kept-here (point (costsOf q y) y) (pointsBy test q xs) (rw e at h)))
+      (λ n. kept-there (test y) (point (costsOf q y) y) (points-in xs x n h))
+      (in-cases m)

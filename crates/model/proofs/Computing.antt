@@ -5,11 +5,11 @@ use Rattle.model.specs.Encoding.{twoBytes, fourBytes, wordBytes, headByt
 use Rattle.model.specs.Reading.{word2, word4, wordsIn, startNumber, headNumber, domainNumber, tableScope, tableLength, tableNumber, tableOf, domainsVerdict, domainsAt, tablesVerdict, tablesAt, placesAt, bodyVerdict, verdictOf, problemOf, placesOf}
 use Rattle.model.specs.Vectors.{under, atMost, same, earlier, added}
 use Rattle.model.specs.Costs.{isChoice, entryFrom, costOf, total, totalsFrom, totals, costsOf}
-use Rattle.model.specs.Frontiers.{consistent, someBeats, unbeaten, put, sorted, best, withFirst, firstsFrom, choices, pointsFrom, frontier, rising}
+use Rattle.model.specs.Frontiers.{consistent, someBeats, unbeaten, put, sorted, best, withFirst, firstsFrom, choices, pointsBy, frontierBy, rising}
 use Rattle.model.specs.Bounds.{prefixOk, agrees, leastTo, leastFrom, leastOf, boundOf}
 use Rattle.model.specs.Cuts.{allSides, sidesOk, hasSide, crosses, linkedVerdict, uncrossed, onSide, newNumber, renumbered, inHalf, halfTables, half, merged, pairsWith, allPairs, cutList, otherSide, exchanged}
 use Rattle.model.specs.Calls.{over, padded, divided, roomOf, flatCosts, flatChoices, pointRecords, workAfter, workVerdict, roomVerdict, solveVerdict, solveOutcome, listOutcome, sidesVerdict, cutRoomVerdict, cutVerdict, cutOutcome, boundVerdict, boundOutcome}
 
 unfoldable pub computing : Unit {0}
-unfolding firstOf sizeOf scopeOk twoBytes fourBytes wordBytes headBytes domainBytes tableBytes tablesBytes encode word2 word4 wordsIn startNumber headNumber domainNumber tableScope tableLength tableNumber tableOf domainsVerdict domainsAt tablesVerdict tablesAt placesAt bodyVerdict verdictOf problemOf placesOf under atMost same earlier added isChoice entryFrom costOf total totalsFrom totals costsOf consistent someBeats unbeaten put sorted best withFirst firstsFrom choices pointsFrom frontier rising prefixOk agrees leastTo leastFrom leastOf boundOf allSides sidesOk hasSide crosses linkedVerdict uncrossed onSide newNumber renumbered inHalf halfTables half merged pairsWith allPairs cutList otherSide exchanged over padded divided roomOf flatCosts flatChoices pointRecords workAfter workVerdict roomVerdict solveVerdict solveOutcome listOutcome sidesVerdict cutRoomVerdict cutVerdict cutOutcome boundVerdict boundOutcome
+unfolding firstOf sizeOf scopeOk twoBytes fourBytes wordBytes headBytes domainBytes tableBytes tablesBytes encode word2 word4 wordsIn startNumber headNumber domainNumber tableScope tableLength tableNumber tableOf domainsVerdict domainsAt tablesVerdict tablesAt placesAt bodyVerdict verdictOf problemOf placesOf under atMost same earlier added isChoice entryFrom costOf total totalsFrom totals costsOf consistent someBeats unbeaten put sorted best withFirst firstsFrom choices pointsBy frontierBy rising prefixOk agrees leastTo leastFrom leastOf boundOf allSides sidesOk hasSide crosses linkedVerdict uncrossed onSide newNumber renumbered inHalf halfTables half merged pairsWith allPairs cutList otherSide exchanged over padded divided roomOf flatCosts flatChoices pointRecords workAfter workVerdict roomVerdict solveVerdict solveOutcome listOutcome sidesVerdict cutRoomVerdict cutVerdict cutOutcome boundVerdict boundOutcome
 computing = tt

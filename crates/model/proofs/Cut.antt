@@ -1,5 +1,6 @@
--- Demand 3: merging the halves' frontier lists gives the frontier list, for every problem and side list that no record crosses.
-use mathlib.Core.Path.{_≡_, refl, sym, _∙_, subst, ap₂}
+-- Demand 3: merging the halves' frontier lists gives the frontier list, for every problem and side list that no record
+-- crosses. It is proved of the core, where the halves may have other ceilings than the sums.
+use mathlib.Core.Path.{_≡_, refl, sym, _∙_, subst, ap, ap₂}
 use mathlib.Core.Logic.{⊎-elim}
 use mathlib.Core.Bool.{true}
 use mathlib.Core.List.{List, [], _∷_, List·Memᴰ as In, List·Memᴰ·head as here, List·Memᴰ·tail as there, List·Memᴰ·not-nil as in-none, List·Memᴰ·cases-cons as in-cases, List·Memᴰ·append-cases as in-append, Memᴰ·append-left as in-left, Memᴰ·append-right as in-right}
@@ -9,8 +10,9 @@ use lib.ListN.{length}
 use borrow.Author.Tests.{eqb-true}
 use Rattle.model.specs.Problems.{Problem}
 use Rattle.model.specs.Vectors.{under, added}
-use Rattle.model.specs.Costs.{isChoice, costsOf}
-use Rattle.model.specs.Frontiers.{consistent, Point, point, frontier, Reached}
+use Rattle.model.specs.Costs.{isChoice, totals, costsOf}
+use Rattle.model.specs.Frontiers.{Point, point, best, frontier}
+use Rattle.model.specs.Core.{coreOf, withCeilings, coreConsistent, coreFrontier, CoreReached}
 use Rattle.model.specs.Cuts.{allSides, sidesOk, uncrossed, onSide, half, merged, pairOf, pairsWith, allPairs, cutList}
 use Rattle.model.proofs.Bits.{and-left, and-right, kept-cases, kept-here, kept-there}
 use Rattle.model.proofs.Vectors.{AtMost, NotLater}
@@ -18,6 +20,7 @@ use Rattle.model.proofs.Best.{AsGood, best-cover, best-good}
 use Rattle.model.proofs.Sorting.{AllSized, best-right}
 use Rattle.model.proofs.Choices.{choice-length}
 use Rattle.model.proofs.Frontier.{costs-width, reached-width, reached-length, frontier-best, best-frontier}
+use Rattle.model.proofs.Core.{core-frontier, core-half-list, core-pairs, core-sides, core-uncrossed}
 use Rattle.model.proofs.Sums.{added-length, added-left, added-right, added-mono, added-tie, under-mono}
 use Rattle.model.proofs.Sides.{Joined, joined, part-choice, parts-order}
 use Rattle.model.proofs.Halves.{costs-halves}
@@ -70,7 +73,21 @@ pub sides-all : (q : Problem) (ss : List ℕ) → sidesOk q ss ≡ true → allS
 unfolding sidesOk
 sides-all q ss h = and-right (eqb (length ss) (length (q .domains))) (allSides ss) h
 
-module _ (q : Problem) (ss : List ℕ) (sides : sidesOk q ss ≡ true) (free : uncrossed ss (q .tables) ≡ true) where
+-- the sides and the costs do not depend on the ceilings
+pub sides-with : (cs : List ℕ) (q : Problem) (ss : List ℕ) → sidesOk q ss ≡ true → sidesOk (withCeilings cs q) ss ≡ true
+unfolding sidesOk
+sides-with cs q ss h = h
+
+costs-with : (cs : List ℕ) (q : Problem) (x : List ℕ) → costsOf (withCeilings cs q) x ≡ costsOf q x
+unfolding costsOf totals
+costs-with cs q x = refl
+
+-- what keeps the ceilings of the problem keeps those of the halves
+module _ (q : Problem) (ss : List ℕ) (sides : sidesOk q ss ≡ true) (free : uncrossed ss (q .tables) ≡ true) (hs : List ℕ)
+    (loose : (c : List ℕ) → under c (q .ceilings) ≡ true → under c hs ≡ true) where
+  abbrev halfOf : ℕ → Problem
+  halfOf k = half k (withCeilings hs q) ss
+
   all : allSides ss ≡ true
   all = sides-all q ss sides
 
@@ -82,68 +99,71 @@ module _ (q : Problem) (ss : List ℕ) (sides : sidesOk q ss ≡ true) (free : u
 
   -- the frontier list of a half
   abbrev listOf : ℕ → List Point
-  listOf k = frontier (half k q ss)
+  listOf k = coreFrontier (halfOf k)
 
-  listed : (k : ℕ) (a : Point) → In a (listOf k) → Reached (half k q ss) a
-  listed k a m = frontier-best (half k q ss) .listed .sound a m
+  listed : (k : ℕ) (a : Point) → In a (listOf k) → CoreReached (halfOf k) a
+  listed k a m = frontier-best (halfOf k) .listed .sound a m
 
-  width : (k : ℕ) (a : Point) → Reached (half k q ss) a → length (a .costs) ≡ q .objectives
+  width : (k : ℕ) (a : Point) → CoreReached (halfOf k) a → length (a .costs) ≡ q .objectives
   unfolding half
-  width k a h = reached-width (half k q ss) a h
+  width k a h = reached-width (halfOf k) a h
 
   -- the choices of two halves' points make a choice
-  join : (a b : Point) → Reached (half 0 q ss) a → Reached (half 1 q ss) b → Joined ss (q .domains) (a .choice) (b .choice)
+  join : (a b : Point) → CoreReached (halfOf 0) a → CoreReached (halfOf 1) b → Joined ss (q .domains) (a .choice) (b .choice)
   unfolding half
   join a b h k = joined ss (q .domains) (a .choice) (b .choice) all long (h .complete) (k .complete)
 
   -- points of the halves make a point of the problem
-  pair-reached : (a b : Point) → Reached (half 0 q ss) a → Reached (half 1 q ss) b → Under q a b → Reached q (pairOf ss a b)
-  unfolding consistent
+  pair-reached : (a b : Point) → CoreReached (halfOf 0) a → CoreReached (halfOf 1) b → Under q a b → CoreReached q (pairOf ss a b)
+  unfolding coreConsistent
   pair-reached a b h k u =
       let j = join a b h k in
       let z = merged ss (a .choice) (b .choice) in
-      let parts : costsOf q z ≡ added (costsOf (half 0 q ss) (onSide 0 ss z)) (costsOf (half 1 q ss) (onSide 1 ss z)) = costs-halves q ss z all long (choice-long z (j .whole)) free in
-      let e : added (a .costs) (b .costs) ≡ costsOf q z = ap₂ added (h .exact ∙ sym (λ i. costsOf (half 0 q ss) (j .zero-part i))) (k .exact ∙ sym (λ i. costsOf (half 1 q ss) (j .one-part i))) ∙ sym parts in
+      let parts : costsOf q z ≡ added (costsOf (halfOf 0) (onSide 0 ss z)) (costsOf (halfOf 1) (onSide 1 ss z)) =
+      sym (costs-with hs q z) ∙ costs-halves (withCeilings hs q) ss z all long (choice-long z (j .whole)) free in
+      let e : added (a .costs) (b .costs) ≡ costsOf q z = ap₂ added (h .exact ∙ sym (λ i. costsOf (halfOf 0) (j .zero-part i))) (k .exact ∙ sym (λ i. costsOf (halfOf 1) (j .one-part i))) ∙ sym parts in
       record { complete = j .whole; allowed = subst (λ (t : List ℕ). under t (q .ceilings) ≡ true) e u; exact = e }
 
   -- the pairs of the halves' lists
   pairs : List Point
   pairs = allPairs q ss (listOf 0) (listOf 1)
 
-  pairs-reached : (p : Point) → In p pairs → Reached q p
+  pairs-reached : (p : Point) → In p pairs → CoreReached q p
   unfolding pairs
   pairs-reached p m =
       let (a, b, i, j, e, u) = pairs-in q ss (listOf 0) (listOf 1) p m in
-      subst (Reached q) (sym e) (pair-reached a b (listed 0 a i) (listed 1 b j) u)
+      subst (CoreReached q) (sym e) (pair-reached a b (listed 0 a i) (listed 1 b j) u)
 
   pub pairs-sized : AllSized (q .objectives) (length (q .domains)) (allPairs q ss (listOf 0) (listOf 1))
   unfolding pairs
   pairs-sized p m = let h = pairs-reached p m in (reached-width q p h, reached-length q p h)
 
   -- a point of the problem and its two parts
-  module _ (p : Point) (h : Reached q p) where
+  module _ (p : Point) (h : CoreReached q p) where
     abbrev part : ℕ → Point
-    part k = let x = onSide k ss (p .choice) in point (costsOf (half k q ss) x) x
+    part k = let x = onSide k ss (p .choice) in point (costsOf (halfOf k) x) x
 
     part-costs : p .costs ≡ added (part 0 .costs) (part 1 .costs)
-    part-costs = h .exact ∙ costs-halves q ss (p .choice) all long (choice-long (p .choice) (h .complete)) free
+    part-costs =
+        h .exact ∙ sym (costs-with hs q (p .choice))
+        ∙ costs-halves (withCeilings hs q) ss (p .choice) all long (choice-long (p .choice) (h .complete)) free
 
     part-width : (k : ℕ) → length (part k .costs) ≡ q .objectives
     unfolding half
-    part-width k = costs-width (half k q ss) (part k .choice)
+    part-width k = costs-width (halfOf k) (part k .choice)
 
     -- what is at most the whole is under the ceilings
     part-under : (c : List ℕ) → length c ≡ q .objectives → AtMost c (added (part 0 .costs) (part 1 .costs)) → under c (q .ceilings) ≡ true
-    unfolding consistent
+    unfolding coreConsistent
     part-under c e a = under-mono c (costsOf q (p .choice)) (q .ceilings) (e ∙ sym (costs-width q (p .choice))) (subst (AtMost c) (sym part-costs ∙ h .exact) a) (h .allowed)
 
-    part-reached : (k : ℕ) → AtMost (part k .costs) (added (part 0 .costs) (part 1 .costs)) → Reached (half k q ss) (part k)
-    unfolding half consistent
-    part-reached k a = record { complete = part-choice k ss (q .domains) (p .choice) (h .complete); allowed = part-under (part k .costs) (part-width k) a; exact = refl }
+    part-reached : (k : ℕ) → AtMost (part k .costs) (added (part 0 .costs) (part 1 .costs)) → CoreReached (halfOf k) (part k)
+    unfolding half coreConsistent
+    part-reached k a = record { complete = part-choice k ss (q .domains) (p .choice) (h .complete); allowed = loose (part k .costs) (part-under (part k .costs) (part-width k) a); exact = refl }
 
     -- the list of half k has a point as good as the part
     part-good : (k : ℕ) → AtMost (part k .costs) (added (part 0 .costs) (part 1 .costs)) → (a : Point) × In a (listOf k) × AsGood a (part k)
-    part-good k a = best-good (Reached (half k q ss)) (listOf k) (frontier-best (half k q ss)) (part k) (part-reached k a)
+    part-good k a = best-good (CoreReached (halfOf k)) (listOf k) (frontier-best (halfOf k)) (part k) (part-reached k a)
 
     pairs-cover : (r : Point) × In r pairs × AsGood r p
     unfolding pairs
@@ -160,10 +180,21 @@ module _ (q : Problem) (ss : List ℕ) (sides : sidesOk q ss ≡ true) (free : u
         parts-order ss (merged ss (a .choice) (b .choice)) (p .choice) all (choice-long (merged ss (a .choice) (b .choice)) (n .whole)) (choice-long (p .choice) (h .complete)) (rw (n .zero-part) (g .1 x)) (rw (n .one-part) (k .1 y)) in
         (pairOf ss a b, in-pairs q ss a b (listOf 0) (listOf 1) i j u, (subst (AtMost (added (a .costs) (b .costs))) (sym part-costs) less, order))
 
-  -- demand 3
-  pub cut-frontier : cutList q ss ≡ frontier q
-  unfolding pairs cutList
-  cut-frontier =
-      best-frontier q (cutList q ss)
-      (best-cover (q .objectives) (λ p. In p pairs) (Reached q) (cutList q ss) (reached-width q) pairs-reached pairs-cover
+  pub cut-best : best (allPairs q ss (listOf 0) (listOf 1)) ≡ coreFrontier q
+  unfolding pairs
+  cut-best =
+      best-frontier q (best (allPairs q ss (listOf 0) (listOf 1)))
+      (best-cover (q .objectives) (λ p. In p pairs) (CoreReached q) (best (allPairs q ss (listOf 0) (listOf 1)))
+      (reached-width q) pairs-reached pairs-cover
       (best-right (q .objectives) (length (q .domains)) pairs pairs-sized))
+
+-- demand 3
+pub cut-frontier : (q : Problem) (ss : List ℕ) → sidesOk q ss ≡ true → uncrossed ss (q .tables) ≡ true
+    → cutList q ss ≡ frontier q
+unfolding cutList
+cut-frontier q ss sides free =
+    ap best (core-pairs q ss (frontier (half 0 q ss)) (frontier (half 1 q ss))
+    ∙ ap₂ (allPairs (coreOf q) ss) (sym (core-half-list 0 ss q)) (sym (core-half-list 1 ss q)))
+    ∙ cut-best (coreOf q) ss (core-sides q ss ∙ sides) (core-uncrossed ss (q .tables) ∙ free) (coreOf q .ceilings)
+    (λ c u. u)
+    ∙ core-frontier q

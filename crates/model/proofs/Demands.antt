@@ -7,7 +7,7 @@ use lib.ListN.{length}
 use Rattle.model.specs.Basics.{pick, All}
 use Rattle.model.specs.Limits.{maxPoints}
 use Rattle.model.specs.Refusals.{badPrefix, verdict, accepted}
-use Rattle.model.specs.Problems.{Problem, InRange, AllInRange, scopeOk}
+use Rattle.model.specs.Problems.{Problem, InRange, AllInRange, scopeRule}
 use Rattle.model.specs.Encoding.{Byte, encode}
 use Rattle.model.specs.Reading.{verdictOf, problemOf}
 use Rattle.model.specs.Frontiers.{Point, frontier}
@@ -112,8 +112,8 @@ in-range : (s : List ℕ) → verdictOf s .number ≡ 0
     → AllInRange (length (problemOf s .domains)) (problemOf s .tables)
 in-range s h =
     let n = length (problemOf s .domains) in
-    all-map (λ t. scopeOk n 0 (t .scope) ≡ true) (λ t. InRange n (t .scope))
-    (λ t k. distinct-range n (t .scope) (scope-distinct n 0 (t .scope) k)) (problemOf s .tables) (accepted-scopes s h)
+    all-map (λ t. scopeRule n (t .scope) ≡ true) (λ t. InRange n (t .scope))
+    (λ t k. distinct-range n (t .scope) (scope-distinct n (t .scope) k)) (problemOf s .tables) (accepted-scopes s h)
 
 module _ (s sides costs choices work : List ℕ) where
   abbrev room : ℕ

@@ -1,8 +1,9 @@
--- Demand 2: the frontier is the one list that Is-frontier describes, for every problem; and its costs fit their ceilings' type.
-use mathlib.Core.Path.{_≡_, refl, ap, sym, _∙_, subst}
+-- Demand 2: the frontier is the one list that Is-frontier describes, for every problem; and its costs fit their
+-- ceilings' type. What is said of lists and points holds for any test of choices.
+use mathlib.Core.Path.{_≡_, refl, ap, ap₂, sym, _∙_, subst}
 use mathlib.Core.Logic.{inl}
-use mathlib.Core.Bool.{true}
-use mathlib.Core.List.{List, [], _∷_, List·Memᴰ as In}
+use mathlib.Core.Bool.{Bool, true, false}
+use mathlib.Core.List.{List, [], _∷_, List·Memᴰ as In, List·Memᴰ·head as here, List·Memᴰ·tail as there}
 use Prim.Native.Nat.{ℕ}
 use native.Mathlib.Omega.{arith}
 use lib.Dec.{ltb}
@@ -12,7 +13,7 @@ use Rattle.model.specs.Basics.{All}
 use Rattle.model.specs.Problems.{Problem, Word, RecordRules}
 use Rattle.model.specs.Vectors.{under, beats}
 use Rattle.model.specs.Costs.{isChoice, costOf, costsOf}
-use Rattle.model.specs.Frontiers.{consistent, Point, point, choices, pointsFrom, frontier, Reached, Is-frontier}
+use Rattle.model.specs.Frontiers.{consistent, Point, point, best, choices, pointsBy, frontierBy, frontier, ReachedBy, Reached, Is-frontier}
 use Rattle.model.proofs.Bits.{not-true-false, and-left, and-right}
 use Rattle.model.proofs.Vectors.{at-most-true, at-most-test, at-most-refl, beats-true, beats-false, not-earlier, later-false}
 use Rattle.model.proofs.Points.{rising-true, rising-test}
@@ -25,43 +26,79 @@ pub costs-width : (q : Problem) (x : List ℕ) → length (costsOf q x) ≡ q .o
 unfolding costsOf
 costs-width q x = totals-length q (costOf (q .domains) x)
 
-module _ (q : Problem) where
-  pub reached-width : (p : Point) → Reached q p → length (p .costs) ≡ q .objectives
+-- the choices that pass a test: the list of all their points
+abbrev allBy : (List ℕ → Bool) → Problem → List Point
+allBy test q = pointsBy test q (choices (q .domains))
+
+module _ {test : List ℕ → Bool} (q : Problem) where
+  pub reached-width : (p : Point) → ReachedBy test q p → length (p .costs) ≡ q .objectives
   reached-width p h = ap length (h .exact) ∙ costs-width q (p .choice)
 
-  pub reached-length : (p : Point) → Reached q p → length (p .choice) ≡ length (q .domains)
+  pub reached-length : (p : Point) → ReachedBy test q p → length (p .choice) ≡ length (q .domains)
   reached-length p h = choice-length (q .domains) (p .choice) (h .complete)
 
-  -- a complete consistent choice is reached with its costs
-  pub reached-choice : (x : List ℕ) → isChoice (q .domains) x ≡ true → consistent q x ≡ true → Reached q (point (costsOf q x) x)
+  -- a complete choice that passes is reached with its costs
+  pub reached-choice : (x : List ℕ) → isChoice (q .domains) x ≡ true → test x ≡ true
+      → ReachedBy test q (point (costsOf q x) x)
   reached-choice x h c = record { complete = h; allowed = c; exact = refl }
 
-  -- the list of all reached points
-  abbrev allPoints : List Point
-  allPoints = pointsFrom q (choices (q .domains))
+  all-reached : (p : Point) → In p (allBy test q) → ReachedBy test q p
+  all-reached p m =
+      let h = in-points test q (choices (q .domains)) p m in
+      record { complete = choices-in (q .domains) (p .choice) (h .0); allowed = h .1; exact = h .2 }
 
-  all-reached : (p : Point) → In p allPoints → Reached q p
-  all-reached p m = let h = in-points q (choices (q .domains)) p m in record { complete = choices-in (q .domains) (p .choice) (h .0); allowed = h .1; exact = h .2 }
+  reached-all : (p : Point) → ReachedBy test q p → In p (allBy test q)
+  reached-all p h =
+      subst (λ (c : List ℕ). In (point c (p .choice)) (allBy test q)) (sym (h .exact))
+      (points-in test q (choices (q .domains)) (p .choice) (in-choices (q .domains) (p .choice) (h .complete)) (h .allowed))
 
-  reached-all : (p : Point) → Reached q p → In p allPoints
-  reached-all p h = subst (λ (c : List ℕ). In (point c (p .choice)) allPoints) (sym (h .exact)) (points-in q (choices (q .domains)) (p .choice) (in-choices (q .domains) (p .choice) (h .complete)) (h .allowed))
-
-  all-sized : AllSized (q .objectives) (length (q .domains)) allPoints
-  all-sized p m = let h = all-reached p m in (reached-width p h, reached-length p h)
-
-  pub frontier-best : Best (Reached q) (frontier q)
-  unfolding frontier
+  pub frontier-best : Best (ReachedBy test q) (frontierBy test q)
+  unfolding frontierBy
   frontier-best =
-      best-cover (q .objectives) (λ p. In p allPoints) (Reached q) (frontier q) reached-width all-reached
-      (λ p h. (p, reached-all p h, (at-most-refl (p .costs), λ e. inl refl)))
-      (best-right (q .objectives) (length (q .domains)) allPoints all-sized)
+      let sized : AllSized (q .objectives) (length (q .domains)) (allBy test q) =
+      λ p m. let h = all-reached p m in (reached-width p h, reached-length p h) in
+      best-cover (q .objectives) (λ p. In p (allBy test q)) (ReachedBy test q) (frontierBy test q) reached-width
+      all-reached (λ p h. (p, reached-all p h, (at-most-refl (p .costs), λ e. inl refl)))
+      (best-right (q .objectives) (length (q .domains)) (allBy test q) sized)
 
+  pub best-frontier : (ps : List Point) → Best (ReachedBy test q) ps → ps ≡ frontierBy test q
+  best-frontier ps b = best-unique (ReachedBy test q) ps (frontierBy test q) b frontier-best
+
+-- two problems over the same domains whose tests agree on all choices, and whose costs do on those that pass
+module _ (f g : List ℕ → Bool) (q r : Problem) where
+  points-agree : (xs : List (List ℕ)) → ((x : List ℕ) → In x xs → f x ≡ g x)
+      → ((x : List ℕ) → In x xs → f x ≡ true → costsOf q x ≡ costsOf r x) → pointsBy f q xs ≡ pointsBy g r xs
+  unfolding pointsBy
+  points-agree [] same costs = refl
+  points-agree (x ∷ xs) same costs =
+      first (f x) refl (same x (here refl)) (points-agree xs (λ y m. same y (there m)) (λ y m. costs y (there m)))
+    where
+      first : (b : Bool) → f x ≡ b → f x ≡ g x → pointsBy f q xs ≡ pointsBy g r xs
+          → pointsBy f q (x ∷ xs) ≡ pointsBy g r (x ∷ xs)
+      first true e s rest =
+          rw (← s, e) (ap₂ (λ c ps. point c x ∷ ps) (costs x (here refl) e) rest)
+      first false e s rest = rw (← s, e) rest
+
+  pub frontier-agrees : q .domains ≡ r .domains → ((x : List ℕ) → isChoice (q .domains) x ≡ true → f x ≡ g x)
+      → ((x : List ℕ) → isChoice (q .domains) x ≡ true → f x ≡ true → costsOf q x ≡ costsOf r x)
+      → frontierBy f q ≡ frontierBy g r
+  unfolding frontierBy
+  frontier-agrees sizes same costs =
+      let ds = q .domains in
+      ap best (points-agree (choices ds) (λ x m. same x (choices-in ds x m)) (λ x m. costs x (choices-in ds x m)))
+      ∙ ap (λ (es : List ℕ). best (pointsBy g r (choices es))) sizes
+
+-- the consistent choices
+module _ (q : Problem) where
   -- Is-frontier says Best, in tests
   pub best-is-frontier : (ps : List Point) → Best (Reached q) ps → Is-frontier q ps
   best-is-frontier ps b =
       record {
         reached = b .listed .sound;
-        none-beats = λ p r m h. not-true-false (beats (r .costs) (p .costs)) (λ t. let d = beats-true (r .costs) (p .costs) t in d .1 (b .listed .unbeaten p r m h (d .0)));
+        none-beats =
+            λ p r m h. not-true-false (beats (r .costs) (p .costs)) (λ t.
+            let d = beats-true (r .costs) (p .costs) t in
+            d .1 (b .listed .unbeaten p r m h (d .0)));
         all-matched = λ r h. let (p, m, a) = b .matched r h in (p, m, at-most-test (p .costs) (r .costs) a);
         in-order = rising-test ps (b .listed .order);
         earliest = λ p r m h e. later-false (p .choice) (r .choice) (b .listed .earliest p r m h e);
@@ -74,21 +111,20 @@ module _ (q : Problem) where
           sound = f .reached;
           unbeaten = λ p r m h a. beats-false (r .costs) (p .costs) (f .none-beats p r m h) a;
           order = rising-true ps (f .in-order);
-          earliest = λ p r m h e. not-earlier (r .choice) (p .choice) (reached-length r h ∙ sym (reached-length p (f .reached p m))) (f .earliest p r m h e);
+          earliest =
+              λ p r m h e. not-earlier (r .choice) (p .choice)
+              (reached-length q r h ∙ sym (reached-length q p (f .reached p m))) (f .earliest p r m h e);
         };
         matched = λ r h. let (p, m, a) = f .all-matched r h in (p, m, at-most-true (p .costs) (r .costs) a);
       }
 
   -- demand 2
   pub frontier-right : Is-frontier q (frontier q)
-  frontier-right = best-is-frontier (frontier q) frontier-best
+  frontier-right = best-is-frontier (frontier q) (frontier-best q)
 
   -- the frontier is the only such list
   pub frontier-unique : (ps rs : List Point) → Is-frontier q ps → Is-frontier q rs → ps ≡ rs
   frontier-unique ps rs f g = best-unique (Reached q) ps rs (is-frontier-best ps f) (is-frontier-best rs g)
-
-  pub best-frontier : (ps : List Point) → Best (Reached q) ps → ps ≡ frontier q
-  best-frontier ps b = best-unique (Reached q) ps (frontier q) b frontier-best
 
   -- reached costs are below their ceilings, listed ones among them
   pub reached-under : (p : Point) → Reached q p → under (p .costs) (q .ceilings) ≡ true
@@ -96,7 +132,7 @@ module _ (q : Problem) where
   reached-under p h = subst (λ (c : List ℕ). under c (q .ceilings) ≡ true) (sym (h .exact)) (h .allowed)
 
   pub listed-under : (p : Point) → In p (frontier q) → under (p .costs) (q .ceilings) ≡ true
-  listed-under p m = reached-under p (frontier-best .listed .sound p m)
+  listed-under p m = reached-under p (frontier-best q .listed .sound p m)
 
 -- what is below numbers of four bytes has four bytes
 pub under-words : (xs cs : List ℕ) → length xs ≡ length cs → under xs cs ≡ true → All Word cs → All Word xs
@@ -107,4 +143,7 @@ under-words (x ∷ xs) (c ∷ cs) e u w = (omega (arith, ltb-true x c (and-left 
 
 -- so that listed costs fit 32 bits
 pub listed-words : (q : Problem) → RecordRules q → (p : Point) → In p (frontier q) → All Word (p .costs)
-listed-words q rules p m = under-words (p .costs) (q .ceilings) (reached-width q p (frontier-best q .listed .sound p m) ∙ sym (rules .ceiling-each)) (listed-under q p m) (rules .ceiling-words)
+listed-words q rules p m =
+    under-words (p .costs) (q .ceilings)
+    (reached-width q p (frontier-best q .listed .sound p m) ∙ sym (rules .ceiling-each)) (listed-under q p m)
+    (rules .ceiling-words)

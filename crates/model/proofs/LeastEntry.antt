@@ -10,7 +10,7 @@ use lib.ListN.{length, getD, set, List·getD-eq-default}
 use lib.Seq.{getD-set-same, getD-set-other}
 use borrow.Author.Tests.{ltb-true, ltb-false, lt-ltb, leb-true, leb-false}
 use Rattle.model.specs.Basics.{All}
-use Rattle.model.specs.Problems.{Table, scopeOk}
+use Rattle.model.specs.Problems.{Table, scopeRule}
 use Rattle.model.specs.Costs.{isChoice, entryFrom, costOf}
 use Rattle.model.specs.Bounds.{prefixOk, agrees, leastTo, leastFrom, leastOf}
 use Rattle.model.proofs.Bits.{test, pick-both}
@@ -128,9 +128,9 @@ module _ (ds pre : List ℕ) (entry : ℕ → ℕ) (low : All (λ d. 1 ≤ d) ds
       ))
       (test (ltb v (length pre)))
 
-pub least-reached : (ds pre : List ℕ) (t : Table) → All (λ d. 1 ≤ d) ds → prefixOk ds pre ≡ true → scopeOk (length ds) 0 (t .scope) ≡ true → (x : List ℕ) × (isChoice ds x ≡ true) × (agrees pre x ≡ true) × (leastOf ds pre t ≡ costOf ds x t)
+pub least-reached : (ds pre : List ℕ) (t : Table) → All (λ d. 1 ≤ d) ds → prefixOk ds pre ≡ true → scopeRule (length ds) (t .scope) ≡ true → (x : List ℕ) × (isChoice ds x ≡ true) × (agrees pre x ≡ true) × (leastOf ds pre t ≡ costOf ds x t)
 unfolding leastOf costOf
-least-reached ds pre t low ok s = from-reached ds pre (λ i. getD (t .costs) i 0) low ok 0 (t .scope) (scope-distinct (length ds) 0 (t .scope) s)
+least-reached ds pre t low ok s = from-reached ds pre (λ i. getD (t .costs) i 0) low ok 0 (t .scope) (scope-distinct (length ds) (t .scope) s)
 
 -- where every entry is below w, so is the least
 module _ (w : ℕ) (ds pre : List ℕ) (entry : ℕ → ℕ) (h : (i : ℕ) → entry i < w) where

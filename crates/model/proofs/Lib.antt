@@ -25,6 +25,8 @@ pub mod Best
 pub mod Sorting
 pub mod Choices
 pub mod Frontier
+-- the core's form of a problem
+pub mod Core
 -- demand 3: the cut
 pub mod Sides
 pub mod Spread

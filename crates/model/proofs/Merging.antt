@@ -10,8 +10,9 @@ use Rattle.model.specs.Limits.{maxDomain}
 use Rattle.model.specs.Problems.{Problem, DomainSize}
 use Rattle.model.specs.Vectors.{under, same, earlier, added}
 use Rattle.model.specs.Costs.{isChoice}
-use Rattle.model.specs.Frontiers.{Point, point, best, frontier}
-use Rattle.model.specs.Cuts.{sidesOk, uncrossed, onSide, half, merged, pairsWith, allPairs, cutList}
+use Rattle.model.specs.Frontiers.{Point, point, best}
+use Rattle.model.specs.Core.{withCeilings, coreFrontier}
+use Rattle.model.specs.Cuts.{sidesOk, uncrossed, onSide, half, merged, pairsWith, allPairs}
 use Rattle.model.specs.Search.{Held, nothing, just, matched}
 use Rattle.model.specs.Views.{view, spread, spreadAll}
 use Rattle.model.specs.Merging.{sumsWith, allSums, ahead, nearer, leastLeft}
@@ -22,7 +23,7 @@ use Rattle.model.proofs.Best.{Pool, listed-count, best-unique}
 use Rattle.model.proofs.Sorting.{Sized, AllSized, best-right}
 use Rattle.model.proofs.Frontier.{frontier-best}
 use Rattle.model.proofs.Spread.{spreadPoint, spread-merged, spread-small}
-use Rattle.model.proofs.Cut.{sides-long, sides-all, pairs-sized, cut-frontier}
+use Rattle.model.proofs.Cut.{sides-long, sides-all, sides-with, pairs-sized, cut-best}
 use Rattle.model.proofs.Views.{view-list, view-choice}
 use Rattle.model.proofs.Passes.{NotAfter, not-after-refl, not-after-trans, Unmatched, matched-in, unmatched-false, Prefix, prefix-more, prefix-done}
 use Rattle.model.proofs.Held.{Beyond}
@@ -44,27 +45,39 @@ module _ (q : Problem) (ss : List ℕ) where
   sums-all [] bs h = refl
   sums-all (a ∷ xs) bs h = ap₂ _++_ (sums-with a bs (λ b m. h a b (here refl) m)) (sums-all xs bs (λ c b m. h c b (there m)))
 
--- the sums of the views' lists
-module _ (q : Problem) (ss : List ℕ) (sides : sidesOk q ss ≡ true) (free : uncrossed ss (q .tables) ≡ true) where
+-- the sums of the views' lists, each under ceilings hs that the problem's own imply
+module _ (q : Problem) (ss : List ℕ) (sides : sidesOk q ss ≡ true) (free : uncrossed ss (q .tables) ≡ true) (hs : List ℕ)
+    (loose : (c : List ℕ) → under c (q .ceilings) ≡ true → under c hs ≡ true) where
+  abbrev listed : ℕ → List Point
+  listed k = coreFrontier (half k (withCeilings hs q) ss)
+
+  abbrev seen : ℕ → List Point
+  seen k = coreFrontier (view k (withCeilings hs q) ss)
+
   -- the sum of two halves' choices is the merged choice
-  adds : (a b : Point) → In a (frontier (half 0 q ss)) → In b (frontier (half 1 q ss)) → Adds q ss a b
+  adds : (a b : Point) → In a (listed 0) → In b (listed 1) → Adds q ss a b
   unfolding half
   adds a b m n =
-      let complete : (k : ℕ) (p : Point) → In p (frontier (half k q ss)) → isChoice (onSide k ss (q .domains)) (p .choice) ≡ true = λ k p i. frontier-best (half k q ss) .listed .sound p i .complete in
-      spread-merged ss (q .domains) (a .choice) (b .choice) (sides-all q ss sides) (sides-long q ss sides) (complete 0 a m) (complete 1 b n)
+      let complete : (k : ℕ) (p : Point) → In p (listed k) → isChoice (onSide k ss (q .domains)) (p .choice) ≡ true =
+      λ k p i. frontier-best (half k (withCeilings hs q) ss) .listed .sound p i .complete in
+      spread-merged ss (q .domains) (a .choice) (b .choice) (sides-all q ss sides) (sides-long q ss sides)
+      (complete 0 a m) (complete 1 b n)
 
-  pub sums-pairs : allSums (q .ceilings) (frontier (view 0 q ss)) (frontier (view 1 q ss)) ≡ allPairs q ss (frontier (half 0 q ss)) (frontier (half 1 q ss))
-  sums-pairs = ap₂ (allSums (q .ceilings)) (view-list q ss sides free 0) (view-list q ss sides free 1) ∙ sums-all q ss (frontier (half 0 q ss)) (frontier (half 1 q ss)) adds
+  pub sums-pairs : allSums (q .ceilings) (seen 0) (seen 1) ≡ allPairs q ss (listed 0) (listed 1)
+  sums-pairs =
+      let each : (k : ℕ) → seen k ≡ spreadAll k ss (listed k) =
+      view-list (withCeilings hs q) ss (sides-with hs q ss sides) free in
+      ap₂ (allSums (q .ceilings)) (each 0) (each 1) ∙ sums-all q ss (listed 0) (listed 1) adds
 
-  pub sums-best : best (allSums (q .ceilings) (frontier (view 0 q ss)) (frontier (view 1 q ss))) ≡ frontier q
-  unfolding cutList
-  sums-best = ap best sums-pairs ∙ cut-frontier q ss sides free
+  pub sums-best : best (allSums (q .ceilings) (seen 0) (seen 1)) ≡ coreFrontier q
+  sums-best = ap best sums-pairs ∙ cut-best q ss sides free hs loose
 
-  pub sums-sized : AllSized (q .objectives) (length (q .domains)) (allSums (q .ceilings) (frontier (view 0 q ss)) (frontier (view 1 q ss)))
-  sums-sized = subst (AllSized (q .objectives) (length (q .domains))) (sym sums-pairs) (pairs-sized q ss sides free)
+  pub sums-sized : AllSized (q .objectives) (length (q .domains)) (allSums (q .ceilings) (seen 0) (seen 1))
+  sums-sized =
+      subst (AllSized (q .objectives) (length (q .domains))) (sym sums-pairs) (pairs-sized q ss sides free hs loose)
 
 -- the values of a summed choice are values of domains, so they fit bytes
-pub sums-bytes : (q : Problem) (ss : List ℕ) → All DomainSize (q .domains) → (a b : Point) → In a (frontier (view 0 q ss)) → In b (frontier (view 1 q ss)) → All (λ v. v < maxDomain) (added (a .choice) (b .choice))
+pub sums-bytes : (q : Problem) (ss : List ℕ) → All DomainSize (q .domains) → (a b : Point) → In a (coreFrontier (view 0 q ss)) → In b (coreFrontier (view 1 q ss)) → All (λ v. v < maxDomain) (added (a .choice) (b .choice))
 sums-bytes q ss w a b m n = spread-small ss (q .domains) (a .choice) (b .choice) w (view-choice q ss 0 a m) (view-choice q ss 1 b n)
 
 -- list order, by its test

@@ -7,7 +7,8 @@ use Prim.Native.Nat.{ℕ, _≤_}
 use lib.ListN.{length}
 use Rattle.model.specs.Problems.{Problem}
 use Rattle.model.specs.Vectors.{atMost, same}
-use Rattle.model.specs.Frontiers.{Point, frontier, Reached}
+use Rattle.model.specs.Frontiers.{Point}
+use Rattle.model.specs.Core.{coreFrontier, CoreReached}
 use Rattle.model.specs.Search.{matched}
 use Rattle.model.proofs.Bits.{test, true-false, or-cases, or-left, or-right}
 use Rattle.model.proofs.Vectors.{AtMost, Earlier, NotLater, same-true, same-eq, earlier-irrefl, earlier-trans, not-later-trans, at-most-true, at-most-test, at-most-trans, at-most-refl, at-most-earlier}
@@ -128,15 +129,15 @@ pub prefix-done : (P : Pool) (ps : List Point) → Prefix P ps → ((r : Point) 
 prefix-done P ps f none = record { listed = f .listed; matched = λ r h. ⊎-elim (λ t. matched-in r ps t) (λ t. absurd (none r (h, unmatched-false r ps t))) (test (matched (r .costs) ps)) }
 
 -- the laws of the search, of a problem's reached points
-module _ (q : Problem) (ps : List Point) (f : Prefix (Reached q) ps) where
+module _ (q : Problem) (ps : List Point) (f : Prefix (CoreReached q) ps) where
   -- the next point in list order is the least unmatched one
-  pub next-point : (x : Point) → Least (Unmatched (Reached q) ps) x → Prefix (Reached q) (ps ++ (x ∷ []))
-  next-point x g = prefix-more (q .objectives) (Reached q) (reached-width q) ps x f g
+  pub next-point : (x : Point) → Least (Unmatched (CoreReached q) ps) x → Prefix (CoreReached q) (ps ++ (x ∷ []))
+  next-point x g = prefix-more (q .objectives) (CoreReached q) (reached-width q) ps x f g
 
   -- none left means that the list is the frontier
-  pub none-left : ((r : Point) → Unmatched (Reached q) ps r → ⊥) → ps ≡ frontier q
-  none-left none = best-frontier q ps (prefix-done (Reached q) ps f none)
+  pub none-left : ((r : Point) → Unmatched (CoreReached q) ps r → ⊥) → ps ≡ coreFrontier q
+  none-left none = best-frontier q ps (prefix-done (CoreReached q) ps f none)
 
   -- a found prefix of k points means at least k points
-  pub found-count : length ps ≤ length (frontier q)
-  found-count = listed-count (Reached q) ps (frontier q) (f .listed) (frontier-best q)
+  pub found-count : length ps ≤ length (coreFrontier q)
+  found-count = listed-count (CoreReached q) ps (coreFrontier q) (f .listed) (frontier-best q)

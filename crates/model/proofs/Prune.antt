@@ -9,13 +9,15 @@ use borrow.Author.Tests.{not-true}
 use Rattle.model.specs.Problems.{Problem}
 use Rattle.model.specs.Vectors.{under, same, earlier}
 use Rattle.model.specs.Costs.{costsOf}
-use Rattle.model.specs.Frontiers.{Point, point, Reached}
+use Rattle.model.specs.Frontiers.{Point, point}
+use Rattle.model.specs.Core.{CoreReached}
 use Rattle.model.specs.Bounds.{boundOf}
 use Rattle.model.specs.Search.{Held, nothing, just, matched, late, dead, passes, solved}
 use Rattle.model.proofs.Bits.{test, true-false, or-cases}
 use Rattle.model.proofs.Vectors.{AtMost, Earlier, NotLater, same-eq, same-true, not-earlier, not-later-trans, at-most-trans, at-most-earlier}
 use Rattle.model.proofs.Sums.{under-mono}
-use Rattle.model.proofs.Frontier.{reached-width, reached-under}
+use Rattle.model.proofs.Frontier.{reached-width}
+use Rattle.model.proofs.Core.{core-under}
 use Rattle.model.proofs.Passes.{NotAfter, matched-in, Prefix}
 use Rattle.model.proofs.Tree.{From, Completes, completes-agrees, earlier-completes}
 use Rattle.model.proofs.Held.{Beyond}
@@ -31,12 +33,12 @@ at-most-not-later : (b c : List ℕ) → length b ≡ length c → AtMost b c �
 at-most-not-later b c e a = ⊎-elim (λ s. inl (same-true b c s)) (λ s. inr (at-most-earlier b c e a (λ d. true-false (same-eq d) s))) (test (same b c))
 
 -- a vector b that the point r does not undercut
-module _ (q : Problem) (ps : List Point) (f : Prefix (Reached q) ps) (b : List ℕ) (wide : length b ≡ q .objectives) (r : Point) (u : Left q ps r) (low : AtMost b (r .costs)) where
+module _ (q : Problem) (ps : List Point) (f : Prefix (CoreReached q) ps) (b : List ℕ) (wide : length b ≡ q .objectives) (r : Point) (u : Left q ps r) (low : AtMost b (r .costs)) where
   same-width : length b ≡ length (r .costs)
   same-width = wide ∙ sym (reached-width q r (u .0))
 
   over-none : under b (q .ceilings) ≡ false → ⊥
-  over-none o = true-false (under-mono b (r .costs) (q .ceilings) same-width low (reached-under q r (u .0))) o
+  over-none o = true-false (under-mono b (r .costs) (q .ceilings) same-width low (core-under q r (u .0))) o
 
   matched-none : matched b ps ≡ true → ⊥
   matched-none m =

@@ -9,7 +9,7 @@ use borrow.Author.Tests.{ltb-false}
 use Rattle.model.specs.Basics.{All}
 use Rattle.model.specs.Limits.{maxBytes}
 use Rattle.model.specs.Refusals.{oversize, leftover, accepted, refusedAt, first}
-use Rattle.model.specs.Problems.{RecordRules, TableRules, scopeOk}
+use Rattle.model.specs.Problems.{RecordRules, TableRules, scopeRule}
 use Rattle.model.specs.Encoding.{Byte, encode, WellFormed}
 use Rattle.model.specs.Reading.{headVariables, headObjectives, headTables, headLength, headNumber, tableNumber, tableLength, tableOf, domainsVerdict, tablesVerdict, tablesAt, domainsOf, tablesStart, bodyVerdict, verdictOf, problemOf}
 use Rattle.model.proofs.Elements.{all-drop}
@@ -55,11 +55,11 @@ accepted-parts s h =
 
 -- ## the rules
 
-pub accepted-scopes : (s : List ℕ) → verdictOf s .number ≡ 0 → All (λ t. scopeOk (length (problemOf s .domains)) 0 (t .scope) ≡ true) (problemOf s .tables)
+pub accepted-scopes : (s : List ℕ) → verdictOf s .number ≡ 0 → All (λ t. scopeRule (length (problemOf s .domains)) (t .scope) ≡ true) (problemOf s .tables)
 unfolding problemOf tableOf
 accepted-scopes s h =
     let ds = domainsOf s in
-    tables-every (headObjectives s) ds s (λ t. scopeOk (length ds) 0 (t .scope) ≡ true) (λ at n. table-good (headObjectives s) ds (drop at s) n .rising) (headTables s) (tablesStart s) (accepted-parts s h .tables)
+    tables-every (headObjectives s) ds s (λ t. scopeRule (length ds) (t .scope) ≡ true) (λ at n. table-good (headObjectives s) ds (drop at s) n .rising) (headTables s) (tablesStart s) (accepted-parts s h .tables)
 
 pub accepted-owners : (s : List ℕ) → verdictOf s .number ≡ 0 → All (λ t. t .objective < problemOf s .objectives) (problemOf s .tables)
 unfolding problemOf tableOf

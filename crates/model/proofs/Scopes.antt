@@ -8,7 +8,7 @@ use native.Mathlib.Omega.{arith}
 use lib.Dec.{ltb, leb}
 use borrow.Author.Tests.{ltb-true, leb-true}
 use Rattle.model.specs.Basics.{All}
-use Rattle.model.specs.Problems.{scopeOk, InRange}
+use Rattle.model.specs.Problems.{scopeOk, scopeRule, InRange}
 use Rattle.model.proofs.Bits.{and-left, and-right}
 
 -- v is none of the variables
@@ -28,12 +28,15 @@ above-apart n low (w ∷ vs) h v l =
     let m : low ≤ w = leb-true low w (and-left (leb low w) _ k) in
     (omega arith, above-apart n (suc w) vs (and-right (leb low w) _ k) v (omega arith))
 
-pub scope-distinct : (n low : ℕ) (vs : List ℕ) → scopeOk n low vs ≡ true → Distinct n vs
+rising-distinct : (n low : ℕ) (vs : List ℕ) → scopeOk n low vs ≡ true → Distinct n vs
 unfolding scopeOk
-scope-distinct n low [] h = tt
-scope-distinct n low (v ∷ vs) h =
+rising-distinct n low [] h = tt
+rising-distinct n low (v ∷ vs) h =
     let k : scopeOk n (suc v) vs ≡ true = and-right (leb low v) _ (and-right (ltb v n) _ h) in
-    (ltb-true v n (and-left (ltb v n) _ h), above-apart n (suc v) vs k v (omega arith), scope-distinct n (suc v) vs k)
+    (ltb-true v n (and-left (ltb v n) _ h), above-apart n (suc v) vs k v (omega arith), rising-distinct n (suc v) vs k)
+
+pub scope-distinct : (n : ℕ) (vs : List ℕ) → scopeRule n vs ≡ true → Distinct n vs
+scope-distinct n vs h = rising-distinct n 0 vs h
 
 pub distinct-range : (n : ℕ) (vs : List ℕ) → Distinct n vs → InRange n vs
 distinct-range n [] h = tt

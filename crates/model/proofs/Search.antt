@@ -11,7 +11,8 @@ use Rattle.model.specs.Basics.{pick}
 use Rattle.model.specs.Problems.{Problem}
 use Rattle.model.specs.Vectors.{earlier}
 use Rattle.model.specs.Costs.{isChoice, costsOf}
-use Rattle.model.specs.Frontiers.{consistent, Point, point, frontier, Reached}
+use Rattle.model.specs.Frontiers.{Point, point}
+use Rattle.model.specs.Core.{coreConsistent, coreFrontier, CoreReached}
 use Rattle.model.specs.Search.{Held, nothing, just, matched, isLeft, better, met, tries, opens, pass, done, full, passes, solved}
 use Rattle.model.proofs.Bits.{true-false, and-left, and-right, and-both}
 use Rattle.model.proofs.Vectors.{Earlier, earlier-true, not-earlier}
@@ -49,7 +50,7 @@ partial-next (e ∷ ds) (p ∷ pre) d rest h = let k = partial-next ds pre d res
 -- one pass, over the points that the list ps does not match
 module _ (q : Problem) (ps : List Point) where
   abbrev pub Left : Point → Type 0
-  Left = Unmatched (Reached q) ps
+  Left = Unmatched (CoreReached q) ps
 
   abbrev pub at : List ℕ → Point
   at x = point (costsOf q x) x
@@ -72,7 +73,7 @@ module _ (q : Problem) (ps : List Point) where
   module _ (x : List ℕ) (c : isChoice (q .domains) x ≡ true) where
     left-true : isLeft q ps x ≡ true → Left (at x)
     unfolding isLeft
-    left-true h = (reached-choice q x c (and-left (consistent q x) _ h), unmatched-false (at x) ps (not-true (matched (costsOf q x) ps) (and-right (consistent q x) _ h)))
+    left-true h = (reached-choice q x c (and-left (coreConsistent q x) _ h), unmatched-false (at x) ps (not-true (matched (costsOf q x) ps) (and-right (coreConsistent q x) _ h)))
 
     -- what goes on from x is x
     only : (r : Point) → Seen Left (From (q .domains) x) r → at x ≡ r
@@ -147,32 +148,32 @@ module _ (q : Problem) (ps : List Point) where
   seen-all : (r : Point) → Left r → Seen Left (Through (q .domains) []) r
   seen-all r u = (u, inr (u .0 .complete, tt))
 
-  pub pass-none : Prefix (Reached q) ps → After [] nothing → ps ≡ frontier q
+  pub pass-none : Prefix (CoreReached q) ps → After [] nothing → ps ≡ coreFrontier q
   pass-none f k = none-left q ps f (λ r u. k r (seen-all r u))
 
-  pub pass-some : (x : Point) → Prefix (Reached q) ps → After [] (just x) → Prefix (Reached q) (ps ++ (x ∷ []))
+  pub pass-some : (x : Point) → Prefix (CoreReached q) ps → After [] (just x) → Prefix (CoreReached q) (ps ++ (x ∷ []))
   pass-some x f k = next-point q ps f x (record { inside = k .inside .0; least = λ r u. k .least r (seen-all r u) })
 
 -- a rule to leave branches unopened is sound, if what it leaves is hopeless
 abbrev pub Sound : (q : Problem) → (List Point → List ℕ → Held → Bool) → Type 0
-Sound q skip = (ps : List Point) → Prefix (Reached q) ps → (pre : List ℕ) (h : Held) → skip ps pre h ≡ true → Before q ps pre h → Hopeless q ps pre h
+Sound q skip = (ps : List Point) → Prefix (CoreReached q) ps → (pre : List ℕ) (h : Held) → skip ps pre h ≡ true → Before q ps pre h → Hopeless q ps pre h
 
 module _ (q : Problem) (skip : List Point → List ℕ → Held → Bool) where
   module _ (sound : Sound q skip) where
-    pub pass-holds : (ps : List Point) → Prefix (Reached q) ps → After q ps [] (pass q skip ps)
+    pub pass-holds : (ps : List Point) → Prefix (CoreReached q) ps → After q ps [] (pass q skip ps)
     pass-holds ps f = search-holds q ps (skip ps) (sound ps f)
 
-    done-solved : (room : ℕ) (ps : List Point) → Prefix (Reached q) ps → length ps ≤ room → After q ps [] nothing → done ps ≡ solved q room
+    done-solved : (room : ℕ) (ps : List Point) → Prefix (CoreReached q) ps → length ps ≤ room → After q ps [] nothing → done ps ≡ solved q room
     unfolding solved
     done-solved room ps f c k =
-        let e : ps ≡ frontier q = pass-none q ps f k in
+        let e : ps ≡ coreFrontier q = pass-none q ps f k in
         rw (← e) (rw (le-leb (length ps) room c) refl)
 
-    full-solved : (room : ℕ) (ps : List Point) → Prefix (Reached q) ps → room < length ps → full ≡ solved q room
+    full-solved : (room : ℕ) (ps : List Point) → Prefix (CoreReached q) ps → room < length ps → full ≡ solved q room
     unfolding solved
-    full-solved room ps f c = rw (lt-leb (length (frontier q)) room (omega (arith, found-count q ps f))) refl
+    full-solved room ps f c = rw (lt-leb (length (coreFrontier q)) room (omega (arith, found-count q ps f))) refl
 
-    passes-solve : (n room : ℕ) (ps : List Point) → Prefix (Reached q) ps → n + length ps ≡ room → passes n q skip ps ≡ solved q room
+    passes-solve : (n room : ℕ) (ps : List Point) → Prefix (CoreReached q) ps → n + length ps ≡ room → passes n q skip ps ≡ solved q room
     unfolding passes
     passes-solve zero room ps f c = go (pass q skip ps) refl (pass-holds ps f)
       where
@@ -187,4 +188,4 @@ module _ (q : Problem) (skip : List Point → List ℕ → Held → Bool) where
 
     -- a sound rule changes nothing: with room for any number of points, the frontier or the finding that it is longer
     pub search-right : (room : ℕ) → passes room q skip [] ≡ solved q room
-    search-right room = passes-solve room room [] (prefix-none (Reached q)) (omega arith)
+    search-right room = passes-solve room room [] (prefix-none (CoreReached q)) (omega arith)

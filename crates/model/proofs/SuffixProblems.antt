@@ -11,7 +11,8 @@ use borrow.Author.Tests.{ltb-true, ltb-false, eqb-true}
 use Rattle.model.specs.Basics.{All}
 use Rattle.model.specs.Problems.{Table, Problem}
 use Rattle.model.specs.Costs.{isChoice, costOf, total, totals, costsOf}
-use Rattle.model.specs.Frontiers.{consistent, Point, Reached}
+use Rattle.model.specs.Frontiers.{Point}
+use Rattle.model.specs.Core.{coreConsistent, CoreReached}
 use Rattle.model.specs.Bounds.{leastOf}
 use Rattle.model.specs.Search.{Held, nothing, just, pass}
 use Rattle.model.specs.Views.{kept}
@@ -83,11 +84,11 @@ module _ (q : Problem) (o k : ℕ) where
       totals-last o 0 o (costOf (part .domains) z) (part .tables) (omega arith)
       (all-kept (λ t. t .objective ≡ o) _ (λ t h. eqb-true (t .objective) o (and-left (eqb (t .objective) o) _ h)) (q .tables))
 
-  allowed-test : (z : List ℕ) → consistent part z ≡ ltb (costIn z) ceiling
-  unfolding consistent suffixOf
+  allowed-test : (z : List ℕ) → coreConsistent part z ≡ ltb (costIn z) ceiling
+  unfolding coreConsistent suffixOf
   allowed-test z = rw (suffix-costs z) (under-last o (costIn z) ceiling)
 
-  point-cost : (x : Point) → Reached part x → getD (x .costs) o 0 ≡ costIn (x .choice)
+  point-cost : (x : Point) → CoreReached part x → getD (x .costs) o 0 ≡ costIn (x .choice)
   point-cost x r = rw (r .exact, suffix-costs (x .choice)) (last-at o (costIn (x .choice)))
 
   -- what it holds costs at most the ceiling, and at most what any choice does: one that is not consistent costs the ceiling or more
@@ -116,7 +117,7 @@ module _ (q : Problem) (o k : ℕ) where
       (test (ltb (costIn z) ceiling))
 
   held : (skip : List Point → List ℕ → Held → Bool) → Sound part skip → After part [] [] (pass part skip [])
-  held skip sound = pass-holds part skip sound [] (prefix-none (Reached part))
+  held skip sound = pass-holds part skip sound [] (prefix-none (CoreReached part))
 
   -- its least cost, less its records' least entries, is a gain
   pub suffix-gain : k ≤ length (q .domains) → (skip : List Point → List ℕ → Held → Bool) → Sound (suffixOf q o k) skip → Gain q o k (gainOf q o k (pass (suffixOf q o k) skip []))

@@ -10,7 +10,7 @@ use borrow.Author.Tests.{ltb-false, le-ltb, leb-false, lt-leb, not-false}
 use Rattle.model.specs.Basics.{All}
 use Rattle.model.specs.Limits.{maxArity}
 use Rattle.model.specs.Refusals.{cutShort, badOwner, badArity, badScope}
-use Rattle.model.specs.Problems.{Table, TableRules, sizeOf, scopeOk}
+use Rattle.model.specs.Problems.{Table, TableRules, sizeOf, scopeRule}
 use Rattle.model.specs.Encoding.{Byte, letterC, letterF, wordBytes, tableBytes}
 use Rattle.model.specs.Reading.{wordsIn, tableObjective, tableArity, tableScope, tableLength, tableNumber, tableOf}
 use Rattle.model.proofs.Elements.{all-drop}
@@ -23,7 +23,7 @@ pub record GoodTable (p : ℕ) (ds s : List ℕ) : Type 0 where
   pub start : Marked letterC letterF 2 s
   pub owner : tableObjective s < p
   pub arity : tableArity s ≤ maxArity
-  pub rising : scopeOk (length ds) 0 (tableScope s) ≡ true
+  pub rising : scopeRule (length ds) (tableScope s) ≡ true
   pub long : tableLength ds s ≤ length s
 
 pub table-good : (p : ℕ) (ds s : List ℕ) → tableNumber p ds s ≡ 0 → GoodTable p ds s

@@ -8,8 +8,9 @@ use borrow.Author.Tests.{eqb-true, eq-eqb}
 use Rattle.model.specs.Problems.{Table, Problem}
 use Rattle.model.specs.Vectors.{under}
 use Rattle.model.specs.Costs.{isChoice, costOf, total, totalsFrom, totals, costsOf}
-use Rattle.model.specs.Frontiers.{consistent, Point, point, frontier, Reached}
-use Rattle.model.specs.Cuts.{allSides, sidesOk, crosses, uncrossed, onSide, inHalf, halfTable, halfTables, half, halfSize}
+use Rattle.model.specs.Frontiers.{Point, point}
+use Rattle.model.specs.Core.{coreConsistent, coreFrontier, CoreReached}
+use Rattle.model.specs.Cuts.{allSides, sidesOk, crosses, uncrossed, onSide, inHalf, halfTable, halfTables, half}
 use Rattle.model.specs.Views.{narrowed, allOn, within, kept, view, spread, spreadAll}
 use Rattle.model.proofs.Bits.{and-both}
 use Rattle.model.proofs.Vectors.{AtMost, NotLater}
@@ -80,8 +81,8 @@ module _ (q : Problem) (ss : List ℕ) (sides : sidesOk q ss ≡ true) (free : u
   view-long : (z : List ℕ) → isChoice (narrowed k ss (q .domains)) z ≡ true → length z ≡ length ss
   view-long z h = choice-length (narrowed k ss (q .domains)) z h ∙ narrowed-length k ss (q .domains) long
 
-  part-reached : (p : Point) → Reached (view k q ss) p → Reached (half k q ss) (partPoint p)
-  unfolding view half consistent
+  part-reached : (p : Point) → CoreReached (view k q ss) p → CoreReached (half k q ss) (partPoint p)
+  unfolding view half coreConsistent
   part-reached p h =
       let e = costs-view (p .choice) (view-long (p .choice) (h .complete)) in
       record {
@@ -90,8 +91,8 @@ module _ (q : Problem) (ss : List ℕ) (sides : sidesOk q ss ≡ true) (free : u
         exact = h .exact ∙ e;
       }
 
-  spread-reached : (p : Point) → Reached (half k q ss) p → Reached (view k q ss) (spreadPoint k ss p)
-  unfolding view half consistent
+  spread-reached : (p : Point) → CoreReached (half k q ss) p → CoreReached (view k q ss) (spreadPoint k ss p)
+  unfolding view half coreConsistent
   spread-reached p h =
       let s = spread-choice k ss (q .domains) (p .choice) long (h .complete) in
       let z = spread k ss (p .choice) in
@@ -99,17 +100,17 @@ module _ (q : Problem) (ss : List ℕ) (sides : sidesOk q ss ≡ true) (free : u
       record { complete = s .whole; allowed = subst (λ (c : List ℕ). under c (q .ceilings) ≡ true) (sym e) (h .allowed); exact = h .exact ∙ sym e }
 
   -- a point of the view is its part spread out
-  spread-back : (p : Point) → Reached (view k q ss) p → spread k ss (onSide k ss (p .choice)) ≡ p .choice
+  spread-back : (p : Point) → CoreReached (view k q ss) p → spread k ss (onSide k ss (p .choice)) ≡ p .choice
   unfolding view
   spread-back p h = spread-part k ss (q .domains) (p .choice) long (h .complete)
 
-  spread-best : Best (Reached (view k q ss)) (spreadAll k ss (frontier (half k q ss)))
+  spread-best : Best (CoreReached (view k q ss)) (spreadAll k ss (coreFrontier (half k q ss)))
   spread-best =
-      let fs = frontier (half k q ss) in
-      let b : Best (Reached (half k q ss)) fs = frontier-best (half k q ss) in
+      let fs = coreFrontier (half k q ss) in
+      let b : Best (CoreReached (half k q ss)) fs = frontier-best (half k q ss) in
       record {
         listed = record {
-          sound = spread-each k ss (Reached (view k q ss)) fs (λ s i. spread-reached s (b .listed .sound s i));
+          sound = spread-each k ss (CoreReached (view k q ss)) fs (λ s i. spread-reached s (b .listed .sound s i));
           unbeaten = λ p r m h. spread-each k ss (λ p. AtMost (r .costs) (p .costs) → r .costs ≡ p .costs) fs (λ s i. b .listed .unbeaten s (partPoint r) i (part-reached r h)) p m;
           order = spread-rising k ss fs (b .listed .order);
           earliest =
@@ -120,13 +121,13 @@ module _ (q : Problem) (ss : List ℕ) (sides : sidesOk q ss ≡ true) (free : u
       }
 
   -- the view's list, and its length
-  pub view-list : frontier (view k q ss) ≡ spreadAll k ss (frontier (half k q ss))
-  view-list = sym (best-frontier (view k q ss) (spreadAll k ss (frontier (half k q ss))) spread-best)
+  pub view-list : coreFrontier (view k q ss) ≡ spreadAll k ss (coreFrontier (half k q ss))
+  view-list = sym (best-frontier (view k q ss) (spreadAll k ss (coreFrontier (half k q ss))) spread-best)
 
-  pub view-size : length (frontier (view k q ss)) ≡ halfSize k q ss
-  view-size = ap length view-list ∙ spread-length k ss (frontier (half k q ss))
+  pub view-size : length (coreFrontier (view k q ss)) ≡ length (coreFrontier (half k q ss))
+  view-size = ap length view-list ∙ spread-length k ss (coreFrontier (half k q ss))
 
 -- a listed choice of the view: 0 for the other side's variables, a value of its domain for each of its own
-pub view-choice : (q : Problem) (ss : List ℕ) (k : ℕ) (p : Point) → In p (frontier (view k q ss)) → isChoice (narrowed k ss (q .domains)) (p .choice) ≡ true
+pub view-choice : (q : Problem) (ss : List ℕ) (k : ℕ) (p : Point) → In p (coreFrontier (view k q ss)) → isChoice (narrowed k ss (q .domains)) (p .choice) ≡ true
 unfolding view
 view-choice q ss k p m = frontier-best (view k q ss) .listed .sound p m .complete

@@ -11,11 +11,13 @@ use lib.ListN.{length, getD, set, length-set}
 use borrow.Author.Tests.{ltb-true, ltb-false}
 use Rattle.model.specs.Problems.{Problem}
 use Rattle.model.specs.Vectors.{under, atMost}
-use Rattle.model.specs.Frontiers.{Point, Reached}
+use Rattle.model.specs.Frontiers.{Point}
+use Rattle.model.specs.Core.{CoreReached}
 use Rattle.model.specs.Archive.{weighted, Covered, Follows, InZone, Zoned, lowered, below}
 use Rattle.model.proofs.Bits.{test, true-false, not-true-false, and-left, and-right}
 use Rattle.model.proofs.Vectors.{AtMost, NotLater, at-most-true, at-most-test, at-most-trans}
-use Rattle.model.proofs.Frontier.{reached-width, reached-under}
+use Rattle.model.proofs.Frontier.{reached-width}
+use Rattle.model.proofs.Core.{core-under}
 use Rattle.model.proofs.Weighted.{weighted-mono}
 use Rattle.model.proofs.Archive.{Wide, serves-as-good, as-good-serves}
 
@@ -102,8 +104,8 @@ zones-split p ceilings ws archive limit zones wide z m long old zones′ parts v
 
 -- the rule of the search, of a bound b on the directions of y's costs: no corner's directions are that large, and the archived points whose directions are
 -- have choices that are not later than y's
-pub dead-covered : {q : Problem} (ws : List ℕ) (archive : List Point) (limit : ℕ) (zones : List (List ℕ)) (dirs : List ℕ → List ℕ) → ((u v : List ℕ) → length u ≡ length v → AtMost u v → AtMost (dirs u) (dirs v)) → Zoned (q .objectives) (q .ceilings) ws archive limit zones → ((t : List ℕ) → In t zones → length t ≡ q .objectives) → (y : Point) → Reached q y → (b : List ℕ) → length b ≡ length (dirs (y .costs)) → AtMost b (dirs (y .costs)) → ((t : List ℕ) → In t zones → AtMost b (dirs t) → ⊥) → ((a : Point) → In a archive → AtMost b (dirs (a .costs)) → NotLater (a .choice) (y .choice)) → Covered ws archive limit y
-dead-covered {q} ws archive limit zones dirs mono old wide y r b e low none ties = ⊎-elim (λ i. absurd (no-zone i)) go (old (y .costs) width (reached-under q y r))
+pub dead-covered : {q : Problem} (ws : List ℕ) (archive : List Point) (limit : ℕ) (zones : List (List ℕ)) (dirs : List ℕ → List ℕ) → ((u v : List ℕ) → length u ≡ length v → AtMost u v → AtMost (dirs u) (dirs v)) → Zoned (q .objectives) (q .ceilings) ws archive limit zones → ((t : List ℕ) → In t zones → length t ≡ q .objectives) → (y : Point) → CoreReached q y → (b : List ℕ) → length b ≡ length (dirs (y .costs)) → AtMost b (dirs (y .costs)) → ((t : List ℕ) → In t zones → AtMost b (dirs t) → ⊥) → ((a : Point) → In a archive → AtMost b (dirs (a .costs)) → NotLater (a .choice) (y .choice)) → Covered ws archive limit y
+dead-covered {q} ws archive limit zones dirs mono old wide y r b e low none ties = ⊎-elim (λ i. absurd (no-zone i)) go (old (y .costs) width (core-under q y r))
   where
     width : length (y .costs) ≡ q .objectives
     width = reached-width q y r

@@ -10,7 +10,8 @@ use Prim.Native.Nat.{ℕ, _+_, _*_, _-_, _≤_}
 use lib.ListN.{length, getD, set}
 use Rattle.model.specs.Problems.{Problem}
 use Rattle.model.specs.Vectors.{under, atMost, earlier}
-use Rattle.model.specs.Frontiers.{Point, Reached}
+use Rattle.model.specs.Frontiers.{Point}
+use Rattle.model.specs.Core.{CoreReached}
 
 -- a weighted sum of a vector
 unfoldable pub weighted : List ℕ → List ℕ → ℕ
@@ -30,7 +31,7 @@ Covered ws archive limit y = (limit ≤ weighted ws (y .costs)) ⊎ ((a : Point)
 
 -- an archive: consistent choices with their costs, none of which matches or beats another, none above the limit
 pub record Archived (q : Problem) (ws : List ℕ) (archive : List Point) (limit : ℕ) : Type 0 where
-  pub reached : (a : Point) → In a archive → Reached q a
+  pub reached : (a : Point) → In a archive → CoreReached q a
   pub apart : (a b : Point) → In a archive → In b archive → atMost (a .costs) (b .costs) ≡ true → a ≡ b
   pub within : (a : Point) → In a archive → weighted ws (a .costs) ≤ limit
 

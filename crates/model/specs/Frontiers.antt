@@ -1,4 +1,5 @@
--- Consistent choices, the frontier list with its earliest choices, and what makes a list the frontier list.
+-- The frontier list, with its earliest choices, of the choices that pass a test; a problem's own test is that they are
+-- consistent; and what makes a list the frontier list.
 use mathlib.Core.Path.{_≡_}
 use mathlib.Core.Bool.{Bool, true, false, _&&_, _||_, not}
 use mathlib.Core.List.{List, [], _∷_, _++_, List·Memᴰ as In}
@@ -45,7 +46,7 @@ sorted (p ∷ ps) = put p (sorted ps)
 unfoldable pub best : List Point → List Point
 best ps = sorted (unbeaten ps ps)
 
--- all choices, and the points of the consistent ones
+-- all choices, and the points of those that pass a test
 unfoldable pub withFirst : ℕ → List (List ℕ) → List (List ℕ)
 withFirst x [] = []
 withFirst x (c ∷ cs) = (x ∷ c) ∷ withFirst x cs
@@ -58,20 +59,30 @@ unfoldable pub choices : List ℕ → List (List ℕ)
 choices [] = [] ∷ []
 choices (d ∷ ds) = firstsFrom d 0 (choices ds)
 
-unfoldable pub pointsFrom : Problem → List (List ℕ) → List Point
-pointsFrom q [] = []
-pointsFrom q (x ∷ xs) = keepIf (consistent q x) (point (costsOf q x) x) (pointsFrom q xs)
+unfoldable pub pointsBy : (List ℕ → Bool) → Problem → List (List ℕ) → List Point
+pointsBy test q [] = []
+pointsBy test q (x ∷ xs) = keepIf (test x) (point (costsOf q x) x) (pointsBy test q xs)
+
+-- the best of them
+unfoldable pub frontierBy : (List ℕ → Bool) → Problem → List Point
+frontierBy test q = best (pointsBy test q (choices (q .domains)))
 
 -- the frontier list: the best of the consistent choices
-unfoldable pub frontier : Problem → List Point
-frontier q = best (pointsFrom q (choices (q .domains)))
+abbrev pub pointsFrom : Problem → List (List ℕ) → List Point
+pointsFrom q xs = pointsBy (consistent q) q xs
+
+abbrev pub frontier : Problem → List Point
+frontier q = frontierBy (consistent q) q
 
 -- What makes a list the frontier list.
--- a consistent choice with its costs
-pub record Reached (q : Problem) (p : Point) : Type 0 where
+-- a choice that passes the test, with its costs; a consistent one
+pub record ReachedBy (test : List ℕ → Bool) (q : Problem) (p : Point) : Type 0 where
   pub complete : isChoice (q .domains) (p .choice) ≡ true
-  pub allowed : consistent q (p .choice) ≡ true
+  pub allowed : test (p .choice) ≡ true
   pub exact : p .costs ≡ costsOf q (p .choice)
+
+abbrev pub Reached : Problem → Point → Type 0
+Reached q p = ReachedBy (consistent q) q p
 
 unfoldable pub rising : List Point → Bool
 rising [] = true

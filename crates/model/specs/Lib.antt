@@ -8,6 +8,7 @@ pub mod Reading
 pub mod Vectors
 pub mod Costs
 pub mod Frontiers
+pub mod Core
 pub mod Bounds
 pub mod Cuts
 pub mod Search

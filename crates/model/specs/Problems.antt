@@ -31,6 +31,10 @@ unfoldable pub scopeOk : ℕ → ℕ → List ℕ → Bool
 scopeOk n low [] = true
 scopeOk n low (v ∷ vs) = ltb v n && (leb low v && scopeOk n (suc v) vs)
 
+-- the rule of a scope over n variables
+abbrev pub scopeRule : ℕ → List ℕ → Bool
+scopeRule n vs = scopeOk n 0 vs
+
 -- variables that exist, in one scope and in those of some records
 abbrev pub InRange : ℕ → List ℕ → Type 0
 InRange n vs = All (λ v. v < n) vs
@@ -49,7 +53,7 @@ DomainSize d = (1 ≤ d) × (d ≤ maxDomain)
 pub record TableRules (p : ℕ) (ds : List ℕ) (t : Table) : Type 0 where
   pub owner : t .objective < p
   pub arity : length (t .scope) ≤ maxArity
-  pub rising : scopeOk (length ds) 0 (t .scope) ≡ true
+  pub rising : scopeRule (length ds) (t .scope) ≡ true
   pub entries : length (t .costs) ≡ sizeOf ds (t .scope)
   pub words : All Word (t .costs)
 

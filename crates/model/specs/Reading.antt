@@ -11,7 +11,7 @@ use Rattle.model.specs.Limits.{byteEnd, shortEnd}
 use Rattle.model.specs.Refusals.{oversize, cutShort, strayMark, badVariables, badObjectives, badTables, badDomain}
 use Rattle.model.specs.Refusals.{badOwner, badArity, badScope, leftover}
 use Rattle.model.specs.Refusals.{Verdict, verdict, accepted, refusedAt, first}
-use Rattle.model.specs.Problems.{Table, Problem, sizeOf, scopeOk}
+use Rattle.model.specs.Problems.{Table, Problem, sizeOf, scopeRule}
 use Rattle.model.specs.Encoding.{letterC, letterD, letterF, letterH, letterO}
 
 -- the two-byte number at place i of s, the four-byte number at its start, n of these in a row
@@ -84,7 +84,7 @@ tableNumber p ds s =
     firstOf (when (leb p (tableObjective s)) badOwner) (
     firstOf (when (ltb maxArity (tableArity s)) badArity) (
     firstOf (when (ltb (length s) (4 + tableArity s)) cutShort) (
-    firstOf (when (not (scopeOk (length ds) 0 (tableScope s))) badScope)
+    firstOf (when (not (scopeRule (length ds) (tableScope s))) badScope)
     (when (ltb (length s) (tableLength ds s)) cutShort)))))
 
 unfoldable pub tableOf : List ℕ → List ℕ → Table

@@ -10,7 +10,8 @@ use Rattle.model.specs.Basics.{pick}
 use Rattle.model.specs.Problems.{Problem}
 use Rattle.model.specs.Vectors.{under, atMost, earlier}
 use Rattle.model.specs.Costs.{costsOf}
-use Rattle.model.specs.Frontiers.{consistent, Point, point, frontier}
+use Rattle.model.specs.Frontiers.{Point, point}
+use Rattle.model.specs.Core.{coreConsistent, coreFrontier}
 
 -- what a pass holds: nothing yet, or the least point met so far
 pub data Held : Type 0 where
@@ -25,7 +26,7 @@ matched c (p ∷ ps) = atMost (p .costs) c || matched c ps
 -- a complete choice is met: it is held if it is consistent, the list does not match it,
 -- and its costs are earlier than those held
 unfoldable pub isLeft : Problem → List Point → List ℕ → Bool
-isLeft q ps x = consistent q x && not (matched (costsOf q x) ps)
+isLeft q ps x = coreConsistent q x && not (matched (costsOf q x) ps)
 
 unfoldable pub better : Point → Held → Held
 better x nothing = just x
@@ -66,4 +67,4 @@ passes (suc n) q skip ps = elim (pass q skip ps) [ nothing ↦ done ps | just x 
 
 -- the frontier list, if it fits the room
 unfoldable pub solved : Problem → ℕ → Result
-solved q room = pick (leb (length (frontier q)) room) (done (frontier q)) full
+solved q room = pick (leb (length (coreFrontier q)) room) (done (coreFrontier q)) full

@@ -10,7 +10,8 @@ use Rattle.model.specs.Basics.{All}
 use Rattle.model.specs.Limits.{maxObjectives, maxPoints}
 use Rattle.model.specs.Problems.{Problem, Word}
 use Rattle.model.specs.Vectors.{under}
-use Rattle.model.specs.Frontiers.{Point, point, consistent, frontier, Reached}
+use Rattle.model.specs.Frontiers.{Point, point}
+use Rattle.model.specs.Core.{coreConsistent, coreFrontier, CoreReached}
 use Rattle.model.specs.Search.{pass}
 use Rattle.model.specs.Suffixes.{Gains}
 use Rattle.model.specs.Calls.{padded}
@@ -37,13 +38,13 @@ module _ (p r : ℕ) (ceilings ds s was : List ℕ) where
   problemOver places = record { objectives = p; ceilings = take p ceilings; domains = ds; tables = tablesOver ds s places }
 
   pub record Passing (work : List ℕ) (k : ℕ) : Type 0 where
-    pub made : Made (Reached q) p (length ds) was work k
+    pub made : Made (CoreReached q) p (length ds) was work k
     pub grouped : Grouped ds s work r
     pub places : placesIn work r ≡ placesIn was r
     pub gains : (w j : ℕ) → w ≤ maxObjectives → j ≤ length ds → gainsIn w work j ≡ gainsIn w was j
 
   pub passing-start : Grouped ds s was r → Passing was 0
-  passing-start g = record { made = made-start (Reached q) p (length ds) was; grouped = g; places = refl; gains = λ w j few h. refl }
+  passing-start g = record { made = made-start (CoreReached q) p (length ds) was; grouped = g; places = refl; gains = λ w j few h. refl }
 
   module _ (setting : Setting p r 0 ds s was) (known : Gains q (gainsIn p was)) (work : List ℕ) (k : ℕ) (u : Passing work k) where
     abbrev ps : List Point
@@ -72,28 +73,28 @@ module _ (p r : ℕ) (ceilings ds s was : List ℕ) where
 
       -- no point is left
       module _ (none : best .found ≡ false) where
-        listed : ps ≡ frontier q
+        listed : ps ≡ coreFrontier q
         listed = pass-none q ps (u .made .found) (rw none at after)
 
-        pub says-done : (room : ℕ) → k ≤ room → FoundSays p (length ds) (frontier q) room was work (record { full = false; count = k })
-        says-done = made-done (u .made) (frontier q) listed
+        pub says-done : (room : ℕ) → k ≤ room → FoundSays p (length ds) (coreFrontier q) room was work (record { full = false; count = k })
+        says-done = made-done (u .made) (coreFrontier q) listed
 
       -- a point is found
       module _ (some : best .found ≡ true) where
-        longer : Prefix (Reached q) (ps ++ (x ∷ []))
+        longer : Prefix (CoreReached q) (ps ++ (x ∷ []))
         longer = pass-some q ps x (u .made .found) (rw some at after)
 
-        pub says-full : (room : ℕ) → room ≤ k → FoundSays p (length ds) (frontier q) room was work (record { full = true; count = 0 })
-        says-full = made-full (u .made) (frontier q) x (found-count q (ps ++ (x ∷ [])) longer)
+        pub says-full : (room : ℕ) → room ≤ k → FoundSays p (length ds) (coreFrontier q) room was work (record { full = true; count = 0 })
+        says-full = made-full (u .made) (coreFrontier q) x (found-count q (ps ++ (x ∷ [])) longer)
 
-        reached : Reached q x
+        reached : CoreReached q x
         reached = longer .listed .sound x (in-right ps (here refl))
 
         pub costs-wide : length (take p (best .costs)) ≡ p
         costs-wide = reached-width q x reached
 
         pub costs-words : length ceilings ≡ maxObjectives → All Word (take p ceilings) → All Word (take p (best .costs))
-        unfolding consistent
+        unfolding coreConsistent
         costs-words long words =
             under-words (take p (best .costs)) (take p ceilings) (costs-wide ∙ sym (length-take-le p ceilings (omega (arith, setting .objectives))))
             (subst (λ (c : List ℕ). under c (take p ceilings) ≡ true) (sym (reached .exact)) (reached .allowed)) words

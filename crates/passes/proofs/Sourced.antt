@@ -8,7 +8,7 @@ use lib.ListN.{length, take, drop, length-drop, replicate}
 use lib.Seq.{length-take-le}
 use Rattle.model.specs.Limits.{maxObjectives}
 use Rattle.model.specs.Problems.{Problem}
-use Rattle.model.specs.Frontiers.{frontier}
+use Rattle.model.specs.Core.{coreFrontier}
 use Rattle.model.specs.Suffixes.{Gains}
 use Rattle.groups.specs.Layout.{recordsAt, gainsAt, sourceAt}
 use Rattle.groups.specs.Groups.{placesIn, Placed, Grouped}
@@ -80,6 +80,6 @@ module _ {p r : ℕ} {ceilings ds s was gained : List ℕ} (u : Gained p r ceili
           let e : _≡_ {A = ℕ → List ℕ} (gainsIn p gained) (gainsIn p work) = fun-ext (λ j. sym (same-gains p j)) in
           subst (λ (q : Problem). Gains q (gainsIn p work)) (sym same-problem) (subst (λ (gs : ℕ → List ℕ). Gains (sourceProblem p r ceilings ds s was) gs) e (u .known))
 
-      pub grouped-says : (room : ℕ) (work′ : List ℕ) (f : DF.Found) → FoundSays p (length ds) (frontier (problemIn p r ceilings ds s work)) room work work′ f → FoundSays p (length ds) (frontier (sourceProblem p r ceilings ds s was)) room was work′ f
+      pub grouped-says : (room : ℕ) (work′ : List ℕ) (f : DF.Found) → FoundSays p (length ds) (coreFrontier (problemIn p r ceilings ds s work)) room work work′ f → FoundSays p (length ds) (coreFrontier (sourceProblem p r ceilings ds s was)) room was work′ f
       grouped-says room work′ f =
-          says-since (after .2 ∙ copied-length) (ap frontier same-problem)
+          says-since (after .2 ∙ copied-length) (ap coreFrontier same-problem)

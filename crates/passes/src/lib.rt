@@ -5,7 +5,7 @@ ghost use lib.ListN.{length, take};
 ghost use Rattle.model.specs.Basics.{All};
 ghost use Rattle.model.specs.Limits.{maxPoints};
 ghost use Rattle.model.specs.Problems.{Word};
-ghost use Rattle.model.specs.Frontiers.{frontier};
+ghost use Rattle.model.specs.Core.{coreFrontier};
 ghost use Rattle.model.specs.Suffixes.{Gains};
 ghost use Rattle.search.specs.States.{problemIn, gainsIn, Setting, Stands};
 ghost use Rattle.groups.specs.Sources.{Source, sourceProblem};
@@ -32,7 +32,7 @@ pub fn find_points(
         × (root .len ≡ 0) × All Word (take p ceilings) × (room ≤ maxPoints)
         × Gains (problemIn p r ceilings (now sizes) (now s) (now work)) (gainsIn p (now work)) ⌝ }
     ensures { λ f. ⌜ FoundSays p (length (now (sizes .entry)))
-        (frontier (problemIn p r ceilings (now (sizes .entry)) (now (s .entry)) (now (work .entry))))
+        (coreFrontier (problemIn p r ceilings (now (sizes .entry)) (now (s .entry)) (now (work .entry))))
         room (now (work .entry)) (now (work .exit)) f ⌝ }
 {
     let mut k: usize = 0;
@@ -74,7 +74,7 @@ pub fn find_source(
 ) -> Found
     requires { ⌜ Source p r ceilings (now sizes) (now s) (now work) × (room ≤ maxPoints) ⌝ }
     ensures { λ f. ⌜ FoundSays p (length (now (sizes .entry)))
-        (frontier (sourceProblem p r ceilings (now (sizes .entry)) (now (s .entry)) (now (work .entry))))
+        (coreFrontier (sourceProblem p r ceilings (now (sizes .entry)) (now (s .entry)) (now (work .entry))))
         room (now (work .entry)) (now (work .exit)) f ⌝ }
 {
     suffixes::find_gains(s, sizes, r, p, ceilings, work);

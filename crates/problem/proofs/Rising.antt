@@ -6,7 +6,7 @@ use Prim.Native.Nat.{ℕ, _+_, _-_, _≤_, _<_}
 use native.Mathlib.Numerals.{add-one}
 use lib.ListN.{length, getD, take, drop}
 use borrow.Author.Tests.{lt-ltb, le-ltb, le-leb, lt-leb}
-use Rattle.model.specs.Problems.{InRange, scopeOk}
+use Rattle.model.specs.Problems.{InRange, scopeOk, scopeRule}
 use Rattle.model.proofs.Scopes.{scope-distinct, distinct-range}
 use Rattle.problem.proofs.Behind.{take-cons}
 
@@ -23,5 +23,5 @@ module _ (n low k at : ℕ) (s : List ℕ) (p : 0 < k) (h : at < length s) where
   unfolding scopeOk
   scope-falls b r = ap (scopeOk n low) (take-cons k at s p h) ∙ simp (lt-ltb _ _ b, lt-leb _ _ r)
 
-pub scope-range : (n : ℕ) (vs : List ℕ) → scopeOk n 0 vs ≡ true → InRange n vs
-scope-range n vs h = distinct-range n vs (scope-distinct n 0 vs h)
+pub scope-range : (n : ℕ) (vs : List ℕ) → scopeRule n vs ≡ true → InRange n vs
+scope-range n vs h = distinct-range n vs (scope-distinct n vs h)

@@ -9,7 +9,7 @@ use lib.ListN.{length}
 use Rattle.model.specs.Basics.{firstOf, when}
 use Rattle.model.specs.Limits.{maxArity}
 use Rattle.model.specs.Refusals.{cutShort, badOwner, badArity, badScope}
-use Rattle.model.specs.Problems.{scopeOk}
+use Rattle.model.specs.Problems.{scopeRule}
 use Rattle.model.specs.Encoding.{letterC, letterF}
 use Rattle.model.specs.Reading.{startNumber, tableObjective, tableArity, tableScope, tableLength, tableNumber}
 use Rattle.model.proofs.Verdicts.{none-when}
@@ -34,7 +34,7 @@ module _ (p : ℕ) (ds s : List ℕ) where
 
       module _ (few : tableArity s ≤ maxArity) where
         -- the tests from the scope's length on
-        fields-passed : tableNumber p ds s ≡ firstOf (when (ltb (length s) (4 + tableArity s)) cutShort) (firstOf (when (not (scopeOk (length ds) 0 (tableScope s))) badScope) (when (ltb (length s) (tableLength ds s)) cutShort))
+        fields-passed : tableNumber p ds s ≡ firstOf (when (ltb (length s) (4 + tableArity s)) cutShort) (firstOf (when (not (scopeRule (length ds) (tableScope s))) badScope) (when (ltb (length s) (tableLength ds s)) cutShort))
         unfolding tableNumber
         fields-passed = pass-number _ start ∙ pass-test badOwner _ (lt-leb _ _ owner) ∙ pass-test badArity _ (le-ltb _ _ few)
 
@@ -42,10 +42,10 @@ module _ (p : ℕ) (ds s : List ℕ) where
         table-cut h = fields-passed ∙ stop-test cutShort _ refl (lt-ltb _ _ h)
 
         module _ (there : 4 + tableArity s ≤ length s) where
-          pub table-scope : scopeOk (length ds) 0 (tableScope s) ≡ false → tableNumber p ds s ≡ badScope
+          pub table-scope : scopeRule (length ds) (tableScope s) ≡ false → tableNumber p ds s ≡ badScope
           table-scope h = fields-passed ∙ pass-test cutShort _ (le-ltb _ _ there) ∙ stop-test badScope _ refl (ap not h)
 
-          module _ (rising : scopeOk (length ds) 0 (tableScope s) ≡ true) where
+          module _ (rising : scopeRule (length ds) (tableScope s) ≡ true) where
             table-last : tableNumber p ds s ≡ when (ltb (length s) (tableLength ds s)) cutShort
             table-last = fields-passed ∙ pass-test cutShort _ (le-ltb _ _ there) ∙ pass-test badScope _ (ap not rising)
 

@@ -4,7 +4,7 @@ ghost use Prim.Native.Nat.{_+_, _-_, _*_, _<_, _≤_};
 ghost use lib.ListN.{length, getD, take, drop};
 ghost use Rattle.model.specs.Basics.{All};
 ghost use Rattle.model.specs.Limits.{maxBytes, maxVariables, maxObjectives, maxArity, shortEnd};
-ghost use Rattle.model.specs.Problems.{DomainSize, InRange, sizeOf, scopeOk};
+ghost use Rattle.model.specs.Problems.{DomainSize, InRange, sizeOf, scopeRule};
 ghost use Rattle.model.specs.Reading.{word2, word4, wordsIn, startNumber, headNumber, domainNumber, tableLength};
 ghost use Rattle.model.specs.Reading.{tablesVerdict, placesAt};
 ghost use Rattle.model.specs.Calls.{padded, over};
@@ -166,7 +166,7 @@ pub fn read_domains(s: &[u8], at: usize, n: usize) -> Domains
 // Whether the `arity` variables at `at` are below `n`, each above the one before.
 pub fn scope_ok(s: &[u8], at: usize, arity: usize, n: usize) -> bool
     requires { ⌜ at + arity ≤ length (now s) ⌝ }
-    ensures { λ r. ⌜ r ≡ scopeOk n 0 (take arity (drop at (now (s .entry)))) ⌝ }
+    ensures { λ r. ⌜ r ≡ scopeRule n (take arity (drop at (now (s .entry)))) ⌝ }
 {
     let mut low: usize = 0;
     let mut i: usize = 0;

@@ -5,7 +5,8 @@ ghost use mathlib.Core.Bool.{false};
 ghost use Prim.Native.Nat.{ℕ, _+_, _<_, _≤_};
 ghost use lib.ListN.{length, getD, take};
 ghost use Rattle.model.specs.Basics.{All};
-ghost use Rattle.model.specs.Limits.{maxVariables, maxPoints, sumEnd};
+ghost use Rattle.model.specs.Limits.{maxVariables, maxPoints};
+ghost use Rattle.model.specs.Core.{coreSumEnd};
 ghost use Rattle.model.specs.Archive.{weighted};
 ghost use Rattle.groups.specs.Layout.{listEnd};
 ghost use Rattle.directions.specs.Directions.{weightsOf, Sensible};
@@ -31,7 +32,7 @@ pub fn front_of(b: [u64; 8]) -> [u64; 4]
 
 // Whether each sum of the bound is at most that of the costs.
 fn is_within(b: [u64; 8], costs: [u64; 4], d: directions::Directions) -> bool
-    requires { ⌜ Sensible d × All (λ c. c < sumEnd) (take (d .objectives) costs) ⌝ }
+    requires { ⌜ Sensible d × All (λ c. c < coreSumEnd) (take (d .objectives) costs) ⌝ }
     ensures { λ r. ⌜ (r ≡ false
         → (k : ℕ) × (k < d .sums)
         × (weighted (weightsOf d k) (take (d .objectives) costs) < getD b (d .objectives + k) 0)) ⌝ }

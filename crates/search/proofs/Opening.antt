@@ -16,7 +16,8 @@ use Rattle.model.specs.Problems.{Problem}
 use Rattle.model.specs.Vectors.{under, earlier}
 use Rattle.model.specs.Costs.{costsOf}
 use Rattle.model.specs.Bounds.{prefixOk, boundOf}
-use Rattle.model.specs.Frontiers.{consistent, Point, point}
+use Rattle.model.specs.Frontiers.{Point, point}
+use Rattle.model.specs.Core.{coreConsistent}
 use Rattle.model.specs.Search.{Held, nothing, just, matched, isLeft, better, met, late, dead, tries, opens}
 use Rattle.model.specs.Suffixes.{sharper}
 use Rattle.model.proofs.Bits.{test}
@@ -32,7 +33,7 @@ alive true false false x h = refl
 alive false m e x h = refl
 
 met-alive : (q : Problem) (ps : List Point) (x : List ℕ) (h : Held) → met q ps x h ≡ pick (dead q ps h (costsOf q x)) h (just (point (costsOf q x) x))
-unfolding met isLeft consistent better dead late
+unfolding met isLeft coreConsistent better dead late
 met-alive q ps x nothing = alive (under (costsOf q x) (q .ceilings)) (matched (costsOf q x) ps) true (just (point (costsOf q x) x)) nothing
 met-alive q ps x (just w) = alive (under (costsOf q x) (q .ceilings)) (matched (costsOf q x) ps) (earlier (costsOf q x) (w .costs)) (just (point (costsOf q x) x)) (just w)
 

@@ -11,7 +11,8 @@ use mir.Val.{Val}
 use denote.Laws.{Is}
 use denote.Struct.Declared.{row}
 use Rattle.model.specs.Basics.{All}
-use Rattle.model.specs.Limits.{maxVariables, maxObjectives, byteEnd, sumEnd}
+use Rattle.model.specs.Limits.{maxVariables, maxObjectives, byteEnd}
+use Rattle.model.specs.Core.{coreSumEnd}
 use Rattle.model.specs.Costs.{total, totalsFrom}
 use Rattle.model.specs.Bounds.{prefixOk, leastOf}
 use Rattle.groups.specs.Groups.{groupOf, tablesOver, placesIn, Grouped}
@@ -65,9 +66,9 @@ module _ {r : ℕ} {ds s work : List ℕ} {x : DP.Partial} (a : Standing r ds s 
   bound-is : x .bound ≡ listed (whole (prefixOf x))
   bound-is = a .stands .exact ∙ totals-listed (leastOf ds (prefixOf x)) (tablesIn r ds s work)
 
-  pub bound-fits : ((i : ℕ) → getD s i 0 < byteEnd) → All (λ b. b ≤ sumEnd) (x .bound)
+  pub bound-fits : ((i : ℕ) → getD s i 0 < byteEnd) → All (λ b. b ≤ coreSumEnd) (x .bound)
   bound-fits bytes =
-      let fits : (o : ℕ) → whole (prefixOf x) o ≤ sumEnd = λ o. total-fits ds s work (prefixOf x) r o (a .grouped .placed .few) bytes in
+      let fits : (o : ℕ) → whole (prefixOf x) o ≤ coreSumEnd = λ o. total-fits ds s work (prefixOf x) r o (a .grouped .placed .few) bytes in
       rw bound-is (fits 0, (fits 1, (fits 2, (fits 3, tt))))
 
   -- before the next variable has a value: what is left of the bound without the tables that it touches

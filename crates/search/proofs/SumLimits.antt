@@ -4,7 +4,8 @@ use Prim.Native.Nat.{ℕ, _+_, _≤_, _<_}
 use native.Mathlib.Omega.{arith}
 use lib.ListN.{length, getD, drop, length-take}
 use Rattle.model.specs.Basics.{All}
-use Rattle.model.specs.Limits.{maxTables, byteEnd, wordEnd, sumEnd}
+use Rattle.model.specs.Limits.{maxTables, byteEnd, wordEnd}
+use Rattle.model.specs.Core.{coreSumEnd}
 use Rattle.model.specs.Problems.{Word, sizeOf}
 use Rattle.model.specs.Encoding.{Byte}
 use Rattle.model.specs.Reading.{wordsIn, tableArity, tableScope, tableOf}
@@ -34,7 +35,7 @@ module _ (ds s pre : List ℕ) (bytes : All Byte s) where
   all-words [] = tt
   all-words (at ∷ places) = (least-word at, all-words places)
 
-pub total-fits : (ds s work pre : List ℕ) (r o : ℕ) → r ≤ maxTables → ((i : ℕ) → getD s i 0 < byteEnd) → total o (leastOf ds pre) (tablesIn r ds s work) ≤ sumEnd
+pub total-fits : (ds s work pre : List ℕ) (r o : ℕ) → r ≤ maxTables → ((i : ℕ) → getD s i 0 < byteEnd) → total o (leastOf ds pre) (tablesIn r ds s work) ≤ coreSumEnd
 total-fits ds s work pre r o few bytes =
     let ts = tablesIn r ds s work in
     let n : length ts ≤ maxTables = omega (arith, tables-count ds s (placesIn work r), length-take r (drop recordsAt work)) in

@@ -4,7 +4,8 @@ ghost use mathlib.Core.List.{_++_, _∷_, []};
 ghost use Prim.Native.Nat.{_+_, _<_, _≤_};
 ghost use lib.ListN.{length, getD, take};
 ghost use Rattle.model.specs.Basics.{All};
-ghost use Rattle.model.specs.Limits.{maxObjectives, maxVariables, maxPoints, sumEnd};
+ghost use Rattle.model.specs.Limits.{maxObjectives, maxVariables, maxPoints};
+ghost use Rattle.model.specs.Core.{coreSumEnd};
 ghost use Rattle.model.specs.Vectors.{added};
 ghost use Rattle.model.specs.Search.{matched, pass};
 ghost use Rattle.groups.specs.Layout.{listEnd, searchEnd};
@@ -75,7 +76,7 @@ fn is_dead(
 
 // The bound with what the variables after the prefix add to it.
 fn sharper_bound(x: Partial, work: &[u32]) -> [u64; 4]
-    requires { ⌜ (searchEnd ≤ length (now work)) × (x .len ≤ maxVariables) × All (λ b. b ≤ sumEnd) (x .bound) ⌝ }
+    requires { ⌜ (searchEnd ≤ length (now work)) × (x .len ≤ maxVariables) × All (λ b. b ≤ coreSumEnd) (x .bound) ⌝ }
     ensures { λ b. ⌜ b ≡ added (x .bound) (gainsIn maxObjectives (now (work .entry)) (x .len)) ⌝ }
 {
     let len = x.len;

@@ -11,7 +11,7 @@ use borrow.Author.Needs.{needs}
 use borrow.Author.Tests.{ne-eqb, leb-true, leb-false, not-true, not-false}
 use Rattle.model.specs.Limits.{maxArity}
 use Rattle.model.specs.Refusals.{cutShort, badOwner, badArity, badScope}
-use Rattle.model.specs.Problems.{InRange, scopeOk}
+use Rattle.model.specs.Problems.{InRange, scopeRule}
 use Rattle.model.specs.Encoding.{letterC, letterF}
 use Rattle.model.specs.Reading.{startNumber, tableObjective, tableArity, tableScope, tableLength}
 use Rattle.model.proofs.Marks.{Marked, start-marked}
@@ -58,7 +58,7 @@ few c = rw getD-drop (small c)
 there : (c : tie.Else4) → 4 + tableArity (left₃ (c .before)) ≤ length (left₃ (c .before))
 there c = rw (getD-drop, length-drop) (c .if4 .left)
 
-rising : (c : tie.Else5) → scopeOk (length (sizes₃ (c .before .before .before))) 0 (tableScope (left₃ (c .before .before .before))) ≡ true
+rising : (c : tie.Else5) → scopeRule (length (sizes₃ (c .before .before .before))) (tableScope (left₃ (c .before .before .before))) ≡ true
 rising c = rw scope-place (sym (c .before .scope-ok .ensures) ∙ not-false _ (c .if5 .left))
 
 ranged : (c : tie.Else5) → InRange (length (sizes₃ (c .before .before .before))) (tableScope (left₃ (c .before .before .before)))

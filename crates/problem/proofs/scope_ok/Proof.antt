@@ -5,14 +5,14 @@ use native.Mathlib.Omega.{arith}
 use native.Mathlib.Nat.{add-zero, sub-zero}
 use lib.ListN.{take, drop}
 use denote.Ref.{now}
-use Rattle.model.specs.Problems.{scopeOk}
+use Rattle.model.specs.Problems.{scopeOk, scopeRule}
 use Rattle.problem.proofs.Rising.{scope-goes, scope-high, scope-falls}
 use Rattle.problem.proofs.scope_ok.Statement.{statement}
 use Rattle.problem.proofs.scope_ok.Tie as tie
 
 abbrev Inv-loop : tie.InvT-loop
 Inv-loop s at arity n low₀ i₀ low i =
-    (i ≤ arity) × (scopeOk n low (take (arity - i) (drop (at + i) s)) ≡ scopeOk n 0 (take arity (drop at s)))
+    (i ≤ arity) × (scopeOk n low (take (arity - i) (drop (at + i) s)) ≡ scopeRule n (take arity (drop at s)))
 
 abbrev μ-loop : tie.MeasureT-loop
 μ-loop s at arity n low₀ i₀ low i = arity - i

@@ -7,7 +7,8 @@ use lib.ListN.{getD, take}
 use borrow.Author.Tests.{not-true}
 use mir.Syntax.{w64}
 use Rattle.model.specs.Basics.{All}
-use Rattle.model.specs.Limits.{wordEnd, sumEnd}
+use Rattle.model.specs.Limits.{wordEnd}
+use Rattle.model.specs.Core.{coreSumEnd}
 use Rattle.model.specs.Vectors.{atMost}
 use Rattle.model.specs.Archive.{weighted}
 use Rattle.rows.proofs.Arrays.{array-length}
@@ -46,7 +47,7 @@ is-within-requires c κs =
     let s = c .before .before .before .before .before .before .before in
     let a = s .args in
     let words : (k : ℕ) → getD (now (a .work)) k 0 < wordEnd = λ k. omega (arith, c .before .before .before .before .before .before .shared-slice-known .given k) in
-    (s .pre .0, subst (All (λ v. v < sumEnd)) (sym (front-costs (a .d .objectives) (now (a .work)) _ (a .i) (s .pre .0 .few) (c .before .before .before .before .before .row-costs .ensures))) (costs-small (a .d .objectives) (now (a .work)) (a .i) words))
+    (s .pre .0, subst (All (λ v. v < coreSumEnd)) (sym (front-costs (a .d .objectives) (now (a .work)) _ (a .i) (s .pre .0 .few) (c .before .before .before .before .before .row-costs .ensures))) (costs-small (a .d .objectives) (now (a .work)) (a .i) words))
 
 returns-3 : tie.Need-returns-3
 returns-3 c =

@@ -3,7 +3,7 @@ use Prim.Native.Nat.{_+_, _*_, _≤_}
 use native.Mathlib.Omega.{arith}
 use denote.Ref.{now}
 use Rattle.model.specs.Basics.{All}
-use Rattle.model.specs.Limits.{sumEnd}
+use Rattle.model.specs.Core.{coreSumEnd}
 use Rattle.model.proofs.Elements.{all-map}
 use Rattle.vectors.specs.Fronts.{Half}
 use Rattle.vectors.proofs.Fours.{four-half}
@@ -30,7 +30,7 @@ gains-small c =
 sum-requires : tie.Need-sum-requires
 sum-requires c κs =
     let s = c .before .before .before in
-    (all-map (λ b. b ≤ sumEnd) Half (λ b l. omega arith) (s .args .x .bound) (s .pre .2), gains-small c)
+    (all-map (λ b. b ≤ coreSumEnd) Half (λ b l. omega arith) (s .args .x .bound) (s .pre .2), gains-small c)
 
 returns : tie.Need-returns
 returns c = rw (c .before .costs-at .ensures) at (c .sum .ensures)

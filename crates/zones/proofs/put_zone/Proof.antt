@@ -10,7 +10,8 @@ use mathlib.Core.Path.{_≡_, sym, _∙_}
 use lib.ListN.{length, take, List·getD-map}
 use lib.Seq.{length-take-le, take-all}
 use mir.Syntax.{w64}
-use Rattle.model.specs.Limits.{maxObjectives, sumEnd}
+use Rattle.model.specs.Limits.{maxObjectives}
+use Rattle.model.specs.Core.{coreSumEnd}
 use Rattle.model.specs.Problems.{Word}
 use Rattle.model.proofs.Elements.{all-map}
 use Rattle.rows.proofs.Arrays.{array-length}
@@ -31,7 +32,7 @@ module _ (s : tie.Start Inv-loop μ-loop) where
 directions-of-requires : tie.Need-directions-of-requires Inv-loop μ-loop
 directions-of-requires c κs =
     let s = c .before in
-    (s .pre .0, all-map Word (λ x. x < sumEnd) (λ x l. omega arith) (take (s .args .d .objectives) (s .args .corner)) (s .pre .3))
+    (s .pre .0, all-map Word (λ x. x < coreSumEnd) (λ x l. omega arith) (take (s .args .d .objectives) (s .args .corner)) (s .pre .3))
 
 mul-at : tie.Need-mul-at Inv-loop μ-loop
 mul-at c = omega arith

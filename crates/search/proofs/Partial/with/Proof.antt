@@ -6,7 +6,8 @@ use native.Mathlib.Omega.{arith}
 use lib.ListN.{getD}
 use lib.Seq.{length-take-le}
 use denote.Ref.{now}
-use Rattle.model.specs.Limits.{maxObjectives, byteEnd, sumEnd}
+use Rattle.model.specs.Limits.{maxObjectives, byteEnd}
+use Rattle.model.specs.Core.{coreSumEnd}
 use Rattle.model.specs.Bounds.{prefixOk}
 use Rattle.search.proofs.SumLimits.{total-fits}
 use Rattle.search.proofs.Partials.{Standing, standing, next, next-room, next-prefix, next-good, next-sum, next-bound}
@@ -20,7 +21,7 @@ place s = standing (s .pre .0) (s .pre .1) _ (s .good .0)
 good : (s : tie.Start) → prefixOk (now (s .args .sizes)) (next (s .args .self) (s .args .v)) ≡ true
 good s = next-good (place s) (s .pre .2) (s .args .v) (s .pre .3)
 
-small : (c : tie.After-group-bounds) (o : ℕ) → o < maxObjectives → getD (c .before .before .before .before .before .before .args .t3) o 0 + getD (c .group-bounds .result) o 0 ≤ sumEnd
+small : (c : tie.After-group-bounds) (o : ℕ) → o < maxObjectives → getD (c .before .before .before .before .before .before .args .t3) o 0 + getD (c .group-bounds .result) o 0 ≤ coreSumEnd
 small c o l =
     let s = c .before .before .before .before .before .before in
     let a = s .args in

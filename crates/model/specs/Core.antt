@@ -1,0 +1,77 @@
+-- The problem that the search works on: natural numbers, and ceilings that a cost stays below. Entries and ceilings of a
+-- problem become the core's here and nowhere else; today they stay as they are.
+-- Nobody has to believe it: proofs/Core.antt shows that the core's list is the frontier list.
+use mathlib.Core.Bool.{Bool}
+use mathlib.Core.List.{List, [], _∷_}
+use Prim.Native.Nat.{ℕ, _≤_}
+use Rattle.model.specs.Limits.{wordEnd}
+use Rattle.model.specs.Problems.{Table, Problem}
+use Rattle.model.specs.Vectors.{under}
+use Rattle.model.specs.Costs.{costsOf}
+use Rattle.model.specs.Frontiers.{Point, frontierBy, ReachedBy}
+
+-- what an entry stays below, and what a sum of entries does
+abbrev pub entryEnd : ℕ
+entryEnd = 1099511627776
+
+abbrev pub coreSumEnd : ℕ
+coreSumEnd = 281474976710656
+
+-- a ceiling of the core: listed costs, which are below it, have four bytes each
+abbrev pub Ceiling : ℕ → Type 0
+Ceiling c = c ≤ wordEnd
+
+-- a ceiling that is at most one more than a number of four bytes, as the corners of zones have
+abbrev pub WordCeiling : ℕ → Type 0
+WordCeiling c = c ≤ wordEnd
+
+-- what a table's number weighs in the core, and the number that weighs so much
+unfoldable pub entry : ℕ → ℕ
+entry x = x
+
+unfoldable pub plain : ℕ → ℕ
+plain y = y
+
+unfoldable pub weighed : List ℕ → List ℕ
+weighed [] = []
+weighed (x ∷ xs) = entry x ∷ weighed xs
+
+abbrev pub coreTable : Table → Table
+coreTable t = record { objective = t .objective; scope = t .scope; costs = weighed (t .costs) }
+
+unfoldable pub coreTables : List Table → List Table
+coreTables [] = []
+coreTables (t ∷ ts) = coreTable t ∷ coreTables ts
+
+-- the ceiling that a cost stays below where it keeps the public one
+unfoldable pub coreCeiling : ℕ → ℕ
+coreCeiling c = c
+
+unfoldable pub coreCeilings : List ℕ → List ℕ
+coreCeilings [] = []
+coreCeilings (c ∷ cs) = coreCeiling c ∷ coreCeilings cs
+
+-- the core's form of a problem
+abbrev pub coreOf : Problem → Problem
+coreOf q =
+    record {
+      objectives = q .objectives;
+      ceilings = coreCeilings (q .ceilings);
+      domains = q .domains;
+      tables = coreTables (q .tables);
+    }
+
+-- a problem with other ceilings: those of a cut's halves may differ from those of their sums
+abbrev pub withCeilings : List ℕ → Problem → Problem
+withCeilings cs q =
+    record { objectives = q .objectives; ceilings = cs; domains = q .domains; tables = q .tables }
+
+-- the core's test of a choice, its list, and what is reached
+unfoldable pub coreConsistent : Problem → List ℕ → Bool
+coreConsistent q xs = under (costsOf q xs) (q .ceilings)
+
+abbrev pub coreFrontier : Problem → List Point
+coreFrontier q = frontierBy (coreConsistent q) q
+
+abbrev pub CoreReached : Problem → Point → Type 0
+CoreReached q p = ReachedBy (coreConsistent q) q p
