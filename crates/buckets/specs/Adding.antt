@@ -93,14 +93,14 @@ Totalled ds s plan span v x t =
     (a o : ℕ) → a < getD ds v 0 → o < 4
     → (getD t (4 * a + o) 0
     ≡ total o (costOf ds (set x v a)) (tablesOver ds s (placesOver plan (span .from) (span .to))))
-    × (getD t (4 * a + o) 0 < sumEnd)
+    × (getD t (4 * a + o) 0 < coreSumEnd)
 
 -- four costs that are sums of a problem's costs
 pub record Small (t : DT.Totals) : Type 0 where
-  pub one : t .one < sumEnd
-  pub two : t .two < sumEnd
-  pub three : t .three < sumEnd
-  pub four : t .four < sumEnd
+  pub one : t .one < coreSumEnd
+  pub two : t .two < coreSumEnd
+  pub three : t .three < coreSumEnd
+  pub four : t .four < coreSumEnd
 
 -- sum i of four costs, by its row of a table of weights
 abbrev pub fourSum : List ℕ → DT.Totals → ℕ → ℕ

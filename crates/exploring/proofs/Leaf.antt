@@ -134,8 +134,8 @@ module _
       (run .limit)
   over-covers o = leaf-covers _ _ (λ m. absurd (true-false (core-under problem (point costs x) m) o))
 
-  leaf-reached : under costs ceilings ≡ true → Reached problem (point costs x)
-  unfolding consistent
+  leaf-reached : under costs ceilings ≡ true → CoreReached problem (point costs x)
+  unfolding coreConsistent
   leaf-reached u = record { complete = h .partial .choice; allowed = rw (← leaf-costs) u; exact = leaf-costs }
 
   -- taken in

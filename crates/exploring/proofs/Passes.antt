@@ -156,14 +156,14 @@ module _ {d : DD.Directions} {task : DT.Task} {ds s work : List ℕ} (h : Ready 
 
   -- sums of consistent choices are below the limit while nothing is left out
   module _ (four : d .objectives ≤ length (task .ceilings)) where
-    sum-below : (y : Point) → Reached problem y → weighted (leadWeights d) (y .costs) < noLimit
+    sum-below : (y : Point) → CoreReached problem y → weighted (leadWeights d) (y .costs) < noLimit
     sum-below y m =
         let p = d .objectives in
         let wide : length (y .costs) ≡ p = reached-width problem y m in
         let long = wide ∙ sym (length-take-le p (task .ceilings) four) in
         let limits = all-take Word p (task .ceilings) (h .words) in
         let words : All Word (y .costs) =
-        under-words (y .costs) (take p (task .ceilings)) long (reached-under problem y m) limits in
+        under-words (y .costs) (take p (task .ceilings)) long (core-under problem y m) limits in
         let small = all-drop (λ w. w ≤ maxWeight) (4 * 0) (d .weights) (sensible .small) in
         let weights : All (λ w. w ≤ maxWeight) (leadWeights d) =
         all-take (λ w. w ≤ maxWeight) p (drop (4 * 0) (d .weights)) small in
@@ -197,7 +197,7 @@ module _ {d : DD.Directions} {task : DT.Task} {ds s work : List ℕ} (h : Ready 
       -- more points than room
       pub passed-full :
           length (d .weights) ≡ 16 → task .room < run .points →
-          ExploredSays task (length ds) (frontier (taskProblem task ds s work)) work work′
+          ExploredSays task (length ds) (coreFrontier (taskProblem task ds s work)) work work′
           (record { decided = true; full = true; count = 0 })
       passed-full weights more =
           let long : length (leadWeights d) ≡ d .objectives =
@@ -206,9 +206,9 @@ module _ {d : DD.Directions} {task : DT.Task} {ds s work : List ℕ} (h : Ready 
           archive-full (passed .running .archived) (passed .covered) (omega arith) (sensible .every)
           (passed .running .distinct) in
           let rows = rows-length (d .objectives) (length ds) work′ 0 (run .points) in
-          let longer : task .room < length (frontier problem) = omega (arith, held, rows) in
+          let longer : task .room < length (coreFrontier problem) = omega (arith, held, rows) in
           record {
-            full = λ e. sym (lt-ltb (task .room) _ (of-task (λ q. task .room < length (frontier q)) longer));
+            full = λ e. sym (lt-ltb (task .room) _ (of-task (λ q. task .room < length (coreFrontier q)) longer));
             count = λ e. refl;
             list = λ e f. absurd (true-false refl f);
             still = passed .still;
@@ -220,21 +220,21 @@ module _ {d : DD.Directions} {task : DT.Task} {ds s work : List ℕ} (h : Ready 
           (Distinct (listIn (d .objectives) (length ds) work′ 0 (run .points)) →
           listIn (d .objectives) (length ds) work″ 0 (run .points)
           ≡ sorted (listIn (d .objectives) (length ds) work′ 0 (run .points))) →
-          ExploredSays task (length ds) (frontier (taskProblem task ds s work)) work work″
+          ExploredSays task (length ds) (coreFrontier (taskProblem task ds s work)) work work″
           (record { decided = true; full = false; count = run .points })
       passed-list few none work″ framed order =
           let distinct = passed .running .distinct in
-          let is : sorted archive ≡ frontier problem =
+          let is : sorted archive ≡ coreFrontier problem =
           archive-frontier (passed .running .archived) (passed .covered) (λ y m. rw none (sum-below y m)) in
           let sorts = sorted-length (d .objectives) (length ds) archive sized distinct in
           let rows = rows-length (d .objectives) (length ds) work′ 0 (run .points) in
-          let long : length (frontier (taskProblem task ds s work)) ≡ run .points =
-          of-task (λ q. length (frontier q) ≡ run .points) (sym (ap length is) ∙ sorts ∙ rows) in
+          let long : length (coreFrontier (taskProblem task ds s work)) ≡ run .points =
+          of-task (λ q. length (coreFrontier q) ≡ run .points) (sym (ap length is) ∙ sorts ∙ rows) in
           record {
-            full = λ e. sym (le-ltb (task .room) (length (frontier (taskProblem task ds s work))) (omega arith));
+            full = λ e. sym (le-ltb (task .room) (length (coreFrontier (taskProblem task ds s work))) (omega arith));
             count = λ e. sym long;
             list = λ e f.
-                of-task (λ q. listIn (q .objectives) (length ds) work″ 0 (run .points) ≡ frontier q)
+                of-task (λ q. listIn (q .objectives) (length ds) work″ 0 (run .points) ≡ coreFrontier q)
                 (order distinct ∙ is);
             still = still-trans (passed .still) (framed-still framed task (h .planned .few));
           }
@@ -258,12 +258,12 @@ module _
 pub explored-still :
     {task : DT.Task} {work work′ : List ℕ} → Still task work work′ →
     (ds s work″ : List ℕ) (e : DE.Explored) →
-    ExploredSays task (length ds) (frontier (taskProblem task ds s work′)) work′ work″ e →
-    ExploredSays task (length ds) (frontier (taskProblem task ds s work)) work work″ e
+    ExploredSays task (length ds) (coreFrontier (taskProblem task ds s work′)) work′ work″ e →
+    ExploredSays task (length ds) (coreFrontier (taskProblem task ds s work)) work work″ e
 explored-still {task} {work} {work′} k ds s work″ e h =
     let same : taskProblem task ds s work′ ≡ taskProblem task ds s work = rw (k .source) in
     let g =
-    subst (λ (u : Problem). ExploredSays task (length ds) (frontier u) work′ work″ e) same h in
+    subst (λ (u : Problem). ExploredSays task (length ds) (coreFrontier u) work′ work″ e) same h in
     record { full = g .full; count = g .count; list = g .list; still = still-trans k (g .still) }
 
 -- the weights are sixteen in any value

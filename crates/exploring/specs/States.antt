@@ -144,7 +144,7 @@ pub record Passed
     : Type 0 where
   pub still : Still task work work′
   pub running : Running q d task n work′ run′
-  pub covered : (y : Point) → Reached q y → Covered (leadWeights d) (archiveIn d n work′ run′) (run′ .limit) y
+  pub covered : (y : Point) → CoreReached q y → Covered (leadWeights d) (archiveIn d n work′ run′) (run′ .limit) y
 
 -- the list fs is in work memory, or it is longer than the room; or the search was given up
 pub record ExploredSays

@@ -241,7 +241,7 @@ pub fn explore(
 ) -> Explored
     requires { ⌜ Ready d task (now sizes) (now s) (now work) ⌝ }
     ensures { λ e. ⌜ ExploredSays task (length (now (sizes .entry)))
-        (frontier (taskProblem task (now (sizes .entry)) (now (s .entry)) (now (work .entry))))
+        (coreFrontier (taskProblem task (now (sizes .entry)) (now (s .entry)) (now (work .entry))))
         (now (work .entry)) (now (work .exit)) e ⌝ }
 {
     let mut points: usize = 0;

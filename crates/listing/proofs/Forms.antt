@@ -83,11 +83,11 @@ module _ {p r : ℕ} {ceilings ds s work : List ℕ} (source : Source p r ceilin
 
       pub explored-says :
           (after : List ℕ) (e : DE.Explored) →
-          ExploredSays task (length ds) (frontier (taskProblem task ds s work′)) work′ after e →
+          ExploredSays task (length ds) (coreFrontier (taskProblem task ds s work′)) work′ after e →
           Kept r work after
-          × SecondSays p (length ds) (frontier (sourceProblem p r ceilings ds s work)) room after e
+          × SecondSays p (length ds) (coreFrontier (sourceProblem p r ceilings ds s work)) room after e
       explored-says after e says = (
         record { long = says .still .long ∙ kept .long; source = says .still .source ∙ kept .source },
-        subst (λ (fs : List Point). SecondSays p (length ds) fs room after e) (ap frontier same-problem)
+        subst (λ (fs : List Point). SecondSays p (length ds) fs room after e) (ap coreFrontier same-problem)
             (record { full = says .full; count = says .count; list = says .list }),
       )

@@ -4,7 +4,7 @@ ghost use mathlib.Core.Bool.{true};
 ghost use Prim.Native.Nat.{_≤_};
 ghost use lib.ListN.{length};
 ghost use Rattle.model.specs.Limits.{maxPoints, workNeed};
-ghost use Rattle.model.specs.Frontiers.{frontier};
+ghost use Rattle.model.specs.Core.{coreFrontier};
 ghost use Rattle.model.specs.Cuts.{sidesOk, uncrossed};
 ghost use Rattle.model.specs.Views.{view};
 ghost use Rattle.listing.specs.Says.{problemAt, Accepted};

@@ -7,7 +7,7 @@ use native.Mathlib.Omega.{arith}
 use lib.ListN.{length}
 use borrow.Author.Needs.{needs}
 use denote.Ref.{now}
-use Rattle.model.specs.Frontiers.{frontier}
+use Rattle.model.specs.Core.{coreFrontier}
 use Rattle.groups.proofs.Tasks.{ceilings-long}
 use Rattle.exploring.specs.declared.Explored as DE
 use Rattle.exploring.specs.States.{problemOf, taskProblem, Ready, Still, Between, ExploredSays}
@@ -114,10 +114,10 @@ module _ (c : Ran) where
   -- what an answer says of the memory before this pass, it says of the memory at the start
   from-start :
       (work : List ℕ) (e : DE.Explored) →
-      ExploredSays (begun .args .task) (length ds) (frontier (taskProblem (begun .args .task) ds bytes before-pass))
+      ExploredSays (begun .args .task) (length ds) (coreFrontier (taskProblem (begun .args .task) ds bytes before-pass))
       before-pass work e →
       ExploredSays (begun .args .task) (length ds)
-      (frontier (taskProblem (begun .args .task) ds bytes (now (begun .args .work)))) (now (begun .args .work)) work e
+      (coreFrontier (taskProblem (begun .args .task) ds bytes (now (begun .args .work)))) (now (begun .args .work)) work e
   from-start = explored-still kept ds bytes
 
 loop-holds : tie.Need-loop-holds Inv-loop μ-loop
