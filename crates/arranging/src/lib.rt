@@ -3,7 +3,7 @@
 ghost use mathlib.Core.Path.{_≡_};
 ghost use Prim.Native.Nat.{_≤_, _<_};
 ghost use lib.ListN.{length};
-ghost use Rattle.model.specs.Limits.{maxTables, byteEnd, wordEnd};
+ghost use Rattle.model.specs.Limits.{maxTables};
 ghost use Rattle.buckets.specs.Places.{numbersAt, maxMessages, childrenAt, looseAt};
 ghost use Rattle.buckets.specs.Messages.{countFrom};
 ghost use Rattle.buckets.proofs.Rearranging.{exchanged};
@@ -12,26 +12,6 @@ ghost use Rattle.arranging.specs.Arranged.{Loose, Arranged};
 
 // The most that a message's number may be; as a place it lies outside of every plan.
 pub const MOST_NUMBER: usize = 4294967295;
-
-// Byte `i`, or 0 behind the end.
-pub fn byte_at(s: &[u8], i: usize) -> usize
-    ensures { λ r. ⌜ r < byteEnd ⌝ }
-{
-    if i < s.len() {
-        return s[i] as usize;
-    }
-    0
-}
-
-// Number `i` of the plan, or 0 behind the end.
-pub fn get(i: usize, plan: &[u32]) -> usize
-    ensures { λ r. ⌜ r < wordEnd ⌝ }
-{
-    if i < plan.len() {
-        return plan[i] as usize;
-    }
-    0
-}
 
 // Writes number `i` of the plan, unless it is one that is only rearranged.
 pub fn put(i: usize, number: usize, plan: &mut [u32])
@@ -91,16 +71,16 @@ pub fn bit(k: usize) -> u32 {
 }
 
 // The positions of the variables of the record at `at`.
-pub fn scope_at(s: &[u8], at: usize, plan: &[u32]) -> u32 {
+pub fn record_scope(s: &[u8], at: usize, plan: &[u32]) -> u32 {
     if 65535 < at {
         return 0;
     }
-    let a = byte_at(s, at + 3);
+    let a = buckets::byte_at(s, at + 3);
     let mut set: u32 = 0;
     let mut i: usize = 0;
     while i < a {
-        let v = byte_at(s, at + 4 + i);
-        set = set | bit(get(buckets::POSITIONS_AT + v, plan));
+        let v = buckets::byte_at(s, at + 4 + i);
+        set = set | bit(buckets::number_at(plan, buckets::POSITIONS_AT + v));
         i += 1;
     }
     set
@@ -109,7 +89,7 @@ pub fn scope_at(s: &[u8], at: usize, plan: &[u32]) -> u32 {
 // The position of variable `v` as a set.
 fn position_of(v: usize, plan: &[u32]) -> u32 {
     if v < 24 {
-        return bit(get(buckets::POSITIONS_AT + v, plan));
+        return bit(buckets::number_at(plan, buckets::POSITIONS_AT + v));
     }
     0
 }
@@ -121,11 +101,11 @@ pub fn message_scope(g: usize, plan: &[u32]) -> u32 {
     }
     let at = buckets::MESSAGES_AT + buckets::MESSAGE_WIDTH * g;
     let mut set: u32 = 0;
-    if get(at + 2, plan) != 0 {
-        set = position_of(get(at + 1, plan), plan);
+    if buckets::number_at(plan, at + 2) != 0 {
+        set = position_of(buckets::number_at(plan, at + 1), plan);
     }
-    if get(at + 4, plan) != 0 {
-        set = set | position_of(get(at + 3, plan), plan);
+    if buckets::number_at(plan, at + 4) != 0 {
+        set = set | position_of(buckets::number_at(plan, at + 3), plan);
     }
     set
 }
@@ -155,7 +135,7 @@ pub fn gather_records(
     let mut end = from;
     let mut i = from;
     while i < to {
-        let set = scope_at(s, get(i, plan), plan);
+        let set = record_scope(s, buckets::number_at(plan, i), plan);
         if is_between(set, needed, allowed) {
             exchange_records(end, i, r, plan);
             end += 1;
@@ -183,7 +163,7 @@ pub fn gather_slots(
         if buckets::MAX_MESSAGES <= i {
             return end;
         }
-        let set = message_scope(get(buckets::CHILDREN_AT + i, plan), plan);
+        let set = message_scope(buckets::number_at(plan, buckets::CHILDREN_AT + i), plan);
         if is_between(set, needed, allowed) {
             exchange_slots(end, i, r, plan);
             end += 1;

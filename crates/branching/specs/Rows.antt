@@ -5,7 +5,8 @@ use Prim.Native.Nat.{ℕ, _+_, _-_, _*_, _≤_, _<_}
 use lib.ListN.{getD}
 use Rattle.directions.specs.Directions.{widthOf}
 use Rattle.directions.specs.declared.Directions as DD
-use Rattle.buckets.specs.Places.{recordEnd, childEnd, messageEnd}
+use Rattle.buckets.specs.Places.{messageEnd}
+use Rattle.buckets.specs.Bounds.{spanAt}
 use Rattle.buckets.specs.Content.{Filled, Summed}
 
 -- the first number that does not fit 64 bits
@@ -22,9 +23,9 @@ abbrev pub nextBound : List ℕ → List ℕ → List ℕ → ℕ → ℕ → �
 nextBound acc away rows a j = getD acc j 0 + (getD rows (8 * a + j) 0 - getD away j 0)
 
 -- the bucket of position k, for each value of its variable v, and what it sends
-abbrev pub Bucket : DD.Directions → List ℕ → List ℕ → List ℕ → ℕ → ℕ → List ℕ → List ℕ → Type 0
-Bucket d ds s plan k v x rows =
-    Filled d ds s plan (recordEnd plan (k + 1)) (recordEnd plan k) (childEnd plan (k + 1)) (childEnd plan k) v x rows
+abbrev pub Bucket :
+    (d : DD.Directions) (ds s plan : List ℕ) (k v : ℕ) (x rows : List ℕ) → Type 0
+Bucket d ds s plan k v x rows = Filled d ds s plan (spanAt plan k) v x rows
 
 abbrev pub Away : DD.Directions → List ℕ → ℕ → List ℕ → List ℕ → Type 0
 Away d plan k x away = Summed (widthOf d) plan (messageEnd plan (k + 1)) (messageEnd plan k) x away

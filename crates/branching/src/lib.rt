@@ -2,13 +2,13 @@
 ghost use mathlib.Core.Path.{_≡_};
 ghost use mathlib.Core.Bool.{true};
 ghost use Prim.Native.Nat.{ℕ, _<_, _≤_};
-ghost use lib.ListN.{length, getD, set, replicate};
-ghost use Rattle.model.specs.Limits.{maxVariables, maxDomain};
+ghost use lib.ListN.{length, getD, replicate};
+ghost use Rattle.model.specs.Limits.{maxDomain};
 ghost use Rattle.model.specs.Costs.{isChoice};
 ghost use Rattle.directions.specs.Directions.{widthOf, leadAt, Sensible, maxDirections};
-ghost use Rattle.buckets.specs.Places.{orderIn, numbersAt};
-ghost use Rattle.buckets.specs.Bounds.{baseAt};
-ghost use Rattle.buckets.specs.Content.{Planned};
+ghost use Rattle.buckets.specs.Places.{numbersAt, recordEnd};
+ghost use Rattle.buckets.specs.Bounds.{spanAt, baseAt};
+ghost use Rattle.buckets.specs.Content.{Planned, Ranged};
 ghost use Rattle.buckets.specs.Sound.{Tested};
 ghost use Rattle.branching.specs.Rows.{Holding, nextBound, Bucket, Away};
 
@@ -19,21 +19,15 @@ pub fn bucket_at(
     x: &[u8],
     s: &[u8],
     sizes: &[u8],
-    r: usize,
     d: directions::Directions,
     plan: &[u32],
 ) -> [u64; 64]
-    requires { ⌜ Planned d r (now sizes) (now s) (now plan) × Tested d r (now sizes) (now s) (now plan)
+    requires { ⌜ Planned d (recordEnd (now plan) k) (now sizes) (now s) (now plan) × Ranged (spanAt (now plan) k)
         × (numbersAt ≤ length (now plan)) × (k < length (now sizes)) × (v < length (now sizes))
         × (isChoice (now sizes) (now x) ≡ true) ⌝ }
     ensures { λ rows. ⌜ Bucket d (now (sizes .entry)) (now (s .entry)) (now (plan .entry)) k v (now (x .entry)) rows ⌝ }
 {
-    let next = k + 1;
-    let from = plan[buckets::RECORD_ENDS_AT + next] as usize;
-    let to = plan[buckets::RECORD_ENDS_AT + k] as usize;
-    let first = plan[buckets::CHILD_ENDS_AT + next] as usize;
-    let last = plan[buckets::CHILD_ENDS_AT + k] as usize;
-    buckets::content(s, sizes, r, from, to, first, last, v, x, d, plan)
+    buckets::content(s, sizes, buckets::span_at(k, plan), v, x, d, plan)
 }
 
 // What position `k` has sent on ahead.
@@ -112,16 +106,6 @@ pub fn least_value(leads: &[u64; 8], size: usize) -> usize
     least
 }
 
-// The choice with value `a` of variable `v`.
-pub fn with_value(x: [u8; 24], v: usize, a: usize) -> [u8; 24]
-    requires { ⌜ (v < maxVariables) × (a < maxDomain) ⌝ }
-    ensures { λ y. ⌜ y ≡ set x v a ⌝ }
-{
-    let mut y = x;
-    y[v] = a as u8;
-    y
-}
-
 // The bound of every choice: what no variable decides.
 pub fn root_bound(
     s: &[u8],
@@ -141,14 +125,12 @@ pub fn root_bound(
     let from = plan[buckets::RECORD_ENDS_AT] as usize;
     let first = plan[buckets::CHILD_ENDS_AT] as usize;
     let last = plan[buckets::MESSAGE_ENDS_AT] as usize;
-    let rows = buckets::content(s, sizes, r, from, r, first, last, 0, &zeros[..n], d, plan);
+    let span = buckets::Span {
+        from,
+        to: r,
+        first,
+        last,
+    };
+    let rows = buckets::content(s, sizes, span, 0, &zeros[..n], d, plan);
     row_of(&rows, 0, [0u64; 8], [0u64; 8], d.objectives + d.sums)
-}
-
-// The variable at position `k`.
-pub fn variable_at(k: usize, plan: &[u32]) -> usize
-    requires { ⌜ (k < maxVariables) × (numbersAt ≤ length (now plan)) ⌝ }
-    ensures { λ v. ⌜ v ≡ orderIn (now (plan .entry)) k ⌝ }
-{
-    plan[buckets::ORDER_AT + k] as usize
 }

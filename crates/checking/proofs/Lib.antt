@@ -1,6 +1,5 @@
 -- The laws that the tests' proofs share.
 pub mod Limits
-pub mod Ranges
 pub mod Marking
 pub mod Earlier
 pub mod Lowering

@@ -14,7 +14,9 @@ use Rattle.model.proofs.Bits.{test}
 use Rattle.model.proofs.Zeros.{zeros-at}
 use Rattle.buckets.specs.Messages.{childrenOver}
 use Rattle.buckets.specs.Bounds.{placesOver}
-use Rattle.buckets.proofs.Reading.{Reads}
+use Rattle.buckets.specs.Content.{Ranged}
+use Rattle.buckets.specs.declared.Span as DS
+use Rattle.buckets.proofs.Reading.{Reads, joined}
 use Rattle.buckets.proofs.Sums.{placesOver-split, childrenOver-split}
 use Rattle.buckets.specs.Places.{fieldIn}
 use Rattle.checking.specs.declared.Part as DP
@@ -32,19 +34,29 @@ module _ (P Q : ℕ → Type 0) (f : (v : ℕ) → P v → Q v) where
   pub reads-map : (plan : List ℕ) (g : ℕ) → Reads P plan g → Reads Q plan g
   reads-map plan g h = (⊎-elim (λ e. inl e) (λ p. inr (f _ p)) (h .0), ⊎-elim (λ e. inl e) (λ p. inr (f _ p)) (h .1))
 
-  pub bucket-map : (s plan : List ℕ) (from to first last : ℕ) → BucketIn P s plan from to first last → BucketIn Q s plan from to first last
-  bucket-map s plan from to first last b =
+  pub bucket-map : (s plan : List ℕ) (span : DS.Span) → BucketIn P s plan span → BucketIn Q s plan span
+  bucket-map s plan span b =
       record {
-        records = all-map (ScopeIn P s) (ScopeIn Q s) (λ at. all-map P Q f (tableScope (drop at s))) (placesOver plan from to) (b .records);
-        children = all-map (Reads P plan) (Reads Q plan) (λ g. reads-map plan g) (childrenOver plan first last) (b .children);
+        records = all-map (ScopeIn P s) (ScopeIn Q s) (λ at. all-map P Q f (tableScope (drop at s))) (placesOver plan (span .from) (span .to)) (b .records);
+        children = all-map (Reads P plan) (Reads Q plan) (λ g. reads-map plan g) (childrenOver plan (span .first) (span .last)) (b .children);
       }
 
--- two parts in a row
-pub bucket-join : (P : ℕ → Type 0) (s plan : List ℕ) (from to to′ first last last′ : ℕ) → from ≤ to → to ≤ to′ → first ≤ last → last ≤ last′ → BucketIn P s plan from to first last → BucketIn P s plan to to′ last last′ → BucketIn P s plan from to′ first last′
-bucket-join P s plan from to to′ first last last′ g h k l b c =
+-- two spans that follow each other
+pub bucket-join :
+    (P : ℕ → Type 0) (s plan : List ℕ) (a b : DS.Span) → Ranged a → Ranged b → a .to ≡ b .from → a .last ≡ b .first
+    → BucketIn P s plan a → BucketIn P s plan b → BucketIn P s plan (joined a b)
+bucket-join P s plan a b u w e f p q =
+    let records = rw (← e) at (q .records) in
+    let children = rw (← f) at (q .children) in
+    let rise : a .to ≤ b .to = omega (arith, w .records) in
+    let rise′ : a .last ≤ b .last = omega (arith, w .children) in
     record {
-      records = rw (placesOver-split plan from to to′ g h) (all-append (ScopeIn P s) (placesOver plan from to) (placesOver plan to to′) (b .records) (c .records));
-      children = rw (childrenOver-split plan first last last′ k l) (all-append (Reads P plan) (childrenOver plan first last) (childrenOver plan last last′) (b .children) (c .children));
+      records =
+          rw (placesOver-split plan (a .from) (a .to) (b .to) (u .records) rise)
+          (all-append (ScopeIn P s) (placesOver plan (a .from) (a .to)) (placesOver plan (a .to) (b .to)) (p .records) records);
+      children =
+          rw (childrenOver-split plan (a .first) (a .last) (b .last) (u .children) rise′)
+          (all-append (Reads P plan) (childrenOver plan (a .first) (a .last)) (childrenOver plan (a .last) (b .last)) (p .children) children);
     }
 
 -- the marks of a part are on its own variable and on those of its message

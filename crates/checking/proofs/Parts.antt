@@ -1,5 +1,5 @@
 -- Parts: what holds at the choices that are looked at holds at every choice; part after part, a bucket's messages are at most what it holds.
-use mathlib.Core.Path.{_≡_, refl, sym, _∙_}
+use mathlib.Core.Path.{_≡_, refl, ap, sym, _∙_}
 use mathlib.Core.Logic.{_⊎_, inl, inr, ⊎-elim}
 use mathlib.Core.Bool.{true, false}
 use mathlib.Core.List.{List}
@@ -16,17 +16,19 @@ use Rattle.model.proofs.Zeros.{zeros-at}
 use Rattle.costs.proofs.ScopeVariables.{value-below}
 use Rattle.directions.specs.Directions.{widthOf}
 use Rattle.directions.specs.declared.Directions as DD
-use Rattle.buckets.specs.Places.{orderIn, recordEnd, childEnd, messageEnd, fieldIn}
+use Rattle.buckets.specs.Places.{maxMessages, orderIn, recordEnd, childEnd, messageEnd, fieldIn}
 use Rattle.buckets.specs.Messages.{messageEntry, messageAt, sentOver}
 use Rattle.buckets.specs.Bounds.{contentOver}
-use Rattle.buckets.specs.Content.{Filled, Summed}
+use Rattle.buckets.specs.Content.{Ranged, Filled, Summed}
+use Rattle.buckets.specs.declared.Span as DS
 use Rattle.buckets.specs.Sound.{Ends}
 use Rattle.buckets.proofs.Sums.{sent-split}
+use Rattle.buckets.proofs.Ranges.{sent-one, sent-none}
 use Rattle.buckets.proofs.Reading.{message-reads, content-reads, content-split, content-grows}
 use Rattle.checking.specs.declared.Part as DP
 use Rattle.checking.specs.declared.Held as DH
-use Rattle.checking.specs.Parts.{restEnd, Rows, Lowered, RowLeft, PartReads, Fits, ChoiceLeaves, PairLeaves, PartLeaves, Holding, HoldsAt}
-use Rattle.checking.proofs.Ranges.{sent-one, sent-none}
+use Rattle.checking.specs.Parts.{restEnd, Rows, Lowered, RowLeft, PartReads, Fits}
+use Rattle.checking.specs.Parts.{ChoiceLeaves, PairLeaves, PartLeaves, takenSpan, Holding, HoldsAt}
 use Rattle.checking.proofs.PairChoices.{set-toward, value-small}
 
 most-at : (n i : ℕ) → getD (replicate n restEnd) i 0 ≤ restEnd
@@ -34,18 +36,18 @@ most-at zero i = omega arith
 most-at (suc n) zero = omega arith
 most-at (suc n) (suc i) = most-at n i
 
-module _ (d : DD.Directions) (ds s plan : List ℕ) (p : DP.Part) (rest : List ℕ) where
+module _ (d : DD.Directions) (ds s plan : List ℕ) (p : DP.Part) where
   -- the rows of a choice
-  pub choice-leaves : (x left rows number : List ℕ) → Filled d ds s plan (p .from) (p .to) (p .first) (p .last) (p .own) x rows → Summed (widthOf d) plan (p .message) (p .message + 1) x number → ((a : ℕ) → a < getD ds (p .own) 0 → RowLeft (widthOf d) (8 * a) number rest rows left) → ChoiceLeaves d ds s plan p rest left x
+  pub choice-leaves : (x left rows number : List ℕ) → Filled d ds s plan (p .span) (p .own) x rows → Summed (widthOf d) plan (p .message) (p .message + 1) x number → ((a : ℕ) → a < getD ds (p .own) 0 → RowLeft (widthOf d) (8 * a) number (p .rest) rows left) → ChoiceLeaves d ds s plan p left x
   choice-leaves x left rows number filled summed h a j l m =
       omega (arith, h a l j m, filled a j l m .0, summed j m .0, sent-one (widthOf d) plan (p .message) x j)
 
   -- what is less still does
-  pub pair-lowered : (i j : ℕ) (left left′ : List ℕ) → Lowered left left′ → PairLeaves d ds s plan p i j rest left → PairLeaves d ds s plan p i j rest left′
+  pub pair-lowered : (i j : ℕ) (left left′ : List ℕ) → Lowered left left′ → PairLeaves d ds s plan p i j left → PairLeaves d ds s plan p i j left′
   pair-lowered i j left left′ less h y c e f k l = omega (arith, h y c e f k l, less (8 * getD y (p .own) 0 + k))
 
   -- a choice that has the values i and j of the message's variables has, but for its own variable, all that the part reads as the choice x has it
-  pub pair-leaves : (i j : ℕ) (x left : List ℕ) → p .own < length ds → Fits s plan p → x ≡ set (set (replicate (length ds) 0) (fieldIn plan (p .message) 1) i) (fieldIn plan (p .message) 3) j → ChoiceLeaves d ds s plan p rest left x → PairLeaves d ds s plan p i j rest left
+  pub pair-leaves : (i j : ℕ) (x left : List ℕ) → p .own < length ds → Fits s plan p → x ≡ set (set (replicate (length ds) 0) (fieldIn plan (p .message) 1) i) (fieldIn plan (p .message) 3) j → ChoiceLeaves d ds s plan p left x → PairLeaves d ds s plan p i j left
   pair-leaves i j x left own fits is h y c e f k l =
       let u = fieldIn plan (p .message) 1 in
       let v = fieldIn plan (p .message) 3 in
@@ -61,28 +63,28 @@ module _ (d : DD.Directions) (ds s plan : List ℕ) (p : DP.Part) (rest : List �
       let at-third : (w : ℕ) → PartReads plan p w → getD third w 0 ≡ getD y w 0 = λ w. ⊎-elim (λ (q : w ≡ p .own). set-toward second y long″ (p .own) w (inl q)) (λ (q : (w ≡ u) ⊎ (w ≡ v)). set-toward second y long″ (p .own) w (inr (at-second w q))) in
       let x-is : x ≡ second = rw (e, f) is in
       let number : messageAt (widthOf d) plan x k (p .message) ≡ messageAt (widthOf d) plan y k (p .message) = rw x-is (message-reads (λ w. (w ≡ u) ⊎ (w ≡ v)) second y at-second (widthOf d) plan k (p .message) (inr (inl refl), inr (inr refl))) in
-      let held : contentOver d ds s plan (p .from) (p .to) (p .first) (p .last) (set x (p .own) (getD y (p .own) 0)) k ≡ contentOver d ds s plan (p .from) (p .to) (p .first) (p .last) y k = rw x-is (content-reads (PartReads plan p) third y at-third d ds s plan (p .from) (p .to) (p .first) (p .last) (fits .records) (fits .children) k) in
+      let held : contentOver d ds s plan (p .span) (set x (p .own) (getD y (p .own) 0)) k ≡ contentOver d ds s plan (p .span) y k = rw x-is (content-reads (PartReads plan p) third y at-third d ds s plan (p .span) (fits .records) (fits .children) k) in
       omega (arith, h (getD y (p .own) 0) k (value-below ds y c (p .own) own) l, number, held)
 
 -- the first c pairs of values are done, eight to each value of the first variable
-pub record PartSteps (d : DD.Directions) (ds s plan : List ℕ) (p : DP.Part) (before : List ℕ) (c : ℕ) (left : List ℕ) : Type 0 where
+pub record PartSteps (d : DD.Directions) (ds s plan : List ℕ) (p : DP.Part) (c : ℕ) (left : List ℕ) : Type 0 where
   pub few : c ≤ 64
   pub rows : Rows left
-  pub pairs : (i j : ℕ) → j < 8 → 8 * i + j < c → PairLeaves d ds s plan p i j before left
+  pub pairs : (i j : ℕ) → j < 8 → 8 * i + j < c → PairLeaves d ds s plan p i j left
 
-module _ {d : DD.Directions} {ds s plan : List ℕ} {p : DP.Part} {rest : List ℕ} where
-  pub part-start : PartSteps d ds s plan p rest 0 (replicate 64 restEnd)
+module _ {d : DD.Directions} {ds s plan : List ℕ} {p : DP.Part} where
+  pub part-start : PartSteps d ds s plan p 0 (replicate 64 restEnd)
   part-start = record { few = omega arith; rows = record { long = refl; small = λ i. most-at 64 i }; pairs = λ i j l h. absurd (omega arith) }
 
-  module _ {c : ℕ} {left : List ℕ} (t : PartSteps d ds s plan p rest c left) where
-    pub part-next : c < 64 → (left′ : List ℕ) → length left′ ≡ length left → Lowered left left′ → PairLeaves d ds s plan p (c / 8) (c % 8) rest left′ → PartSteps d ds s plan p rest (c + 1) left′
+  module _ {c : ℕ} {left : List ℕ} (t : PartSteps d ds s plan p c left) where
+    pub part-next : c < 64 → (left′ : List ℕ) → length left′ ≡ length left → Lowered left left′ → PairLeaves d ds s plan p (c / 8) (c % 8) left′ → PartSteps d ds s plan p (c + 1) left′
     part-next more left′ same less pair =
         record {
           few = omega arith;
           rows = record { long = same ∙ t .rows .long; small = λ i. omega (arith, less i, t .rows .small i) };
           pairs = λ i j l h.
               ⊎-elim
-              (λ (q : ltb (8 * i + j) c ≡ true). pair-lowered d ds s plan p rest i j left left′ less (t .pairs i j l (ltb-true (8 * i + j) c q)))
+              (λ (q : ltb (8 * i + j) c ≡ true). pair-lowered d ds s plan p i j left left′ less (t .pairs i j l (ltb-true (8 * i + j) c q)))
               (λ (q : ltb (8 * i + j) c ≡ false).
               let first : c / 8 ≡ i = omega (arith, ltb-false (8 * i + j) c q) in
               let second : c % 8 ≡ j = omega (arith, ltb-false (8 * i + j) c q) in
@@ -90,11 +92,11 @@ module _ {d : DD.Directions} {ds s plan : List ℕ} {p : DP.Part} {rest : List �
               (test (ltb (8 * i + j) c));
         }
 
-    pub part-end : All DomainSize ds → 64 ≤ c → (h : DH.Held) → h .to ≡ p .to → h .last ≡ p .last → h .rest ≡ left → PartLeaves d ds s plan p rest h
-    part-end sizes all h to last is =
+    pub part-end : All DomainSize ds → 64 ≤ c → (h : DH.Held) → h .span ≡ p .span → h .rest ≡ left → PartLeaves d ds s plan p h
+    part-end sizes all h span is =
         record {
           rows = rw is (t .rows);
-          ends = (to, last);
+          span = span;
           leaves = λ y c k l.
               let u = fieldIn plan (p .message) 1 in
               let v = fieldIn plan (p .message) 3 in
@@ -110,14 +112,14 @@ message-outside w plan y j g h =
 
 module _ (d : DD.Directions) (ds s plan : List ℕ) (k : ℕ) where
   -- nothing is sent yet
-  pub holding-start : (r : ℕ) (h : DH.Held) → Ends (length ds) r plan → k < length ds → h .to ≡ recordEnd plan (k + 1) → h .last ≡ childEnd plan (k + 1) → h .rest ≡ replicate 64 0 → Holding d ds s plan k (messageEnd plan (k + 1)) h
+  pub holding-start : (r : ℕ) (h : DH.Held) → Ends (length ds) r plan → k < length ds → h .span .to ≡ recordEnd plan (k + 1) → h .span .last ≡ childEnd plan (k + 1) → h .rest ≡ replicate 64 0 → Holding d ds s plan k (messageEnd plan (k + 1)) h
   holding-start r h e less to last none =
       let zero : (i : ℕ) → getD (h .rest) i 0 ≡ 0 = λ i. rw none (zeros-at 64 i) in
       record {
         records = (omega (arith, to), omega (arith, to, e .records k less));
         children = (omega (arith, last), omega (arith, last, e .children k less));
         rows = record { long = rw none refl; small = λ i. omega (arith, zero i) };
-        sum = λ y c j l. omega (arith, sent-none (widthOf d) plan (messageEnd plan (k + 1)) y j, zero (8 * getD y (orderIn plan k) 0 + j));
+        sum = λ y c j l. omega (arith, sent-none (widthOf d) plan (messageEnd plan (k + 1)) (messageEnd plan (k + 1)) y j (omega arith), zero (8 * getD y (orderIn plan k) 0 + j));
       }
 
   module _ (g : ℕ) (more : messageEnd plan (k + 1) ≤ g) (h : DH.Held) (t : Holding d ds s plan k g h) where
@@ -135,18 +137,45 @@ module _ (d : DD.Directions) (ds s plan : List ℕ) (k : ℕ) where
         }
 
     -- the next part and its message
-    pub holding-next : (p : DP.Part) (h′ : DH.Held) → p .message ≡ g → p .own ≡ orderIn plan k → p .from ≡ h .to → p .first ≡ h .last → p .from ≤ p .to → p .to ≤ recordEnd plan k → p .first ≤ p .last → p .last ≤ childEnd plan k → PartLeaves d ds s plan p (h .rest) h′ → Holding d ds s plan k (g + 1) h′
-    holding-next p h′ m own from first rise top rise′ top′ w =
+    pub holding-next :
+        (p : DP.Part) (h′ : DH.Held) → p .message ≡ g → p .own ≡ orderIn plan k → p .rest ≡ h .rest
+        → p .span .from ≡ h .span .to → p .span .first ≡ h .span .last → Ranged (p .span)
+        → p .span .to ≤ recordEnd plan k → p .span .last ≤ childEnd plan k → PartLeaves d ds s plan p h′
+        → Holding d ds s plan k (g + 1) h′
+    holding-next p h′ m own rest from first ranged top top′ w =
+        let to-is : h′ .span .to ≡ p .span .to = ap (λ (u : DS.Span). u .to) (w .span) in
+        let last-is : h′ .span .last ≡ p .span .last = ap (λ (u : DS.Span). u .last) (w .span) in
+        let taken : Ranged (takenSpan plan k (h .span)) =
+            record {
+              records = t .records .0;
+              children = t .children .0;
+              children-end = omega (arith, ranged .children, ranged .children-end);
+            } in
         record {
-          records = (omega (arith, t .records .0, w .ends .0), omega (arith, w .ends .0));
-          children = (omega (arith, t .children .0, w .ends .1), omega (arith, w .ends .1));
+          records = (omega (arith, t .records .0, ranged .records), omega arith);
+          children = (omega (arith, t .children .0, ranged .children), omega arith);
           rows = w .rows;
           sum = λ y c j l.
-              let part : messageAt (widthOf d) plan y j g + getD (h′ .rest) (8 * getD y (orderIn plan k) 0 + j) 0 ≤ getD (h .rest) (8 * getD y (orderIn plan k) 0 + j) 0 + contentOver d ds s plan (h .to) (h′ .to) (h .last) (h′ .last) y j = rw (m, own, from, first, ← w .ends .0, ← w .ends .1) at (w .leaves y c j l) in
-              omega (arith, part, next y j, t .sum y c j l, content-split d ds s plan (recordEnd plan (k + 1)) (h .to) (h′ .to) (t .records .0) (omega (arith, w .ends .0)) y j (childEnd plan (k + 1)) (h .last) (h′ .last) (t .children .0) (omega (arith, w .ends .1)));
+              let part :
+                  messageAt (widthOf d) plan y j g + getD (h′ .rest) (8 * getD y (orderIn plan k) 0 + j) 0
+                  ≤ getD (h .rest) (8 * getD y (orderIn plan k) 0 + j) 0 + contentOver d ds s plan (p .span) y j =
+                  rw (m, own, rest) at (w .leaves y c j l) in
+              let both =
+                  content-split d ds s plan (takenSpan plan k (h .span)) (p .span) taken ranged (sym from) (sym first) y j in
+              let all :
+                  contentOver d ds s plan (takenSpan plan k (h′ .span)) y j
+                  ≡ contentOver d ds s plan (takenSpan plan k (p .span)) y j =
+                  ap (λ (u : DS.Span). contentOver d ds s plan (takenSpan plan k u) y j) (w .span) in
+              omega (arith, part, next y j, t .sum y c j l, both, all);
         }
 
   -- all is sent
-  pub holding-end : (h : DH.Held) → Holding d ds s plan k (messageEnd plan k) h → HoldsAt d ds s plan k
-  holding-end h t y c j l =
-      omega (arith, t .sum y c j l, content-grows d ds s plan (recordEnd plan (k + 1)) (recordEnd plan (k + 1)) (h .to) (recordEnd plan k) (childEnd plan (k + 1)) (childEnd plan (k + 1)) (h .last) (childEnd plan k) (omega arith) (t .records .0) (t .records .1) (omega arith) (t .children .0) (t .children .1) y j)
+  pub holding-end :
+      (h : DH.Held) → childEnd plan k ≤ maxMessages → Holding d ds s plan k (messageEnd plan k) h → HoldsAt d ds s plan k
+  holding-end h few t y c j l =
+      let taken : Ranged (takenSpan plan k (h .span)) =
+          record { records = t .records .0; children = t .children .0; children-end = omega (arith, t .children .1) } in
+      let more =
+          content-grows d ds s plan (takenSpan plan k (h .span)) (recordEnd plan k) (childEnd plan k) taken
+          (t .records .1) (t .children .1) y j in
+      omega (arith, t .sum y c j l, more)

@@ -8,6 +8,7 @@ use Rattle.model.specs.Reading.{tableArity, tableScope}
 use Rattle.buckets.specs.Messages.{childrenOver}
 use Rattle.buckets.specs.Bounds.{placesOver}
 use Rattle.buckets.proofs.Reading.{Reads}
+use Rattle.buckets.specs.declared.Span as DS
 
 abbrev pub Marked : List ℕ → ℕ → Type 0
 Marked marks v = getD marks v 0 ≡ 1
@@ -20,8 +21,7 @@ ScopeIn P s at = All P (tableScope (drop at s))
 abbrev pub Inside : List ℕ → List ℕ → ℕ → Type 0
 Inside s plan r = (i : ℕ) → i < r → getD plan i 0 + 4 + tableArity (drop (getD plan i 0) s) ≤ length s
 
--- the records from number `from` to below `to` and the messages in slots `first` to below `last`
--- read only such variables
-pub record BucketIn (P : ℕ → Type 0) (s plan : List ℕ) (from to first last : ℕ) : Type 0 where
-  pub records : All (ScopeIn P s) (placesOver plan from to)
-  pub children : All (Reads P plan) (childrenOver plan first last)
+-- the records and the messages of a span read only such variables
+pub record BucketIn (P : ℕ → Type 0) (s plan : List ℕ) (span : DS.Span) : Type 0 where
+  pub records : All (ScopeIn P s) (placesOver plan (span .from) (span .to))
+  pub children : All (Reads P plan) (childrenOver plan (span .first) (span .last))

@@ -12,7 +12,8 @@ use Rattle.directions.specs.declared.Directions as DD
 use Rattle.buckets.specs.Places.{maxMessages, orderIn, recordEnd, childEnd, messageEnd, fieldIn}
 use Rattle.buckets.specs.Messages.{messageAt, sentOver}
 use Rattle.buckets.specs.Bounds.{contentOver, contentAt, sentAt}
-use Rattle.buckets.specs.Content.{Ranged}
+use Rattle.buckets.specs.Content.{Planned, Ranged}
+use Rattle.buckets.specs.declared.Span as DS
 use Rattle.checking.specs.Marks.{BucketIn}
 use Rattle.checking.specs.declared.Part as DP
 use Rattle.checking.specs.declared.Held as DH
@@ -30,7 +31,7 @@ abbrev pub Lowered : List ℕ → List ℕ → Type 0
 Lowered before after = (i : ℕ) → getD after i 0 ≤ getD before i 0
 
 -- the numbers and what is left of a row are at most what was there
-abbrev pub RowLeft : ℕ → ℕ → List ℕ → List ℕ → List ℕ → List ℕ → Type 0
+abbrev pub RowLeft : (w at : ℕ) (number rest rows left : List ℕ) → Type 0
 RowLeft w at number rest rows left =
     (j : ℕ) → j < w → getD number j 0 + getD left (at + j) 0 ≤ getD rest (at + j) 0 + getD rows (at + j) 0
 
@@ -39,56 +40,69 @@ pub record Counted (ds : List ℕ) (u c : ℕ) : Type 0 where
   pub enough : (y : List ℕ) → isChoice ds y ≡ true → getD y u 0 < c
   pub exist : u < length ds → c ≤ getD ds u 0
 
--- a part of a bucket of r records over n variables
-pub record PartOf (n r : ℕ) (p : DP.Part) : Type 0 where
+-- a part of a bucket over n variables
+pub record PartOf (n : ℕ) (p : DP.Part) : Type 0 where
   pub variable : p .own < n
   pub known : p .message < maxMessages
-  pub ranged : Ranged r (p .from) (p .to) (p .first) (p .last)
+  pub ranged : Ranged (p .span)
+  pub rows : Rows (p .rest)
 
 -- the variables of a part: the bucket's own and the two of its message
 abbrev pub PartReads : List ℕ → DP.Part → ℕ → Type 0
 PartReads plan p w = (w ≡ p .own) ⊎ ((w ≡ fieldIn plan (p .message) 1) ⊎ (w ≡ fieldIn plan (p .message) 3))
 
 abbrev pub Fits : List ℕ → List ℕ → DP.Part → Type 0
-Fits s plan p = BucketIn (PartReads plan p) s plan (p .from) (p .to) (p .first) (p .last)
+Fits s plan p = BucketIn (PartReads plan p) s plan (p .span)
 
 -- at the choice y, the part's message and what is left over are at most what was left over before
 -- and what the part holds
-abbrev pub Leaves : DD.Directions → List ℕ → List ℕ → List ℕ → DP.Part → List ℕ → List ℕ → List ℕ → Type 0
-Leaves d ds s plan p rest left y =
+abbrev pub Leaves : (d : DD.Directions) (ds s plan : List ℕ) (p : DP.Part) (left y : List ℕ) → Type 0
+Leaves d ds s plan p left y =
     (j : ℕ) → j < widthOf d
     → messageAt (widthOf d) plan y j (p .message) + getD left (8 * getD y (p .own) 0 + j) 0
-    ≤ getD rest (8 * getD y (p .own) 0 + j) 0 + contentOver d ds s plan (p .from) (p .to) (p .first) (p .last) y j
+    ≤ getD (p .rest) (8 * getD y (p .own) 0 + j) 0 + contentOver d ds s plan (p .span) y j
 
 -- the same where only the own variable of a choice x varies
-abbrev pub ChoiceLeaves : DD.Directions → List ℕ → List ℕ → List ℕ → DP.Part → List ℕ → List ℕ → List ℕ → Type 0
-ChoiceLeaves d ds s plan p rest left x =
+abbrev pub ChoiceLeaves : (d : DD.Directions) (ds s plan : List ℕ) (p : DP.Part) (left x : List ℕ) → Type 0
+ChoiceLeaves d ds s plan p left x =
     (a j : ℕ) → a < getD ds (p .own) 0 → j < widthOf d
     → messageAt (widthOf d) plan x j (p .message) + getD left (8 * a + j) 0
-    ≤ getD rest (8 * a + j) 0 + contentOver d ds s plan (p .from) (p .to) (p .first) (p .last) (set x (p .own) a) j
+    ≤ getD (p .rest) (8 * a + j) 0 + contentOver d ds s plan (p .span) (set x (p .own) a) j
 
 -- the same for the choices that have the values i and j of the message's variables
-abbrev pub PairLeaves : DD.Directions → List ℕ → List ℕ → List ℕ → DP.Part → ℕ → ℕ → List ℕ → List ℕ → Type 0
-PairLeaves d ds s plan p i j rest left =
+abbrev pub PairLeaves :
+    (d : DD.Directions) (ds s plan : List ℕ) (p : DP.Part) (i j : ℕ) (left : List ℕ) → Type 0
+PairLeaves d ds s plan p i j left =
     (y : List ℕ) → isChoice ds y ≡ true
     → getD y (fieldIn plan (p .message) 1) 0 ≡ i → getD y (fieldIn plan (p .message) 3) 0 ≡ j
-    → Leaves d ds s plan p rest left y
+    → Leaves d ds s plan p left y
 
 -- the same for every choice
-pub record PartLeaves (d : DD.Directions) (ds s plan : List ℕ) (p : DP.Part) (before : List ℕ) (h : DH.Held)
-    : Type 0 where
+pub record PartLeaves (d : DD.Directions) (ds s plan : List ℕ) (p : DP.Part) (h : DH.Held) : Type 0 where
   pub rows : Rows (h .rest)
-  pub ends : (h .to ≡ p .to) × (h .last ≡ p .last)
-  pub leaves : (y : List ℕ) → isChoice ds y ≡ true → Leaves d ds s plan p before (h .rest) y
+  pub span : h .span ≡ p .span
+  pub leaves : (y : List ℕ) → isChoice ds y ≡ true → Leaves d ds s plan p (h .rest) y
+
+-- the bucket of position k, whose variable exists
+pub record BucketOf (d : DD.Directions) (ds s plan : List ℕ) (k : ℕ) : Type 0 where
+  pub planned : Planned d (recordEnd plan k) ds s plan
+  pub variables : k < length ds
+  pub variable : orderIn plan k < length ds
+  pub slots : childEnd plan k ≤ maxMessages
+
+-- what the parts of a bucket up to its last one have
+abbrev pub takenSpan : List ℕ → ℕ → DS.Span → DS.Span
+takenSpan plan k part =
+    record { from = recordEnd plan (k + 1); to = part .to; first = childEnd plan (k + 1); last = part .last }
 
 -- the bucket of position k, after its messages before number g: what they and what is left over come to
 pub record Holding (d : DD.Directions) (ds s plan : List ℕ) (k g : ℕ) (h : DH.Held) : Type 0 where
-  pub records : (recordEnd plan (k + 1) ≤ h .to) × (h .to ≤ recordEnd plan k)
-  pub children : (childEnd plan (k + 1) ≤ h .last) × (h .last ≤ childEnd plan k)
+  pub records : (recordEnd plan (k + 1) ≤ h .span .to) × (h .span .to ≤ recordEnd plan k)
+  pub children : (childEnd plan (k + 1) ≤ h .span .last) × (h .span .last ≤ childEnd plan k)
   pub rows : Rows (h .rest)
   pub sum : (y : List ℕ) → isChoice ds y ≡ true → (j : ℕ) → j < widthOf d
       → sentOver (widthOf d) plan (messageEnd plan (k + 1)) g y j + getD (h .rest) (8 * getD y (orderIn plan k) 0 + j) 0
-      ≤ contentOver d ds s plan (recordEnd plan (k + 1)) (h .to) (childEnd plan (k + 1)) (h .last) y j
+      ≤ contentOver d ds s plan (takenSpan plan k (h .span)) y j
 
 -- the bucket of position k sends no more than it holds
 abbrev pub HoldsAt : DD.Directions → List ℕ → List ℕ → List ℕ → ℕ → Type 0

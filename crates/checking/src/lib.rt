@@ -2,8 +2,8 @@
 ghost use mathlib.Core.Path.{_≡_};
 ghost use mathlib.Core.Logic.{_⊎_};
 ghost use mathlib.Core.Bool.{true, false};
-ghost use Prim.Native.Nat.{ℕ, _+_, _-_, _≤_, _<_};
-ghost use lib.ListN.{length, getD, drop, set};
+ghost use Prim.Native.Nat.{ℕ, _+_, _-_, _/_, _%_, _≤_, _<_};
+ghost use lib.ListN.{length, getD, drop};
 ghost use Rattle.model.specs.Basics.{All};
 ghost use Rattle.model.specs.Limits.{maxVariables, maxTables};
 ghost use Rattle.model.specs.Reading.{tableArity};
@@ -18,28 +18,24 @@ ghost use Rattle.buckets.proofs.Reading.{Reads};
 ghost use Rattle.checking.specs.Orders.{LeadsBack, Falling};
 ghost use Rattle.checking.specs.Marks.{Marked, ScopeIn, Inside, BucketIn};
 ghost use Rattle.checking.specs.Parts.{Rows, Lowered, RowLeft, Counted, PartOf, Fits};
-ghost use Rattle.checking.specs.Parts.{ChoiceLeaves, PairLeaves, PartLeaves, Holding, HoldsAt};
+ghost use Rattle.checking.specs.Parts.{ChoiceLeaves, PairLeaves, PartLeaves, BucketOf, Holding, HoldsAt};
 
 // What is left over of a bucket counts as no more than this.
 const MOST_REST: u64 = 4611686018427387904;
 
-// A part of a bucket: the number of its message, the bucket's variable, its records from number `from` to below `to`,
-// and its slots `first` to below `last`.
+// A part of a bucket: the number of its message, the bucket's variable, the records and slots of the part, and what the
+// parts before it left over: a row of eight numbers for each value of the variable.
 struct Part {
     pub message: usize,
     pub own: usize,
-    pub from: usize,
-    pub to: usize,
-    pub first: usize,
-    pub last: usize,
+    pub span: buckets::Span,
+    pub rest: [u64; 64],
 }
 
-// How far the parts of a bucket have got, and what their messages left over:
-// a row of eight numbers for each value of the bucket's variable.
+// The last part of a bucket that was looked at, and what it left over.
 struct Held {
     pub ok: bool,
-    pub to: usize,
-    pub last: usize,
+    pub span: buckets::Span,
     pub rest: [u64; 64],
 }
 
@@ -115,10 +111,7 @@ fn are_ends(n: usize, r: usize, plan: &[u32]) -> bool
 fn is_marked(v: usize, marks: &[u8]) -> bool
     ensures { λ ok. ⌜ (ok ≡ true → Marked (now (marks .entry)) v) ⌝ }
 {
-    if v < marks.len() {
-        return marks[v] == 1;
-    }
-    false
+    buckets::byte_at(marks, v) == 1
 }
 
 // Whether the variable in field `i` of message `g` is marked or, as its stride is 0, not read.
@@ -199,24 +192,15 @@ fn are_slots_marked(first: usize, last: usize, marks: &[u8], plan: &[u32]) -> bo
 }
 
 // The same for both.
-fn is_bucket_marked(
-    s: &[u8],
-    from: usize,
-    to: usize,
-    first: usize,
-    last: usize,
-    marks: &[u8],
-    plan: &[u32],
-) -> bool
-    requires { ⌜ (from ≤ to) × (to ≤ maxTables) × Inside (now s) (now plan) to × (first ≤ last) × (last ≤ maxMessages)
+fn is_bucket_marked(s: &[u8], span: buckets::Span, marks: &[u8], plan: &[u32]) -> bool
+    requires { ⌜ Ranged span × (span .to ≤ maxTables) × Inside (now s) (now plan) (span .to)
         × (numbersAt ≤ length (now plan)) ⌝ }
-    ensures { λ ok. ⌜ (ok ≡ true
-        → BucketIn (Marked (now (marks .entry))) (now (s .entry)) (now (plan .entry)) from to first last) ⌝ }
+    ensures { λ ok. ⌜ (ok ≡ true → BucketIn (Marked (now (marks .entry))) (now (s .entry)) (now (plan .entry)) span) ⌝ }
 {
-    if !are_records_marked(s, from, to, marks, plan) {
+    if !are_records_marked(s, span.from, span.to, marks, plan) {
         return false;
     }
-    are_slots_marked(first, last, marks, plan)
+    are_slots_marked(span.first, span.last, marks, plan)
 }
 
 // Whether the messages from number `from` to below `to` read marked variables only.
@@ -235,17 +219,6 @@ fn are_sent_marked(from: usize, to: usize, marks: &[u8], plan: &[u32]) -> bool
     true
 }
 
-// The same values, but `value` for variable `v`, if there is such a variable.
-fn with_value(values: [u8; 24], v: usize, value: u8) -> [u8; 24]
-    ensures { λ r. ⌜ r ≡ set values v value ⌝ }
-{
-    let mut next = values;
-    if v < 24 {
-        next[v] = value;
-    }
-    next
-}
-
 // Whether what stands behind the ends of each position reads only earlier positions, and what a position sends too.
 // Each record and slot is tested once.
 fn is_early(s: &[u8], n: usize, r: usize, plan: &[u32]) -> bool
@@ -260,7 +233,13 @@ fn is_early(s: &[u8], n: usize, r: usize, plan: &[u32]) -> bool
     while k < n {
         let from = plan[buckets::RECORD_ENDS_AT + k] as usize;
         let first = plan[buckets::CHILD_ENDS_AT + k] as usize;
-        if !is_bucket_marked(s, from, to, first, last, &marks, plan) {
+        let span = buckets::Span {
+            from,
+            to,
+            first,
+            last,
+        };
+        if !is_bucket_marked(s, span, &marks, plan) {
             return false;
         }
         let begin = plan[buckets::MESSAGE_ENDS_AT + (k + 1)] as usize;
@@ -270,10 +249,16 @@ fn is_early(s: &[u8], n: usize, r: usize, plan: &[u32]) -> bool
         }
         to = from;
         last = first;
-        marks = with_value(marks, plan[buckets::ORDER_AT + k] as usize, 1);
+        marks = buckets::with_value(marks, buckets::variable_at(k, plan), 1);
         k += 1;
     }
-    is_bucket_marked(s, 0, to, 0, last, &marks, plan)
+    let span = buckets::Span {
+        from: 0,
+        to,
+        first: 0,
+        last,
+    };
+    is_bucket_marked(s, span, &marks, plan)
 }
 
 // The larger of two numbers.
@@ -327,42 +312,29 @@ fn lower_row(
 fn lower_rows(
     s: &[u8],
     sizes: &[u8],
-    r: usize,
     p: Part,
     choice: &[u8],
     d: directions::Directions,
     plan: &[u32],
-    rest: &[u64],
     left: &mut [u64],
 ) -> bool
-    requires { ⌜ Planned d r (now sizes) (now s) (now plan) × PartOf (length (now sizes)) r p
-        × (isChoice (now sizes) (now choice) ≡ true) × Rows (now rest) × (length (now left) ≡ 64) ⌝ }
+    requires { ⌜ Planned d (p .span .to) (now sizes) (now s) (now plan) × PartOf (length (now sizes)) p
+        × (isChoice (now sizes) (now choice) ≡ true) × (length (now left) ≡ 64) ⌝ }
     ensures { λ ok. ⌜ Lowered (now (left .entry)) (now (left .exit))
         × (ok ≡ true
-        → ChoiceLeaves d (now (sizes .entry)) (now (s .entry)) (now (plan .entry)) p (now (rest .entry))
+        → ChoiceLeaves d (now (sizes .entry)) (now (s .entry)) (now (plan .entry)) p
         (now (left .exit)) (now (choice .entry))) ⌝ }
 {
     let width = d.objectives + d.sums;
     let g = p.message;
     let own = p.own;
-    let rows = buckets::content(
-        s,
-        sizes,
-        r,
-        p.from,
-        p.to,
-        p.first,
-        p.last,
-        own,
-        choice,
-        d,
-        plan,
-    );
+    let rest = p.rest;
+    let rows = buckets::content(s, sizes, p.span, own, choice, d, plan);
     let number = buckets::sent(g, g + 1, choice, width, plan);
     let size = sizes[own] as usize;
     let mut a: usize = 0;
     while a < size {
-        if !lower_row(8 * a, width, number, rest, &rows, left) {
+        if !lower_row(8 * a, width, number, &rest, &rows, left) {
             return false;
         }
         a += 1;
@@ -370,29 +342,27 @@ fn lower_rows(
     true
 }
 
-// The same where the two variables of the part's message have the values `i` and `j`: no other variable is read. There
-// is nothing to do where they have no such values.
+// The same for pair `c` of values of the two variables of the part's message: no other variable is read. There is
+// nothing to do where they have no such values.
 fn lower_pair(
     s: &[u8],
     sizes: &[u8],
-    r: usize,
     p: Part,
-    i: usize,
-    j: usize,
+    c: usize,
     d: directions::Directions,
     plan: &[u32],
-    rest: &[u64],
     left: &mut [u64],
 ) -> bool
-    requires { ⌜ Planned d r (now sizes) (now s) (now plan) × (numbersAt ≤ length (now plan))
-        × PartOf (length (now sizes)) r p × Fits (now s) (now plan) p × (i < 8) × (j < 8) × Rows (now rest)
-        × (length (now left) ≡ 64) ⌝ }
+    requires { ⌜ Planned d (p .span .to) (now sizes) (now s) (now plan) × (numbersAt ≤ length (now plan))
+        × PartOf (length (now sizes)) p × Fits (now s) (now plan) p × (c < 64) × (length (now left) ≡ 64) ⌝ }
     ensures { λ ok. ⌜ Lowered (now (left .entry)) (now (left .exit))
         × (ok ≡ true
-        → PairLeaves d (now (sizes .entry)) (now (s .entry)) (now (plan .entry)) p i j (now (rest .entry))
+        → PairLeaves d (now (sizes .entry)) (now (s .entry)) (now (plan .entry)) p (c / 8) (c % 8)
         (now (left .exit))) ⌝ }
 {
     let n = sizes.len();
+    let i = c / 8;
+    let j = c % 8;
     let at = buckets::MESSAGES_AT + buckets::MESSAGE_WIDTH * p.message;
     let u = plan[at + 1] as usize;
     let v = plan[at + 3] as usize;
@@ -408,65 +378,62 @@ fn lower_pair(
         return true;
     }
     let zeros = [0u8; 24];
-    let one = with_value(zeros, u, i as u8);
-    let choice = with_value(one, v, j as u8);
-    lower_rows(s, sizes, r, p, &choice[..n], d, plan, rest, left)
+    let one = buckets::with_value(zeros, u, i);
+    let choice = buckets::with_value(one, v, j);
+    lower_rows(s, sizes, p, &choice[..n], d, plan, left)
 }
 
 // Whether the part reads only its own variable and the two of its message.
-fn part_fits(s: &[u8], r: usize, p: Part, plan: &[u32]) -> bool
-    requires { ⌜ (p .message < maxMessages) × Ranged r (p .from) (p .to) (p .first) (p .last) × (r ≤ maxTables)
-        × Inside (now s) (now plan) r × (numbersAt ≤ length (now plan)) ⌝ }
+fn part_fits(s: &[u8], p: Part, plan: &[u32]) -> bool
+    requires { ⌜ (p .message < maxMessages) × Ranged (p .span) × (p .span .to ≤ maxTables)
+        × Inside (now s) (now plan) (p .span .to) × (numbersAt ≤ length (now plan)) ⌝ }
     ensures { λ ok. ⌜ (ok ≡ true → Fits (now (s .entry)) (now (plan .entry)) p) ⌝ }
 {
     let at = buckets::MESSAGES_AT + buckets::MESSAGE_WIDTH * p.message;
     let zeros = [0u8; 24];
-    let one = with_value(zeros, p.own, 1);
-    let two = with_value(one, plan[at + 1] as usize, 1);
-    let marks = with_value(two, plan[at + 3] as usize, 1);
-    is_bucket_marked(s, p.from, p.to, p.first, p.last, &marks, plan)
+    let one = buckets::with_value(zeros, p.own, 1);
+    let two = buckets::with_value(one, plan[at + 1] as usize, 1);
+    let marks = buckets::with_value(two, plan[at + 3] as usize, 1);
+    is_bucket_marked(s, p.span, &marks, plan)
 }
 
 // Nothing: a test has failed.
 fn none_held() -> Held
     ensures { λ h. ⌜ h .ok ≡ false ⌝ }
 {
+    let span = buckets::Span {
+        from: 0,
+        to: 0,
+        first: 0,
+        last: 0,
+    };
     let rest = [0u64; 64];
     Held {
         ok: false,
-        to: 0,
-        last: 0,
+        span,
         rest,
     }
 }
 
 // What the part's message leaves over, least over all values of its variables.
-fn part_rest(
-    s: &[u8],
-    sizes: &[u8],
-    r: usize,
-    p: Part,
-    d: directions::Directions,
-    plan: &[u32],
-    rest: &[u64],
-) -> Held
-    requires { ⌜ Planned d r (now sizes) (now s) (now plan) × (numbersAt ≤ length (now plan))
-        × PartOf (length (now sizes)) r p × Fits (now s) (now plan) p × Rows (now rest) ⌝ }
+fn part_rest(s: &[u8], sizes: &[u8], p: Part, d: directions::Directions, plan: &[u32]) -> Held
+    requires { ⌜ Planned d (p .span .to) (now sizes) (now s) (now plan) × (numbersAt ≤ length (now plan))
+        × PartOf (length (now sizes)) p × Fits (now s) (now plan) p ⌝ }
     ensures { λ h. ⌜ (h .ok ≡ true
-        → PartLeaves d (now (sizes .entry)) (now (s .entry)) (now (plan .entry)) p (now (rest .entry)) h) ⌝ }
+        → PartLeaves d (now (sizes .entry)) (now (s .entry)) (now (plan .entry)) p h) ⌝ }
 {
     let mut left = [MOST_REST; 64];
     let mut c: usize = 0;
     while c < 64 {
-        if !lower_pair(s, sizes, r, p, c / 8, c % 8, d, plan, rest, &mut left) {
+        if !lower_pair(s, sizes, p, c, d, plan, &mut left) {
             return none_held();
         }
         c += 1;
     }
+    let span = p.span;
     Held {
         ok: true,
-        to: p.to,
-        last: p.last,
+        span,
         rest: left,
     }
 }
@@ -476,15 +443,13 @@ fn part_rest(
 fn after_message(
     s: &[u8],
     sizes: &[u8],
-    r: usize,
     k: usize,
     g: usize,
     d: directions::Directions,
     plan: &[u32],
     held: Held,
 ) -> Held
-    requires { ⌜ Planned d r (now sizes) (now s) (now plan) × (numbersAt ≤ length (now plan)) × (k < length (now sizes))
-        × Ordered (length (now sizes)) (now plan) × Ends (length (now sizes)) r (now plan) × (g < maxMessages)
+    requires { ⌜ BucketOf d (now sizes) (now s) (now plan) k × (numbersAt ≤ length (now plan)) × (g < maxMessages)
         × (messageEnd (now plan) (k + 1) ≤ g) × Holding d (now sizes) (now s) (now plan) k g held ⌝ }
     ensures { λ h. ⌜ (h .ok ≡ true
         → Holding d (now (sizes .entry)) (now (s .entry)) (now (plan .entry)) k (g + 1) h) ⌝ }
@@ -493,8 +458,9 @@ fn after_message(
     if plan.len() <= plan[at] as usize {
         return held;
     }
-    let from = held.to;
-    let first = held.last;
+    let taken = held.span;
+    let from = taken.to;
+    let first = taken.last;
     let to = larger(from, plan[at + 5] as usize);
     let last = larger(first, plan[at + 6] as usize);
     if (plan[buckets::RECORD_ENDS_AT + k] as usize) < to {
@@ -503,20 +469,24 @@ fn after_message(
     if (plan[buckets::CHILD_ENDS_AT + k] as usize) < last {
         return none_held();
     }
-    let own = plan[buckets::ORDER_AT + k] as usize;
-    let p = Part {
-        message: g,
-        own,
+    let own = buckets::variable_at(k, plan);
+    let span = buckets::Span {
         from,
         to,
         first,
         last,
     };
-    if !part_fits(s, r, p, plan) {
+    let rest = held.rest;
+    let p = Part {
+        message: g,
+        own,
+        span,
+        rest,
+    };
+    if !part_fits(s, p, plan) {
         return none_held();
     }
-    let rest = held.rest;
-    part_rest(s, sizes, r, p, d, plan, &rest)
+    part_rest(s, sizes, p, d, plan)
 }
 
 // Whether the bucket of position `k` sends no more than it holds.
@@ -533,16 +503,24 @@ fn holds_at(
     ensures { λ ok. ⌜ (ok ≡ true → HoldsAt d (now (sizes .entry)) (now (s .entry)) (now (plan .entry)) k) ⌝ }
 {
     let end = plan[buckets::MESSAGE_ENDS_AT + k] as usize;
+    let bucket = buckets::span_at(k, plan);
+    let from = bucket.from;
+    let first = bucket.first;
+    let span = buckets::Span {
+        from,
+        to: from,
+        first,
+        last: first,
+    };
     let rest = [0u64; 64];
     let mut held = Held {
         ok: true,
-        to: plan[buckets::RECORD_ENDS_AT + (k + 1)] as usize,
-        last: plan[buckets::CHILD_ENDS_AT + (k + 1)] as usize,
+        span,
         rest,
     };
     let mut g = plan[buckets::MESSAGE_ENDS_AT + (k + 1)] as usize;
     while g < end {
-        held = after_message(s, sizes, r, k, g, d, plan, held);
+        held = after_message(s, sizes, k, g, d, plan, held);
         if !held.ok {
             return false;
         }

@@ -9,31 +9,24 @@ const MOST_REST: u64 = 1152921504606846976;
 // No sum is as large.
 const NO_SUM: u64 = 18446744073709551615;
 
-// A part of a bucket: the bucket's variable, and the records and slots of the part.
+// A part of a bucket: the bucket's variable, the records and slots of the part, its message, and what the parts before
+// it left for each value of the variable.
 pub struct Part {
     pub own: usize,
-    pub from: usize,
-    pub to: usize,
-    pub first: usize,
-    pub last: usize,
+    pub span: buckets::Span,
+    pub shape: shapes::Shape,
+    pub rest: [u64; 64],
 }
 
 // The choice of zeros, but for the variables of a message: pair `c` of their values.
 fn pair_choice(shape: shapes::Shape, c: usize) -> [u8; 24] {
-    let mut x = [0u8; 24];
-    let u = shape.u;
-    let v = shape.v;
+    let zeros = [0u8; 24];
     let d = shape.v_values;
     if d == 0 {
-        return x;
+        return zeros;
     }
-    if v < 24 {
-        x[v] = (c % d % 8) as u8;
-    }
-    if u < 24 {
-        x[u] = (c / d % 8) as u8;
-    }
-    x
+    let x = buckets::with_value(zeros, shape.v, c % d % 8);
+    buckets::with_value(x, shape.u, c / d % 8)
 }
 
 // What a part holds for each value of the bucket's variable, at a choice of the others.
@@ -48,10 +41,11 @@ fn content_of(
 ) -> [u64; 64]
     requires { ⌜ Planned d r (now sizes) (now s) (now plan) ⌝ }
 {
-    let from = part.from;
-    let to = shapes::at_most(part.to, r);
-    let first = part.first;
-    let last = shapes::at_most(part.last, buckets::MAX_MESSAGES);
+    let part_span = part.span;
+    let from = part_span.from;
+    let to = shapes::at_most(part_span.to, r);
+    let first = part_span.first;
+    let last = shapes::at_most(part_span.last, buckets::MAX_MESSAGES);
     let own = part.own;
     let n = sizes.len();
     let choice = &x[..n];
@@ -59,19 +53,13 @@ fn content_of(
         if first <= last {
             if own < n {
                 if costs::prefix_ok(sizes, choice) {
-                    return buckets::content(
-                        s,
-                        sizes,
-                        r,
+                    let span = buckets::Span {
                         from,
                         to,
                         first,
                         last,
-                        own,
-                        choice,
-                        d,
-                        plan,
-                    );
+                    };
+                    return buckets::content(s, sizes, span, own, choice, d, plan);
                 }
             }
         }
@@ -100,15 +88,15 @@ fn entry_rows(
     sizes: &[u8],
     r: usize,
     part: Part,
-    shape: shapes::Shape,
     e: usize,
     d: directions::Directions,
-    rest: [u64; 64],
     plan: &[u32],
 ) -> [u64; 64]
     requires { ⌜ Planned d r (now sizes) (now s) (now plan) × (e ≤ 64) ⌝ }
 {
     let count = 8 * shapes::size_of(part.own, sizes);
+    let shape = part.shape;
+    let rest = part.rest;
     let share = shapes::at_most(shape.share, 64);
     let mut low = [NO_SUM; 64];
     let mut t: usize = 0;
@@ -181,9 +169,7 @@ pub fn put_entries(
     sizes: &[u8],
     r: usize,
     part: Part,
-    shape: shapes::Shape,
     d: directions::Directions,
-    rest: [u64; 64],
     plan: &mut [u32],
 ) -> [u64; 64]
     requires { ⌜ Planned d r (now sizes) (now s) (now plan) ⌝ }
@@ -191,12 +177,13 @@ pub fn put_entries(
 {
     let count = 8 * shapes::size_of(part.own, sizes);
     let width = shapes::width_of(d);
+    let shape = part.shape;
     let place = shape.place;
     let entries = shapes::at_most(shape.entries, 64);
     let mut left = [MOST_REST; 64];
     let mut e: usize = 0;
     while e < entries {
-        let rows = entry_rows(s, sizes, r, part, shape, e, d, rest, plan);
+        let rows = entry_rows(s, sizes, r, part, e, d, plan);
         let numbers = numbers_at(place, rows, count);
         put_entry(e, place, numbers, width, plan);
         let next = left_over(left, rows, numbers, count);

@@ -52,20 +52,19 @@ fn cover(set: u32, parts: Parts) -> Parts {
     Parts { count: g + 1, sets }
 }
 
-// Parts for the records from number `from` to below `to` with `size` positions besides `own`.
+// Parts for the records of a span with `size` positions besides `own`.
 fn cover_records(
     s: &[u8],
     own: u32,
     size: u32,
-    from: usize,
-    to: usize,
+    span: buckets::Span,
     plan: &[u32],
     parts: Parts,
 ) -> Parts {
     let mut all = parts;
-    let mut i = from;
-    while i < to {
-        let set = arranging::scope_at(s, arranging::get(i, plan), plan) & !own;
+    let mut i = span.from;
+    while i < span.to {
+        let set = arranging::record_scope(s, buckets::number_at(plan, i), plan) & !own;
         if u32::count_ones(set) == size {
             all = cover(set, all);
         }
@@ -75,15 +74,15 @@ fn cover_records(
 }
 
 // The same for the slots.
-fn cover_slots(own: u32, size: u32, from: usize, to: usize, plan: &[u32], parts: Parts) -> Parts {
+fn cover_slots(own: u32, size: u32, span: buckets::Span, plan: &[u32], parts: Parts) -> Parts {
     let mut all = parts;
-    let mut i = from;
-    while i < to {
+    let mut i = span.first;
+    while i < span.last {
         if buckets::MAX_MESSAGES <= i {
             return all;
         }
-        let set = arranging::message_scope(arranging::get(buckets::CHILDREN_AT + i, plan), plan)
-            & !own;
+        let g = buckets::number_at(plan, buckets::CHILDREN_AT + i);
+        let set = arranging::message_scope(g, plan) & !own;
         if u32::count_ones(set) == size {
             all = cover(set, all);
         }
@@ -92,24 +91,16 @@ fn cover_slots(own: u32, size: u32, from: usize, to: usize, plan: &[u32], parts:
     all
 }
 
-// The parts of a bucket with these records and slots, large functions first. `own` is its position.
-pub fn make_parts(
-    s: &[u8],
-    own: u32,
-    from: usize,
-    to: usize,
-    first: usize,
-    last: usize,
-    plan: &[u32],
-) -> Parts {
+// The parts of a bucket with this span, large functions first. `own` is its position.
+pub fn make_parts(s: &[u8], own: u32, span: buckets::Span, plan: &[u32]) -> Parts {
     let none = Parts {
         count: 0,
         sets: [0u32; 64],
     };
-    let a = cover_records(s, own, 2, from, to, plan, none);
-    let b = cover_slots(own, 2, first, last, plan, a);
-    let c = cover_records(s, own, 1, from, to, plan, b);
-    let e = cover_slots(own, 1, first, last, plan, c);
-    let f = cover_records(s, own, 0, from, to, plan, e);
-    cover_slots(own, 0, first, last, plan, f)
+    let a = cover_records(s, own, 2, span, plan, none);
+    let b = cover_slots(own, 2, span, plan, a);
+    let c = cover_records(s, own, 1, span, plan, b);
+    let e = cover_slots(own, 1, span, plan, c);
+    let f = cover_records(s, own, 0, span, plan, e);
+    cover_slots(own, 0, span, plan, f)
 }

@@ -23,6 +23,19 @@ struct Made {
     rest: [u64; 64],
 }
 
+// A bucket: its position, and its records and slots.
+struct Bucket {
+    position: usize,
+    span: buckets::Span,
+}
+
+// A part of a bucket that is to be sent: over the positions of `set`, and whether it is the bucket's last one.
+struct Wanted {
+    bucket: Bucket,
+    set: u32,
+    is_last: bool,
+}
+
 // Writes where the records, the slots and the messages of the positions from `k` on end.
 fn put_ends(k: usize, records: usize, slots: usize, messages: usize, plan: &mut [u32])
     requires { ⌜ k ≤ maxVariables ⌝ }
@@ -45,51 +58,50 @@ fn may_send(g: usize, k: usize, plan: &[u32]) -> bool
     shapes::at_most(g, buckets::MAX_MESSAGES) + 3 * k + 1 < buckets::MAX_MESSAGES
 }
 
-// Sends the message of the part over the positions of `set`:
-// of the records and slots up to the bucket's ends it has those that it covers.
+// Sends the message of a part: of the bucket's records and slots from those made on it has those that it covers.
 fn send_part(
     s: &[u8],
     sizes: &[u8],
     r: usize,
-    k: usize,
-    set: u32,
-    is_last: bool,
-    records: usize,
-    slots: usize,
+    wanted: Wanted,
     d: directions::Directions,
     made: Made,
     plan: &mut [u32],
 ) -> Made
-    requires { ⌜ Planned d r (now sizes) (now s) (now plan) × (k < maxVariables) ⌝ }
+    requires { ⌜ Planned d r (now sizes) (now s) (now plan) × (wanted .bucket .position < maxVariables) ⌝ }
     ensures { λ _. ⌜ Arranged r (now (plan .entry)) (now (plan .exit)) ⌝ }
 {
+    let bucket = wanted.bucket;
+    let k = bucket.position;
+    let all = bucket.span;
+    let set = wanted.set;
+    let from = made.records;
+    let first = made.slots;
     let g = made.messages;
     if !may_send(g, k, plan) {
         return made;
     }
-    let to = arranging::gather_records(
-        s,
-        0,
-        set | arranging::bit(k),
-        made.records,
-        records,
-        r,
-        plan,
-    );
-    let last = arranging::gather_slots(0, set | arranging::bit(k), made.slots, slots, r, plan);
-    let part = numbers::Part {
-        own: shapes::variable_at(k, plan),
-        from: made.records,
-        to,
-        first: made.slots,
-        last,
-    };
+    let allowed = set | arranging::bit(k);
+    let to = arranging::gather_records(s, 0, allowed, from, all.to, r, plan);
+    let last = arranging::gather_slots(0, allowed, first, all.last, r, plan);
     let width = shapes::width_of(d);
     let at = made.numbers;
-    let shape = shapes::choose_shape(k, set, is_last, at, width, sizes, plan);
+    let shape = shapes::choose_shape(k, set, wanted.is_last, at, width, sizes, plan);
     shapes::put_message(g, shape, to, last, plan);
+    let span = buckets::Span {
+        from,
+        to,
+        first,
+        last,
+    };
     let carried = made.rest;
-    let rest = numbers::put_entries(s, sizes, r, part, shape, d, carried, plan);
+    let part = numbers::Part {
+        own: buckets::variable_at(k, plan),
+        span,
+        shape,
+        rest: carried,
+    };
+    let rest = numbers::put_entries(s, sizes, r, part, d, plan);
     Made {
         records: to,
         slots: last,
@@ -99,49 +111,32 @@ fn send_part(
     }
 }
 
-// Sends the messages of all parts of a bucket, whose records and slots end where said.
+// Sends the messages of all parts of a bucket.
 fn send_parts(
     s: &[u8],
     sizes: &[u8],
     r: usize,
-    k: usize,
-    records: usize,
-    slots: usize,
+    bucket: Bucket,
     d: directions::Directions,
     made: Made,
     plan: &mut [u32],
 ) -> Made
-    requires { ⌜ Planned d r (now sizes) (now s) (now plan) × (k < maxVariables) ⌝ }
+    requires { ⌜ Planned d r (now sizes) (now s) (now plan) × (bucket .position < maxVariables) ⌝ }
     ensures { λ _. ⌜ Arranged r (now (plan .entry)) (now (plan .exit)) ⌝ }
 {
-    let parts = parts::make_parts(
-        s,
-        arranging::bit(k),
-        made.records,
-        records,
-        made.slots,
-        slots,
-        plan,
-    );
+    let span = bucket.span;
+    let parts = parts::make_parts(s, arranging::bit(bucket.position), span, plan);
     let count = shapes::at_most(parts.count, 64);
     let sets = parts.sets;
     let mut sent = made;
     let mut g: usize = 0;
     while g < count {
-        let is_last = g + 1 == count;
-        sent = send_part(
-            s,
-            sizes,
-            r,
-            k,
-            sets[g],
-            is_last,
-            records,
-            slots,
-            d,
-            sent,
-            plan,
-        );
+        let wanted = Wanted {
+            bucket,
+            set: sets[g],
+            is_last: g + 1 == count,
+        };
+        sent = send_part(s, sizes, r, wanted, d, sent, plan);
         g += 1;
     }
     sent
@@ -169,7 +164,7 @@ fn send_constant(
     made: Made,
     plan: &mut [u32],
 ) -> Made
-    requires { ⌜ Sensible d ⌝ }
+    requires { ⌜ Sensible d × (k < maxVariables) ⌝ }
     ensures { λ _. ⌜ Loose (now (plan .entry)) (now (plan .exit)) ⌝ }
 {
     let g = made.messages;
@@ -178,7 +173,7 @@ fn send_constant(
     let width = shapes::width_of(d);
     let numbers = numbers::least_numbers(
         rest,
-        8 * shapes::size_of(shapes::variable_at(k, plan), sizes),
+        8 * shapes::size_of(buckets::variable_at(k, plan), sizes),
     );
     if buckets::MAX_MESSAGES <= g {
         return made;
@@ -218,7 +213,14 @@ fn make_bucket(
     let own = arranging::bit(k);
     let records = arranging::gather_records(s, own, 4294967295, made.records, r, r, plan);
     let slots = arranging::gather_slots(own, 4294967295, made.slots, made.messages, r, plan);
-    let sent = send_parts(s, sizes, r, k, records, slots, d, made, plan);
+    let span = buckets::Span {
+        from: made.records,
+        to: records,
+        first: made.slots,
+        last: slots,
+    };
+    let bucket = Bucket { position: k, span };
+    let sent = send_parts(s, sizes, r, bucket, d, made, plan);
     let last = send_constant(k, sizes, d, sent, plan);
     put_ends(k, records, slots, last.messages, plan);
     Made {

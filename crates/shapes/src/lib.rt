@@ -20,6 +20,12 @@ pub struct Shape {
     pub place: usize,
 }
 
+// A variable and how many values it has.
+struct Variable {
+    number: usize,
+    values: usize,
+}
+
 // The number, or `most` where it is larger.
 pub fn at_most(x: usize, most: usize) -> usize
     ensures { λ r. ⌜ r ≤ most ⌝ }
@@ -34,16 +40,11 @@ pub fn at_most(x: usize, most: usize) -> usize
 pub fn size_of(v: usize, sizes: &[u8]) -> usize
     ensures { λ d. ⌜ (1 ≤ d) × (d ≤ 8) ⌝ }
 {
-    let d = at_most(arranging::byte_at(sizes, v), 8);
+    let d = at_most(buckets::byte_at(sizes, v), 8);
     if d == 0 {
         return 1;
     }
     d
-}
-
-// The variable at position `k`.
-pub fn variable_at(k: usize, plan: &[u32]) -> usize {
-    arranging::get(buckets::ORDER_AT + at_most(k, 24), plan)
 }
 
 // How many directions there are.
@@ -115,7 +116,9 @@ fn constant_place(is_last: bool, at: usize, width: usize, plan: &[u32]) -> usize
 }
 
 // The first position of a set, or 24.
-fn lowest(set: u32) -> usize {
+fn lowest(set: u32) -> usize
+    ensures { λ k. ⌜ k ≤ maxVariables ⌝ }
+{
     let mut k: usize = 0;
     while k < 24 {
         if set & arranging::bit(k) != 0 {
@@ -128,33 +131,34 @@ fn lowest(set: u32) -> usize {
 
 // A message over `u` and `v`, or over the first of them, or over none, as there is room.
 fn pair_shape(
-    u: usize,
-    du: usize,
-    v: usize,
-    dv: usize,
+    u: Variable,
+    v: Variable,
     width: usize,
     room: usize,
     at: usize,
     place: usize,
 ) -> Shape
-    requires { ⌜ (width ≤ 8) × (du ≤ 8) × (dv ≤ 8) ⌝ }
+    requires { ⌜ (width ≤ 8) × (u .values ≤ 8) × (v .values ≤ 8) ⌝ }
 {
-    if width * (du * dv) <= room {
+    let du = u.values;
+    let dv = v.values;
+    let entries = du * dv;
+    if width * entries <= room {
         return Shape {
-            u,
-            v,
+            u: u.number,
+            v: v.number,
             v_values: dv,
             u_stride: dv,
             v_stride: 1,
-            entries: du * dv,
+            entries,
             share: 1,
             place: at,
         };
     }
     if width * du <= room {
-        return one_shape(u, v, du, dv, at);
+        return one_shape(u.number, v.number, du, dv, at);
     }
-    constant_shape(u, v, dv, du * dv, place)
+    constant_shape(u.number, v.number, dv, entries, place)
 }
 
 // The message of a part over the positions of `set`: over as many variables as there is room for, from the first
@@ -174,7 +178,7 @@ fn shape_of(
     if low == 24 {
         return constant_shape(NO_VARIABLE, NO_VARIABLE, 1, 1, place);
     }
-    let u = variable_at(low, plan);
+    let u = buckets::variable_at(low, plan);
     let values = size_of(u, sizes);
     let high = lowest(set & !arranging::bit(low));
     if high == 24 {
@@ -183,8 +187,13 @@ fn shape_of(
         }
         return constant_shape(u, NO_VARIABLE, 1, values, place);
     }
-    let v = variable_at(high, plan);
-    pair_shape(u, values, v, size_of(v, sizes), width, room, at, place)
+    let v = buckets::variable_at(high, plan);
+    let one = Variable { number: u, values };
+    let two = Variable {
+        number: v,
+        values: size_of(v, sizes),
+    };
+    pair_shape(one, two, width, room, at, place)
 }
 
 // The message of the part of position `k` over the positions of `set`, with its numbers from `at` on.

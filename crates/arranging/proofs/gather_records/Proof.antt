@@ -17,11 +17,11 @@ abbrev μ-loop : tie.MeasureT-loop
 loop-holds : tie.Need-loop-holds Inv-loop μ-loop
 loop-holds c = (arranged-refl _ _, search needs)
 
-get-requires : tie.Need-get-requires Inv-loop μ-loop
-get-requires c κs = search needs
+number-at-requires : tie.Need-number-at-requires Inv-loop μ-loop
+number-at-requires c κs = search needs
 
-scope-at-requires : tie.Need-scope-at-requires Inv-loop μ-loop
-scope-at-requires c κs = search needs
+record-scope-requires : tie.Need-record-scope-requires Inv-loop μ-loop
+record-scope-requires c κs = search needs
 
 is-between-requires : tie.Need-is-between-requires Inv-loop μ-loop
 is-between-requires c κs = search needs
@@ -59,8 +59,8 @@ gather-records-spec =
     Inv-loop
     μ-loop
     loop-holds
-    get-requires
-    scope-at-requires
+    number-at-requires
+    record-scope-requires
     is-between-requires
     exchange-records-requires
     add-end

@@ -23,11 +23,11 @@ same-length c = search needs
 returns : tie.Need-returns Inv-loop μ-loop
 returns c = c .before .before .loop .inv .0
 
-add-get : tie.Need-add-get Inv-loop μ-loop
-add-get c = search needs
+add-number-at : tie.Need-add-number-at Inv-loop μ-loop
+add-number-at c = search needs
 
-get-requires : tie.Need-get-requires Inv-loop μ-loop
-get-requires c κs = search needs
+number-at-requires : tie.Need-number-at-requires Inv-loop μ-loop
+number-at-requires c κs = search needs
 
 message-scope-requires : tie.Need-message-scope-requires Inv-loop μ-loop
 message-scope-requires c κs = search needs
@@ -70,8 +70,8 @@ gather-slots-spec =
     loop-holds
     same-length
     returns
-    add-get
-    get-requires
+    add-number-at
+    number-at-requires
     message-scope-requires
     is-between-requires
     exchange-slots-requires

@@ -51,9 +51,19 @@ slice-aggregate-content c =
 
 content-requires : tie.Need-content-requires
 content-requires c κs =
-    let s = c .before .before .before .before .before .before .before in
+    let lent = c .before .before .before in
+    let s = lent .before .before .before .before in
     let ends = s .pre .1 .ends in
-    (s .pre .0, record { records = ends .records-first; records-end = omega arith; children = omega (arith, ends .messages-first, ends .children-first); children-end = omega (arith, ends .messages-first) }, s .pre .3, rw (zeros s) (zeros-choice (now (s .args .sizes)) (s .pre .0 .small)))
+    (
+      s .pre .0,
+      record {
+        records = ends .records-first;
+        children = omega (arith, ends .messages-first, ends .children-first);
+        children-end = omega (arith, ends .messages-first);
+      },
+      s .pre .3,
+      rw (zeros s) (zeros-choice (now (s .args .sizes)) (s .pre .0 .small)),
+    )
 
 add-row-of : tie.Need-add-row-of
 add-row-of c = search needs

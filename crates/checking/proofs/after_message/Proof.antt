@@ -1,5 +1,5 @@
 -- `checking::after_message` meets its contract.
-use mathlib.Core.Path.{refl, sym}
+use mathlib.Core.Path.{refl}
 use Prim.Native.Nat.{_+_, _*_}
 use native.Mathlib.Omega.{arith}
 use native.Mathlib.Nat.{add-zero}
@@ -7,10 +7,55 @@ use borrow.Author.Needs.{needs}
 use borrow.Author.Tests.{not-false}
 use denote.Ref.{now}
 use Rattle.model.proofs.Bits.{true-false}
-use Rattle.checking.proofs.Limits.{record-limit, child-limit, records-inside}
+use Rattle.buckets.specs.Content.{Planned, Ranged}
+use Rattle.buckets.specs.declared.Span as DS
+use Rattle.buckets.proofs.ContentRows.{planned-fewer}
+use Rattle.checking.proofs.Limits.{records-inside}
 use Rattle.checking.proofs.Parts.{holding-skip, holding-next}
 use Rattle.checking.proofs.after_message.Statement.{statement}
 use Rattle.checking.proofs.after_message.Tie as tie
+
+-- ## the places: the ends are known, they lie in the bucket, the part is made
+
+abbrev start : tie.After-larger → tie.Start
+start c =
+    let opened = c .before .before .before .before in
+    opened .before .before .before .before
+
+abbrev first-end : tie.After-larger2 → tie.After-larger
+first-end c = c .before .before
+
+abbrev last-end : tie.Else3 → tie.After-larger2
+last-end c = c .before .before .before .before
+
+abbrev begun : tie.Else3 → tie.Start
+begun c = start (first-end (last-end c))
+
+abbrev tested : tie.After-rest → tie.Else3
+tested c = c .before .before
+
+-- the part
+abbrev span : tie.Else3 → DS.Span
+span c =
+    let before = begun c .args .held .span in
+    record {
+      from = before .to;
+      to = first-end (last-end c) .larger .result;
+      first = before .last;
+      last = last-end c .larger2 .result;
+    }
+
+ranged : (c : tie.Else3) → Ranged (span c)
+ranged c =
+    record {
+      records = first-end (last-end c) .larger .ensures;
+      children = last-end c .larger2 .ensures;
+      children-end = omega (arith, begun c .pre .0 .slots, c .if3 .left);
+    }
+
+planned :
+    (c : tie.Else3) → let a = begun c .args in Planned (a .d) (span c .to) (now (a .sizes)) (now (a .s)) (now (a .plan))
+planned c = planned-fewer (begun c .pre .0 .planned) (span c .to) (c .before .before .if2 .left)
 
 mul-at : tie.Need-mul-at
 mul-at c = omega arith
@@ -28,7 +73,12 @@ cast-if1 : tie.Need-cast-if1
 cast-if1 c = omega (arith, c .shared-slice-known4 .given (499 + 7 * c .before .before .before .before .args .g))
 
 returns : tie.Need-returns
-returns c = let a = c .before .before .before .before .before .args in λ _. holding-skip (a .d) (now (a .sizes)) (now (a .s)) (now (a .plan)) (a .k) (a .g) (c .before .before .before .before .before .pre .6) (a .held) (c .before .before .before .before .before .pre .7) (rw add-zero (c .if1 .taken))
+returns c =
+    let known = c .before .before in
+    let s = known .before .before .before in
+    let a = s .args in
+    λ _. holding-skip (a .d) (now (a .sizes)) (now (a .s)) (now (a .plan)) (a .k) (a .g) (s .pre .3) (a .held) (s .pre .4)
+    (rw add-zero (c .if1 .taken))
 
 add-larger : tie.Need-add-larger
 add-larger c = omega arith
@@ -40,7 +90,10 @@ shared-slice-read-larger : tie.Need-shared-slice-read-larger
 shared-slice-read-larger c = omega arith
 
 cast-larger : tie.Need-cast-larger
-cast-larger c = omega (arith, c .shared-slice-known5 .given (499 + 7 * c .before .before .before .before .before .before .args .g + 5))
+cast-larger c =
+    let opened = c .before .before .before in
+    let s = opened .before .before .before .before in
+    omega (arith, c .shared-slice-known5 .given (499 + 7 * s .args .g + 5))
 
 larger-requires : tie.Need-larger-requires
 larger-requires c κs = search needs
@@ -55,7 +108,7 @@ shared-slice-read-larger-2 : tie.Need-shared-slice-read-larger-2
 shared-slice-read-larger-2 c = omega arith
 
 cast-larger-2 : tie.Need-cast-larger-2
-cast-larger-2 c = omega (arith, c .shared-slice-known6 .given (499 + 7 * c .before .before .before .before .before .before .before .before .args .g + 6))
+cast-larger-2 c = omega (arith, c .shared-slice-known6 .given (499 + 7 * start (c .before) .args .g + 6))
 
 larger-requires-2 : tie.Need-larger-requires-2
 larger-requires-2 c κs = search needs
@@ -70,7 +123,7 @@ shared-slice-read-if2 : tie.Need-shared-slice-read-if2
 shared-slice-read-if2 c = omega arith
 
 cast-if2 : tie.Need-cast-if2
-cast-if2 c = omega (arith, c .shared-slice-known7 .given (424 + c .before .before .before .before .before .before .before .before .before .before .args .k))
+cast-if2 c = omega (arith, c .shared-slice-known7 .given (424 + start (first-end (c .before)) .args .k))
 
 none-held-requires : tie.Need-none-held-requires
 none-held-requires c κs = search needs
@@ -88,7 +141,9 @@ shared-slice-read-if3 : tie.Need-shared-slice-read-if3
 shared-slice-read-if3 c = omega arith
 
 cast-if3 : tie.Need-cast-if3
-cast-if3 c = omega (arith, c .shared-slice-known8 .given (449 + c .before .before .before .before .before .before .before .before .before .before .before .before .args .k))
+cast-if3 c =
+    let s = start (first-end (c .before .before .before)) in
+    omega (arith, c .shared-slice-known8 .given (449 + s .args .k))
 
 none-held-requires-2 : tie.Need-none-held-requires-2
 none-held-requires-2 c κs = search needs
@@ -96,23 +151,14 @@ none-held-requires-2 c κs = search needs
 returns-3 : tie.Need-returns-3
 returns-3 c = λ h. absurd (true-false h (c .none-held2 .ensures))
 
-add-own : tie.Need-add-own
-add-own c = omega arith
-
-mul-own : tie.Need-mul-own
-mul-own c = omega arith
-
-shared-slice-read-own : tie.Need-shared-slice-read-own
-shared-slice-read-own c = omega arith
-
-cast-own : tie.Need-cast-own
-cast-own c = omega (arith, c .shared-slice-known9 .given (376 + c .before .before .before .before .before .before .before .before .before .before .before .before .before .before .args .k))
+variable-at-requires : tie.Need-variable-at-requires
+variable-at-requires c κs = omega (arith, begun c .pre .0 .variables, begun c .pre .0 .planned .variables)
 
 part-fits-requires : tie.Need-part-fits-requires
 part-fits-requires c κs =
-    let a = c .before .before .before .before .before .before .before .before .before .before .before .before .before .before .args in
-    let q = c .before .before .before .before .before .before .before .before .before .before .before .before .before .before .pre in
-    (q .5, record { records = c .before .before .before .before .before .before .before .larger .ensures; records-end = omega (arith, record-limit (q .4) (a .k) (omega (arith, q .2)), c .before .before .before .if2 .left); children = c .before .before .before .before .before .larger2 .ensures; children-end = omega (arith, child-limit (q .4) (a .k) (omega (arith, q .2)), c .before .if3 .left) }, q .0 .few, records-inside (q .0), q .1)
+    let q = begun (tested c) .pre in
+    let p = planned (tested c) in
+    (q .2, ranged (tested c), p .few, records-inside p, q .1)
 
 none-held-requires-3 : tie.Need-none-held-requires-3
 none-held-requires-3 c κs = search needs
@@ -120,20 +166,28 @@ none-held-requires-3 c κs = search needs
 returns-4 : tie.Need-returns-4
 returns-4 c = λ h. absurd (true-false h (c .none-held3 .ensures))
 
-slice-aggregate-part-rest : tie.Need-slice-aggregate-part-rest
-slice-aggregate-part-rest c = sym (c .before .before .before .before .before .before .before .before .before .before .before .before .before .before .before .before .before .before .pre .7 .rows .long)
-
 part-rest-requires : tie.Need-part-rest-requires
 part-rest-requires c κs =
-    let a = c .before .before .before .before .before .before .before .before .before .before .before .before .before .before .before .before .before .before .args in
-    let q = c .before .before .before .before .before .before .before .before .before .before .before .before .before .before .before .before .before .before .pre in
-    (q .0, q .1, record { variable = q .3 .variable (a .k) (q .2); known = q .5; ranged = record { records = c .before .before .before .before .before .before .before .before .before .before .before .larger .ensures; records-end = omega (arith, record-limit (q .4) (a .k) (omega (arith, q .2)), c .before .before .before .before .before .before .before .if2 .left); children = c .before .before .before .before .before .before .before .before .before .larger2 .ensures; children-end = omega (arith, child-limit (q .4) (a .k) (omega (arith, q .2)), c .before .before .before .before .before .if3 .left) } }, c .before .before .before .part-fits .ensures (not-false _ (c .before .before .if4 .left)), q .7 .rows)
+    let made = c .before .before in
+    let q = begun (tested made) .pre in
+    let own = made .before .variable-at .ensures .0 in
+    (
+      planned (tested made),
+      q .1,
+      record { variable = rw own (q .0 .variable); known = q .2; ranged = ranged (tested made); rows = q .4 .rows },
+      c .before .part-fits .ensures (not-false _ (c .if4 .left)),
+    )
 
 returns-5 : tie.Need-returns-5
 returns-5 c =
-    let a = c .before .before .before .before .before .before .before .before .before .before .before .before .before .before .before .before .before .before .before .args in
-    let q = c .before .before .before .before .before .before .before .before .before .before .before .before .before .before .before .before .before .before .before .pre in
-    λ h. holding-next (a .d) (now (a .sizes)) (now (a .s)) (now (a .plan)) (a .k) (a .g) (q .6) (a .held) (q .7) _ (c .part-rest .result) refl refl refl refl (c .before .before .before .before .before .before .before .before .before .before .before .before .larger .ensures) (c .before .before .before .before .before .before .before .before .if2 .left) (c .before .before .before .before .before .before .before .before .before .before .larger2 .ensures) (c .before .before .before .before .before .before .if3 .left) (c .part-rest .ensures h)
+    let made = c .before .before .before in
+    let at = tested made in
+    let s = begun at in
+    let a = s .args in
+    let q = s .pre in
+    λ h. holding-next (a .d) (now (a .sizes)) (now (a .s)) (now (a .plan)) (a .k) (a .g) (q .3) (a .held) (q .4) _
+    (c .part-rest .result) refl (made .before .variable-at .ensures .0) refl refl refl (ranged at)
+    (at .before .before .if2 .left) (at .if3 .left) (c .part-rest .ensures h)
 
 pub after-message-spec : {M : Type 1} → statement M
 after-message-spec =
@@ -167,13 +221,9 @@ after-message-spec =
     cast-if3
     none-held-requires-2
     returns-3
-    add-own
-    mul-own
-    shared-slice-read-own
-    cast-own
+    variable-at-requires
     part-fits-requires
     none-held-requires-3
     returns-4
-    slice-aggregate-part-rest
     part-rest-requires
     returns-5)

@@ -7,7 +7,7 @@ use denote.Ref.{now}
 use Rattle.model.specs.Basics.{All}
 use Rattle.buckets.specs.Bounds.{placesOver}
 use Rattle.checking.specs.Marks.{Marked, ScopeIn}
-use Rattle.checking.proofs.Ranges.{places-next, places-none}
+use Rattle.buckets.proofs.Ranges.{places-next, places-none}
 use Rattle.checking.proofs.are_records_marked.Statement.{statement}
 use Rattle.checking.proofs.are_records_marked.Tie as tie
 

@@ -7,8 +7,8 @@ use Rattle.model.specs.Basics.{All}
 use Rattle.buckets.specs.Messages.{countFrom}
 use Rattle.buckets.proofs.Reading.{Reads}
 use Rattle.checking.specs.Marks.{Marked}
-use Rattle.buckets.proofs.MessageSteps.{count-next}
-use Rattle.checking.proofs.Ranges.{count-none}
+use Rattle.buckets.proofs.Ranges.{count-next}
+use Rattle.buckets.proofs.Ranges.{count-none}
 use Rattle.checking.proofs.are_sent_marked.Statement.{statement}
 use Rattle.checking.proofs.are_sent_marked.Tie as tie
 

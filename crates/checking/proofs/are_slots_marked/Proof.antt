@@ -8,7 +8,7 @@ use Rattle.model.specs.Basics.{All}
 use Rattle.buckets.specs.Messages.{childrenOver}
 use Rattle.buckets.proofs.Reading.{Reads}
 use Rattle.checking.specs.Marks.{Marked}
-use Rattle.checking.proofs.Ranges.{children-next, children-none}
+use Rattle.buckets.proofs.Ranges.{children-next, children-none}
 use Rattle.checking.proofs.are_slots_marked.Statement.{statement}
 use Rattle.checking.proofs.are_slots_marked.Tie as tie
 

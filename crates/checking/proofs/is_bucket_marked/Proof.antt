@@ -6,13 +6,18 @@ use Rattle.checking.proofs.is_bucket_marked.Statement.{statement}
 use Rattle.checking.proofs.is_bucket_marked.Tie as tie
 
 are-records-marked-requires : tie.Need-are-records-marked-requires
-are-records-marked-requires c κs = (c .before .before .before .pre .0, omega arith, c .before .before .before .pre .2)
+are-records-marked-requires c κs =
+    let q = c .before .before .before .pre in
+    (q .0 .records, omega arith, q .2)
 
 returns : tie.Need-returns
 returns c = λ h. absurd (false≢true h)
 
 are-slots-marked-requires : tie.Need-are-slots-marked-requires
-are-slots-marked-requires c κs = omega arith
+are-slots-marked-requires c κs =
+    let known = c .before .before in
+    let q = known .before .before .before .pre in
+    (q .0 .children, q .0 .children-end, q .3)
 
 returns-2 : tie.Need-returns-2
 returns-2 c = λ h. record { records = c .before .before .are-records-marked .ensures (not-false _ (c .before .if1 .left)); children = c .are-slots-marked .ensures h }

@@ -1,10 +1,10 @@
 -- `checking::is_early` meets its contract. The invariant, `Testing`: the first `k` positions are tested.
-use mathlib.Core.Path.{sym}
+use mathlib.Core.Path.{ap, sym, _∙_}
 use mathlib.Core.Bool.{false≢true}
-use Prim.Native.Nat.{_+_, _-_}
+use Prim.Native.Nat.{ℕ, _+_, _-_}
 use native.Mathlib.Omega.{arith}
-use borrow.Author.Needs.{needs}
 use borrow.Author.Tests.{not-false}
+use lib.ListN.{set}
 use denote.Ref.{now}
 use Rattle.checking.proofs.Earlier.{Testing, testing-start, testing-next, testing-end}
 use Rattle.checking.proofs.is_early.Statement.{statement}
@@ -16,8 +16,24 @@ Inv-loop s n r plan marks₀ to₀ last₀ k₀ marks to last k = Testing n r s 
 abbrev μ-loop : tie.MeasureT-loop
 μ-loop s n r plan marks₀ to₀ last₀ k₀ marks to last k = n - k
 
+-- ## the places: the loop begins, the bucket is tested, what is sent is tested
+
+abbrev start : tie.At-loop Inv-loop μ-loop → tie.Start Inv-loop μ-loop
+start c = c .before .before .before
+
+abbrev looped : tie.After-marks Inv-loop μ-loop → tie.At-loop Inv-loop μ-loop
+looped c = c .before .before .before .before
+
+abbrev bucketed : tie.After-shared-slice-known5 Inv-loop μ-loop → tie.After-marks Inv-loop μ-loop
+bucketed c = c .before .before .before
+
+abbrev sending : tie.After-marks2 Inv-loop μ-loop → tie.At-loop Inv-loop μ-loop
+sending c = looped (bucketed (c .before .before))
+
 loop-holds : tie.Need-loop-holds Inv-loop μ-loop
-loop-holds c = let a = c .before .before .args in testing-start (a .n) (a .r) (now (a .s)) (now (a .plan)) (c .before .before .pre .5)
+loop-holds c =
+    let s = c .before .before in
+    testing-start (s .args .n) (s .args .r) (now (s .args .s)) (now (s .args .plan)) (s .pre .5)
 
 add-from : tie.Need-add-from Inv-loop μ-loop
 add-from c = omega arith
@@ -44,13 +60,18 @@ cast-first : tie.Need-cast-first Inv-loop μ-loop
 cast-first c = omega (arith, c .shared-slice-known4 .given (449 + c .before .before .before .loop .k))
 
 slice-aggregate-is-bucket-marked : tie.Need-slice-aggregate-is-bucket-marked Inv-loop μ-loop
-slice-aggregate-is-bucket-marked c = sym (c .before .before .before .before .loop .inv .long)
+slice-aggregate-is-bucket-marked c = sym (looped c .loop .inv .long)
 
 is-bucket-marked-requires : tie.Need-is-bucket-marked-requires Inv-loop μ-loop
 is-bucket-marked-requires c κs =
-    let q = c .before .before .before .before .before .before .before .pre in
-    let t = c .before .before .before .before .loop .inv in
-    (t .records .0, omega (arith, t .records .1, q .1), λ i l. q .3 i (omega (arith, t .records .1)), t .children .0, t .children .1, q .2)
+    let q = start (looped c) .pre in
+    let t = looped c .loop .inv in
+    (
+      record { records = t .records .0; children = t .children .0; children-end = t .children .1 },
+      omega (arith, t .records .1, q .1),
+      λ i l. q .3 i (omega (arith, t .records .1)),
+      q .2,
+    )
 
 returns : tie.Need-returns Inv-loop μ-loop
 returns c = λ h. absurd (false≢true h)
@@ -68,7 +89,7 @@ shared-slice-read-begin : tie.Need-shared-slice-read-begin Inv-loop μ-loop
 shared-slice-read-begin c = omega arith
 
 cast-begin : tie.Need-cast-begin Inv-loop μ-loop
-cast-begin c = omega (arith, c .shared-slice-known5 .given (474 + (c .before .before .before .before .before .before .before .loop .k + 1)))
+cast-begin c = omega (arith, c .shared-slice-known5 .given (474 + (looped (bucketed c) .loop .k + 1)))
 
 add-end : tie.Need-add-end Inv-loop μ-loop
 add-end c = omega arith
@@ -80,31 +101,24 @@ shared-slice-read-end : tie.Need-shared-slice-read-end Inv-loop μ-loop
 shared-slice-read-end c = omega arith
 
 cast-end : tie.Need-cast-end Inv-loop μ-loop
-cast-end c = omega (arith, c .shared-slice-known6 .given (474 + c .before .before .before .before .before .before .before .before .loop .k))
+cast-end c = omega (arith, c .shared-slice-known6 .given (474 + looped (bucketed (c .before)) .loop .k))
 
 slice-aggregate-are-sent-marked : tie.Need-slice-aggregate-are-sent-marked Inv-loop μ-loop
-slice-aggregate-are-sent-marked c = sym (c .before .before .before .before .before .before .before .before .before .loop .inv .long)
+slice-aggregate-are-sent-marked c = sym (sending c .loop .inv .long)
 
 are-sent-marked-requires : tie.Need-are-sent-marked-requires Inv-loop μ-loop
-are-sent-marked-requires c κs = (c .before .before .before .before .before .before .before .before .before .before .before .before .pre .5 .messages (c .before .before .before .before .before .before .before .before .before .loop .k) (omega arith), c .before .before .before .before .before .before .before .before .before .before .before .before .pre .2)
+are-sent-marked-requires c κs =
+    let q = start (sending c) .pre in
+    (q .5 .messages (sending c .loop .k) (omega arith), q .2)
 
 returns-2 : tie.Need-returns-2 Inv-loop μ-loop
 returns-2 c = λ h. absurd (false≢true h)
 
-add-with-value : tie.Need-add-with-value Inv-loop μ-loop
-add-with-value c = omega arith
-
-mul-with-value : tie.Need-mul-with-value Inv-loop μ-loop
-mul-with-value c = omega arith
-
-shared-slice-read-with-value : tie.Need-shared-slice-read-with-value Inv-loop μ-loop
-shared-slice-read-with-value c = omega arith
-
-cast-with-value : tie.Need-cast-with-value Inv-loop μ-loop
-cast-with-value c = omega (arith, c .shared-slice-known7 .given (376 + c .before .before .before .before .before .before .before .before .before .before .before .before .loop .k))
+variable-at-requires : tie.Need-variable-at-requires Inv-loop μ-loop
+variable-at-requires c κs = omega arith
 
 with-value-requires : tie.Need-with-value-requires Inv-loop μ-loop
-with-value-requires c κs = search needs
+with-value-requires c κs = omega arith
 
 add-k : tie.Need-add-k Inv-loop μ-loop
 add-k c = omega arith
@@ -113,19 +127,40 @@ loop-less : tie.Need-loop-less Inv-loop μ-loop
 loop-less c = omega arith
 
 loop-again : tie.Need-loop-again Inv-loop μ-loop
-loop-again c = testing-next (c .before .before .before .before .before .before .before .before .before .before .before .before .before .loop .inv) (c .before .before .before .before .before .before .before .before .before .before .before .before .before .before .before .before .pre .4) (c .before .before .before .before .before .before .before .before .before .before .before .before .before .before .before .before .pre .5) (c .before .before .before .before .before .before .before .before .before .before .before .before .loop-test .taken) (c .before .before .before .before .before .before .before .before .is-bucket-marked .ensures (not-false _ (c .before .before .before .before .before .before .before .if1 .left))) (c .before .before .before .are-sent-marked .ensures (not-false _ (c .before .before .if2 .left))) _ (c .with-value .ensures)
+loop-again c =
+    let variable = c .before in
+    let tested = variable .before in
+    let sent = tested .before in
+    let lent = sent .before in
+    let begin = lent .before .before in
+    let bucket = bucketed begin in
+    let at-loop = looped bucket in
+    let q = start at-loop .pre in
+    let marked = begin .before .before .is-bucket-marked .ensures (not-false _ (begin .before .if1 .left)) in
+    let sent-marked = sent .are-sent-marked .ensures (not-false _ (tested .if2 .left)) in
+    let own = ap (λ (v : ℕ). set (at-loop .loop .marks) v 1) (variable .variable-at .ensures .0) in
+    testing-next (at-loop .loop .inv) (q .4) (q .5) (bucket .before .before .before .loop-test .taken) marked sent-marked _
+    (c .with-value .ensures ∙ own)
 
 slice-aggregate-is-bucket-marked-2 : tie.Need-slice-aggregate-is-bucket-marked-2 Inv-loop μ-loop
 slice-aggregate-is-bucket-marked-2 c = sym (c .before .before .loop .inv .long)
 
 is-bucket-marked-requires-2 : tie.Need-is-bucket-marked-requires-2 Inv-loop μ-loop
 is-bucket-marked-requires-2 c κs =
-    let q = c .before .before .before .before .before .pre in
-    let t = c .before .before .loop .inv in
-    (omega arith, omega (arith, t .records .1, q .1), λ i l. q .3 i (omega (arith, t .records .1)), omega arith, t .children .1, q .2)
+    let at-loop = c .before .before in
+    let q = start at-loop .pre in
+    let t = at-loop .loop .inv in
+    (
+      record { records = omega arith; children = omega arith; children-end = t .children .1 },
+      omega (arith, t .records .1, q .1),
+      λ i l. q .3 i (omega (arith, t .records .1)),
+      q .2,
+    )
 
 returns-3 : tie.Need-returns-3 Inv-loop μ-loop
-returns-3 c = λ h. testing-end (c .before .before .before .loop .inv) (c .before .before .before .before .before .before .pre .5) (c .before .before .loop-test .left) (c .is-bucket-marked2 .ensures h)
+returns-3 c =
+    let at-loop = c .before .before .before in
+    λ h. testing-end (at-loop .loop .inv) (start at-loop .pre .5) (c .before .before .loop-test .left) (c .is-bucket-marked2 .ensures h)
 
 pub is-early-spec : {M : Type 1} → statement M
 is-early-spec =
@@ -157,10 +192,7 @@ is-early-spec =
     slice-aggregate-are-sent-marked
     are-sent-marked-requires
     returns-2
-    add-with-value
-    mul-with-value
-    shared-slice-read-with-value
-    cast-with-value
+    variable-at-requires
     with-value-requires
     add-k
     loop-less

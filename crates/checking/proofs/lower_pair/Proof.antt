@@ -1,9 +1,9 @@
--- `checking::lower_pair` meets its contract.
-use mathlib.Core.Path.{ap, sym, _∙_}
-use Prim.Native.Nat.{ℕ, _+_, _*_}
+-- `checking::lower_pair` meets its contract: the choice that is made has the values of the pair.
+use mathlib.Core.Path.{_≡_, ap, sym, _∙_}
+use Prim.Native.Nat.{ℕ, _+_, _*_, _/_, _%_}
 use native.Mathlib.Omega.{arith}
 use borrow.Author.Needs.{needs}
-use lib.ListN.{length, getD}
+use lib.ListN.{length, getD, take, set, replicate}
 use lib.Seq.{length-take-le}
 use denote.Ref.{now}
 use Rattle.buckets.specs.Places.{fieldIn}
@@ -12,90 +12,137 @@ use Rattle.checking.proofs.Parts.{pair-leaves}
 use Rattle.checking.proofs.lower_pair.Statement.{statement}
 use Rattle.checking.proofs.lower_pair.Tie as tie
 
+-- ## the places: the variables are known, their values counted, the choice is made
+
+abbrev start : tie.After-shared-slice-known4 → tie.Start
+start c =
+    let known = c .before .before .before .before in
+    known .before .before
+
+abbrev counted : tie.After-with-value → tie.After-count-values
+counted c = c .before .before .before .before
+
+abbrev begun : tie.After-count-values → tie.Start
+begun c = start (c .before .before .before)
+
+abbrev start-of : tie.After-with-value2 → tie.Start
+start-of c = begun (counted (c .before))
+
+-- the variables of the part's message
+abbrev one-of : tie.Start → ℕ
+one-of s = fieldIn (now (s .args .plan)) (s .args .p .message) 1
+
+abbrev two-of : tie.Start → ℕ
+two-of s = fieldIn (now (s .args .plan)) (s .args .p .message) 3
+
+-- the choice's first values
+front :
+    (c : tie.After-with-value2) → let s = start-of c in let n = length (now (s .args .sizes)) in
+    take n (c .with-value2 .result) ≡ set (set (replicate n 0) (one-of s) (s .args .c / 8)) (two-of s) (s .args .c % 8)
+front c =
+    let s = start-of c in
+    let one = c .before .with-value in
+    let two = c .with-value2 in
+    pair-front (length (now (s .args .sizes))) (one-of s) (s .args .c / 8) (two-of s) (s .args .c % 8)
+    (one .result) (two .result) (s .pre .0 .variables) (one .ensures) (two .ensures)
+
 mul-at : tie.Need-mul-at
-mul-at c = omega (arith, c .before .before .before .before .before .before .pre .2 .known)
+mul-at c = omega (arith, c .before .before .before .before .before .pre .2 .known)
 
 add-at : tie.Need-add-at
-add-at c = omega (arith, c .before .before .before .before .before .before .pre .2 .known)
+add-at c = omega (arith, c .before .before .before .before .before .pre .2 .known)
 
 add-u : tie.Need-add-u
-add-u c = omega (arith, c .before .before .before .before .before .before .pre .2 .known)
+add-u c = omega (arith, c .before .before .before .before .before .pre .2 .known)
 
 mul-u : tie.Need-mul-u
-mul-u c = omega (arith, c .before .before .before .before .before .before .pre .2 .known)
+mul-u c = omega (arith, c .before .before .before .before .before .pre .2 .known)
 
 shared-slice-read-u : tie.Need-shared-slice-read-u
-shared-slice-read-u c = omega (arith, c .before .before .before .before .before .before .before .pre .1, c .before .before .before .before .before .before .before .pre .2 .known)
+shared-slice-read-u c = omega (arith, start c .pre .1, start c .pre .2 .known)
 
 cast-u : tie.Need-cast-u
-cast-u c = omega (arith, c .shared-slice-known5 .given (499 + 7 * c .before .before .before .before .before .before .before .args .p .message + 1))
+cast-u c = omega (arith, c .shared-slice-known4 .given (499 + 7 * start c .args .p .message + 1))
 
 add-v : tie.Need-add-v
-add-v c = omega (arith, c .before .before .before .before .before .before .before .pre .2 .known)
+add-v c = omega (arith, start c .pre .2 .known)
 
 mul-v : tie.Need-mul-v
-mul-v c = omega (arith, c .before .before .before .before .before .before .before .pre .2 .known)
+mul-v c = omega (arith, start c .pre .2 .known)
 
 shared-slice-read-v : tie.Need-shared-slice-read-v
-shared-slice-read-v c = omega (arith, c .before .before .before .before .before .before .before .before .pre .1, c .before .before .before .before .before .before .before .before .pre .2 .known)
+shared-slice-read-v c = omega (arith, start (c .before) .pre .1, start (c .before) .pre .2 .known)
 
 cast-v : tie.Need-cast-v
-cast-v c = omega (arith, c .shared-slice-known6 .given (499 + 7 * c .before .before .before .before .before .before .before .before .args .p .message + 3))
+cast-v c = omega (arith, c .shared-slice-known5 .given (499 + 7 * start (c .before) .args .p .message + 3))
 
 returns : tie.Need-returns
-returns c = (λ k. omega arith, λ _ y h e f. absurd (c .if2 .taken (sym e ∙ ap (λ (w : ℕ). getD y w 0) (c .before .if1 .taken) ∙ f)))
+returns c =
+    (
+      λ k. omega arith,
+      λ _ y h e f. absurd (c .if2 .taken (sym e ∙ ap (λ (w : ℕ). getD y w 0) (c .before .if1 .taken) ∙ f)),
+    )
 
 count-values-requires : tie.Need-count-values-requires
-count-values-requires c κs = c .before .before .before .before .before .before .before .before .before .pre .0 .small
+count-values-requires c κs = start (c .before .before) .pre .0 .small
 
 returns-2 : tie.Need-returns-2
 returns-2 c = (λ k. omega arith, λ _ y h e f. absurd (omega (arith, e, c .before .count-values .ensures .enough y h)))
 
 count-values-requires-2 : tie.Need-count-values-requires-2
-count-values-requires-2 c κs = c .before .before .before .before .before .before .before .before .before .before .before .pre .0 .small
+count-values-requires-2 c κs = begun (c .before) .pre .0 .small
 
 returns-3 : tie.Need-returns-3
 returns-3 c = (λ k. omega arith, λ _ y h e f. absurd (omega (arith, f, c .before .count-values2 .ensures .enough y h)))
 
-cast-with-value : tie.Need-cast-with-value
-cast-with-value c = omega (arith, c .before .before .before .before .before .before .before .before .before .before .before .before .before .pre .4)
-
 with-value-requires : tie.Need-with-value-requires
-with-value-requires c κs = search needs
-
-cast-with-value-2 : tie.Need-cast-with-value-2
-cast-with-value-2 c = omega (arith, c .before .before .before .before .before .before .before .before .before .before .before .before .before .before .pre .5)
+with-value-requires c κs =
+    let s = begun (c .before .before .before) in
+    omega (arith, s .pre .4)
 
 with-value-requires-2 : tie.Need-with-value-requires-2
-with-value-requires-2 c κs = search needs
+with-value-requires-2 c κs = omega arith
 
 array-share-prefix-choice : tie.Need-array-share-prefix-choice
-array-share-prefix-choice c = omega (arith, c .with-value2 .ok, c .before .before .before .before .before .before .before .before .before .before .before .before .before .before .before .pre .0 .variables)
+array-share-prefix-choice c = omega (arith, c .with-value2 .ok, start-of c .pre .0 .variables)
 
 slice-aggregate-lower-rows : tie.Need-slice-aggregate-lower-rows
-slice-aggregate-lower-rows c = sym (length-take-le (length (now (c .before .before .before .before .before .before .before .before .before .before .before .before .before .before .before .before .args .sizes))) (c .before .with-value2 .result) (omega (arith, c .before .with-value2 .ok, c .before .before .before .before .before .before .before .before .before .before .before .before .before .before .before .before .pre .0 .variables)))
+slice-aggregate-lower-rows c =
+    let made = c .before in
+    let s = start-of made in
+    sym (length-take-le (length (now (s .args .sizes))) (made .with-value2 .result)
+    (omega (arith, made .with-value2 .ok, s .pre .0 .variables)))
 
 lower-rows-requires : tie.Need-lower-rows-requires
 lower-rows-requires c κs =
-    let a = c .before .before .before .before .before .before .before .before .before .before .before .before .before .before .before .before .before .args in
-    let q = c .before .before .before .before .before .before .before .before .before .before .before .before .before .before .before .before .before .pre in
-    let u = fieldIn (now (a .plan)) (a .p .message) 1 in
-    let v = fieldIn (now (a .plan)) (a .p .message) 3 in
-    let front = pair-front (length (now (a .sizes))) u (a .i) v (a .j) (c .before .before .before .with-value .result) (c .before .before .with-value2 .result) (q .0 .variables) (c .before .before .before .with-value .ensures) (c .before .before .with-value2 .ensures) in
-    (q .0, q .2, rw front (pair-choice (now (a .sizes)) u (a .i) v (a .j) (q .0 .small) (λ l. omega (arith, c .before .before .before .before .before .before .before .count-values .ensures .exist l, c .before .before .before .before .before .before .if3 .left)) (λ l. omega (arith, c .before .before .before .before .before .count-values2 .ensures .exist l, c .before .before .before .before .if4 .left))), q .6, q .7)
+    let made = c .before .before in
+    let s = start-of made in
+    let values = counted (made .before) in
+    let second = values .before in
+    let q = s .pre in
+    let tested = made .before .before in
+    let values2 = tested .before in
+    let inside =
+        pair-choice (now (s .args .sizes)) (one-of s) (s .args .c / 8) (two-of s) (s .args .c % 8) (q .0 .small)
+        (λ l. omega (arith, values .count-values .ensures .exist l, values2 .before .if3 .left))
+        (λ l. omega (arith, values2 .count-values2 .ensures .exist l, tested .if4 .left)) in
+    (q .0, q .2, rw (front made) inside, q .5)
 
 same-length : tie.Need-same-length
 same-length c = search needs
 
 returns-4 : tie.Need-returns-4
 returns-4 c =
-    let a = c .before .before .before .before .before .before .before .before .before .before .before .before .before .before .before .before .before .before .before .before .args in
-    let q = c .before .before .before .before .before .before .before .before .before .before .before .before .before .before .before .before .before .before .before .before .pre in
-    let u = fieldIn (now (a .plan)) (a .p .message) 1 in
-    let v = fieldIn (now (a .plan)) (a .p .message) 3 in
-    let front = pair-front (length (now (a .sizes))) u (a .i) v (a .j) (c .before .before .before .before .before .before .with-value .result) (c .before .before .before .before .before .with-value2 .result) (q .0 .variables) (c .before .before .before .before .before .before .with-value .ensures) (c .before .before .before .before .before .with-value2 .ensures) in
-    let e = c .before .before .lower-rows .ensures in
-    (e .0, λ h. pair-leaves (a .d) (now (a .sizes)) (now (a .s)) (now (a .plan)) (a .p) (now (a .rest)) (a .i) (a .j) _ (c .before .before .lower-rows .last .1 .1 .1 .1 .1 .1 .1 .1 .0) (q .2 .variable) (q .3) front (e .1 h))
+    let lowered = c .before .before in
+    let made = lowered .before .before .before in
+    let s = start-of made in
+    let a = s .args in
+    let e = lowered .lower-rows .ensures in
+    (
+      e .0,
+      λ h. pair-leaves (a .d) (now (a .sizes)) (now (a .s)) (now (a .plan)) (a .p) (a .c / 8) (a .c % 8) _
+      (lowered .lower-rows .last .1 .1 .1 .1 .1 .1 .0) (s .pre .2 .variable) (s .pre .3) (front made) (e .1 h),
+    )
 
 pub lower-pair-spec : {M : Type 1} → statement M
 lower-pair-spec =
@@ -116,9 +163,7 @@ lower-pair-spec =
     returns-2
     count-values-requires-2
     returns-3
-    cast-with-value
     with-value-requires
-    cast-with-value-2
     with-value-requires-2
     array-share-prefix-choice
     slice-aggregate-lower-rows

@@ -16,7 +16,7 @@ add-at : tie.Need-add-at
 add-at c = omega arith
 
 with-value-requires : tie.Need-with-value-requires
-with-value-requires c κs = search needs
+with-value-requires c κs = omega arith
 
 add-with-value : tie.Need-add-with-value
 add-with-value c = omega arith
@@ -31,7 +31,7 @@ cast-with-value : tie.Need-cast-with-value
 cast-with-value c = omega (arith, c .shared-slice-known3 .given (499 + 7 * c .before .before .before .before .before .args .p .message + 1))
 
 with-value-requires-2 : tie.Need-with-value-requires-2
-with-value-requires-2 c κs = search needs
+with-value-requires-2 c κs = omega arith
 
 add-with-value-2 : tie.Need-add-with-value-2
 add-with-value-2 c = omega arith
@@ -46,24 +46,30 @@ cast-with-value-2 : tie.Need-cast-with-value-2
 cast-with-value-2 c = omega (arith, c .shared-slice-known4 .given (499 + 7 * c .before .before .before .before .before .before .before .args .p .message + 3))
 
 with-value-requires-3 : tie.Need-with-value-requires-3
-with-value-requires-3 c κs = search needs
+with-value-requires-3 c κs = omega arith
 
 slice-aggregate-is-bucket-marked : tie.Need-slice-aggregate-is-bucket-marked
 slice-aggregate-is-bucket-marked c = omega (arith, c .before .with-value3 .ok)
 
 is-bucket-marked-requires : tie.Need-is-bucket-marked-requires
 is-bucket-marked-requires c κs =
-    let q = c .before .before .before .before .before .before .before .before .before .pre in
-    let g = q .1 in
-    (g .records, omega (arith, g .records-end, q .2), λ i l. q .3 i (omega (arith, g .records-end)), g .children, g .children-end, q .4)
+    let first = c .before .before .before .before .before in
+    let q = first .before .before .before .before .pre in
+    (q .1, q .2, q .3, q .4)
 
 returns : tie.Need-returns
 returns c =
-    let a = c .before .before .before .before .before .before .before .before .before .before .args in
+    let third = c .before .before in
+    let second = third .before .before in
+    let first = second .before .before in
+    let a = first .before .before .before .before .args in
     let p = a .p in
-    let marks = c .before .before .with-value3 .result in
-    let is = part-marks (now (a .plan)) p (c .before .before .before .before .before .before .with-value .result) (c .before .before .before .before .with-value2 .result) marks (c .before .before .before .before .before .before .with-value .ensures) (c .before .before .before .before .with-value2 .ensures) (c .before .before .with-value3 .ensures) in
-    λ h. bucket-map (Marked marks) (PartReads (now (a .plan)) p) is (now (a .s)) (now (a .plan)) (p .from) (p .to) (p .first) (p .last) (c .is-bucket-marked .ensures h)
+    let marks = third .with-value3 .result in
+    let is =
+        part-marks (now (a .plan)) p (first .with-value .result) (second .with-value2 .result) marks
+        (first .with-value .ensures) (second .with-value2 .ensures) (third .with-value3 .ensures) in
+    λ h. bucket-map (Marked marks) (PartReads (now (a .plan)) p) is (now (a .s)) (now (a .plan)) (p .span)
+    (c .is-bucket-marked .ensures h)
 
 pub part-fits-spec : {M : Type 1} → statement M
 part-fits-spec =

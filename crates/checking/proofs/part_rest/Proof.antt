@@ -10,10 +10,10 @@ use Rattle.checking.proofs.part_rest.Statement.{statement}
 use Rattle.checking.proofs.part_rest.Tie as tie
 
 abbrev Inv-loop : tie.InvT-loop
-Inv-loop s sizes r p d plan rest left₀ c₀ left c = PartSteps d sizes s plan p rest c left
+Inv-loop s sizes p d plan left₀ c₀ left c = PartSteps d sizes s plan p c left
 
 abbrev μ-loop : tie.MeasureT-loop
-μ-loop s sizes r p d plan rest left₀ c₀ left c = 64 - c
+μ-loop s sizes p d plan left₀ c₀ left c = 64 - c
 
 loop-holds : tie.Need-loop-holds Inv-loop μ-loop
 loop-holds c = part-start
@@ -22,7 +22,10 @@ slice-aggregate-lower-pair : tie.Need-slice-aggregate-lower-pair Inv-loop μ-loo
 slice-aggregate-lower-pair c = sym (c .before .before .loop .inv .rows .long)
 
 lower-pair-requires : tie.Need-lower-pair-requires Inv-loop μ-loop
-lower-pair-requires c κs = let q = c .before .before .before .before .before .before .before .pre in (q .0, q .1, q .2, q .3, omega arith, omega arith, q .4, c .before .before .loop .inv .rows .long)
+lower-pair-requires c κs =
+    let at-loop = c .before .before in
+    let q = at-loop .before .before .before .before .pre in
+    (q .0, q .1, q .2, q .3, omega arith, at-loop .loop .inv .rows .long)
 
 none-held-requires : tie.Need-none-held-requires Inv-loop μ-loop
 none-held-requires c κs = search needs
@@ -37,10 +40,18 @@ loop-less : tie.Need-loop-less Inv-loop μ-loop
 loop-less c = omega arith
 
 loop-again : tie.Need-loop-again Inv-loop μ-loop
-loop-again c = part-next (c .before .before .before .before .before .loop .inv) (omega arith) _ (c .before .before .lower-pair .kept .1 .1 .1 .1 .1 .1 .1 .1 .1 .0) (c .before .before .lower-pair .ensures .0) (c .before .before .lower-pair .ensures .1 (not-false _ (c .if1 .left)))
+loop-again c =
+    let lowered = c .before .before in
+    let at-loop = lowered .before .before .before in
+    let pair = lowered .lower-pair in
+    part-next (at-loop .loop .inv) (omega arith) _ (pair .kept .1 .1 .1 .1 .1 .1 .0) (pair .ensures .0)
+    (pair .ensures .1 (not-false _ (c .if1 .left)))
 
 returns-2 : tie.Need-returns-2 Inv-loop μ-loop
-returns-2 c = λ _. part-end (c .before .loop .inv) (c .before .before .before .before .before .before .pre .0 .small) (omega arith) _ refl refl refl
+returns-2 c =
+    let at-loop = c .before .before in
+    let small = at-loop .before .before .before .before .pre .0 .small in
+    λ _. part-end (at-loop .loop .inv) small (omega arith) _ refl refl
 
 pub part-rest-spec : {M : Type 1} → statement M
 part-rest-spec =

@@ -15,11 +15,11 @@ abbrev μ-loop : tie.MeasureT-loop
 loop-holds : tie.Need-loop-holds Inv-loop μ-loop
 loop-holds c = search needs
 
-get-requires : tie.Need-get-requires Inv-loop μ-loop
-get-requires c κs = search needs
+number-at-requires : tie.Need-number-at-requires Inv-loop μ-loop
+number-at-requires c κs = search needs
 
-scope-at-requires : tie.Need-scope-at-requires Inv-loop μ-loop
-scope-at-requires c κs = search needs
+record-scope-requires : tie.Need-record-scope-requires Inv-loop μ-loop
+record-scope-requires c κs = search needs
 
 linked-requires : tie.Need-linked-requires Inv-loop μ-loop
 linked-requires c κs = search needs
@@ -43,8 +43,8 @@ links-of-spec =
     Inv-loop
     μ-loop
     loop-holds
-    get-requires
-    scope-at-requires
+    number-at-requires
+    record-scope-requires
     linked-requires
     add-i
     loop-less

@@ -5,19 +5,19 @@ use Rattle.parts.proofs.cover_records.Statement.{statement}
 use Rattle.parts.proofs.cover_records.Tie as tie
 
 abbrev Inv-loop : tie.InvT-loop
-Inv-loop s own size from to plan all₀ i₀ all i = Unit
+Inv-loop s own size span plan all₀ i₀ all i = Unit
 
 abbrev μ-loop : tie.MeasureT-loop
-μ-loop s own size from to plan all₀ i₀ all i = to - i
+μ-loop s own size span plan all₀ i₀ all i = span .to - i
 
 loop-holds : tie.Need-loop-holds Inv-loop μ-loop
 loop-holds c = search needs
 
-get-requires : tie.Need-get-requires Inv-loop μ-loop
-get-requires c κs = search needs
+number-at-requires : tie.Need-number-at-requires Inv-loop μ-loop
+number-at-requires c κs = search needs
 
-scope-at-requires : tie.Need-scope-at-requires Inv-loop μ-loop
-scope-at-requires c κs = search needs
+record-scope-requires : tie.Need-record-scope-requires Inv-loop μ-loop
+record-scope-requires c κs = search needs
 
 cover-requires : tie.Need-cover-requires Inv-loop μ-loop
 cover-requires c κs = search needs
@@ -41,8 +41,8 @@ cover-records-spec =
     Inv-loop
     μ-loop
     loop-holds
-    get-requires
-    scope-at-requires
+    number-at-requires
+    record-scope-requires
     cover-requires
     add-i
     loop-less

@@ -5,10 +5,10 @@ use Rattle.parts.proofs.cover_slots.Statement.{statement}
 use Rattle.parts.proofs.cover_slots.Tie as tie
 
 abbrev Inv-loop : tie.InvT-loop
-Inv-loop own size from to plan all₀ i₀ all i = Unit
+Inv-loop own size span plan all₀ i₀ all i = Unit
 
 abbrev μ-loop : tie.MeasureT-loop
-μ-loop own size from to plan all₀ i₀ all i = to - i
+μ-loop own size span plan all₀ i₀ all i = span .last - i
 
 loop-holds : tie.Need-loop-holds Inv-loop μ-loop
 loop-holds c = search needs
@@ -16,11 +16,11 @@ loop-holds c = search needs
 returns : tie.Need-returns Inv-loop μ-loop
 returns c = search needs
 
-add-get : tie.Need-add-get Inv-loop μ-loop
-add-get c = search needs
+add-number-at : tie.Need-add-number-at Inv-loop μ-loop
+add-number-at c = search needs
 
-get-requires : tie.Need-get-requires Inv-loop μ-loop
-get-requires c κs = search needs
+number-at-requires : tie.Need-number-at-requires Inv-loop μ-loop
+number-at-requires c κs = search needs
 
 message-scope-requires : tie.Need-message-scope-requires Inv-loop μ-loop
 message-scope-requires c κs = search needs
@@ -48,8 +48,8 @@ cover-slots-spec =
     μ-loop
     loop-holds
     returns
-    add-get
-    get-requires
+    add-number-at
+    number-at-requires
     message-scope-requires
     cover-requires
     add-i

@@ -1,8 +1,8 @@
--- `arranging::scope_at` meets its contract. The invariant: no more bytes are passed than the scope has.
+-- `arranging::record_scope` meets its contract. The invariant: no more bytes are passed than the scope has.
 use Prim.Native.Nat.{_≤_, _-_}
 use borrow.Author.Needs.{needs}
-use Rattle.arranging.proofs.scope_at.Statement.{statement}
-use Rattle.arranging.proofs.scope_at.Tie as tie
+use Rattle.arranging.proofs.record_scope.Statement.{statement}
+use Rattle.arranging.proofs.record_scope.Tie as tie
 
 abbrev Inv-loop : tie.InvT-loop
 Inv-loop s at plan a set₀ i₀ set i = i ≤ a
@@ -31,11 +31,11 @@ add-byte-at-3 c = search needs
 byte-at-requires-2 : tie.Need-byte-at-requires-2 Inv-loop μ-loop
 byte-at-requires-2 c κs = search needs
 
-add-get : tie.Need-add-get Inv-loop μ-loop
-add-get c = search needs
+add-number-at : tie.Need-add-number-at Inv-loop μ-loop
+add-number-at c = search needs
 
-get-requires : tie.Need-get-requires Inv-loop μ-loop
-get-requires c κs = search needs
+number-at-requires : tie.Need-number-at-requires Inv-loop μ-loop
+number-at-requires c κs = search needs
 
 bit-requires : tie.Need-bit-requires Inv-loop μ-loop
 bit-requires c κs = search needs
@@ -52,8 +52,8 @@ loop-again c = search needs
 returns-2 : tie.Need-returns-2 Inv-loop μ-loop
 returns-2 c = search needs
 
-pub scope-at-spec : {M : Type 1} → statement M
-scope-at-spec =
+pub record-scope-spec : {M : Type 1} → statement M
+record-scope-spec =
     tie.close
     (tie.spec
     Inv-loop
@@ -65,8 +65,8 @@ scope-at-spec =
     add-byte-at-2
     add-byte-at-3
     byte-at-requires-2
-    add-get
-    get-requires
+    add-number-at
+    number-at-requires
     bit-requires
     add-i
     loop-less
