@@ -5,5 +5,6 @@ pub mod Overwritten
 pub mod Keeping
 pub mod Adding
 pub mod PlacedRecords
+pub mod SumLimits
 pub mod GroupLengths
 pub mod Grouping
