@@ -27,7 +27,7 @@ use Rattle.buckets.specs.Content.{Planned}
 use Rattle.buckets.proofs.Sums.{placesOver-all, childrenOver-all, sent-split, received-split}
 use Rattle.buckets.proofs.Rearranging.{rearranged-costs}
 use Rattle.buckets.proofs.Reading.{sent-reads, content-reads, records-split}
-use Rattle.buckets.proofs.CostLimits.{costs-small}
+use Rattle.groups.proofs.SumLimits.{costs-small}
 
 -- what falls as positions rise is largest at the first
 falls : (end : ℕ → ℕ) (n : ℕ) → ((k : ℕ) → k < n → end (k + 1) ≤ end k) → (k : ℕ) → k ≤ n → end k ≤ end 0

@@ -2,7 +2,6 @@
 pub mod Sums
 pub mod Rearranging
 pub mod Reading
-pub mod CostLimits
 pub mod Bounds
 pub mod RowSteps
 pub mod Runs

@@ -40,7 +40,7 @@ module _ {r : ℕ} {work work′ : List ℕ} (k : Still r work work′) (d : DD.
         sound = subst (λ (l : List ℕ). Sound d r ds s l (planIn work′)) (sym (k .source)) (subst (λ (l : List ℕ). Sound d r ds s (sourceIn work r) l) (sym (k .plan)) (h .sound));
         planned = subst (λ (l : List ℕ). Planned d r ds s l) (sym (k .plan)) (h .planned);
         some-variable = h .some-variable;
-        words = h .words;
+        limited = h .limited;
         room-small = h .room-small;
         long = omega (arith, h .long, k .long);
       }

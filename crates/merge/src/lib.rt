@@ -7,10 +7,9 @@ ghost use Prim.Native.Nat.{_+_, _≤_};
 ghost use lib.ListN.{length, take, drop};
 ghost use Rattle.model.specs.Basics.{All, keepIf};
 ghost use Rattle.model.specs.Limits.{maxObjectives, maxVariables, maxPoints, workNeed};
-ghost use Rattle.model.specs.Problems.{Word};
 ghost use Rattle.model.specs.Vectors.{under, earlier, added};
 ghost use Rattle.model.specs.Frontiers.{best};
-ghost use Rattle.model.specs.Core.{coreFrontier};
+ghost use Rattle.model.specs.Core.{Ceiling, coreCeilings, coreOf, coreFrontier};
 ghost use Rattle.model.specs.Search.{nothing, just};
 ghost use Rattle.model.specs.Cuts.{sidesOk, uncrossed};
 ghost use Rattle.model.specs.Views.{view};
@@ -18,7 +17,7 @@ ghost use Rattle.model.specs.Merging.{ahead, sumOf, sumsWith, leastLeft};
 ghost use Rattle.groups.specs.Layout.{listEnd, rowWidth};
 ghost use Rattle.rows.specs.Rows.{rowAt, pointIn, listIn};
 ghost use Rattle.search.specs.States.{heldOf};
-ghost use Rattle.listing.specs.Says.{problemAt, Accepted};
+ghost use Rattle.listing.specs.Says.{problemAt, coreAt, Accepted};
 ghost use Rattle.passes.specs.Says.{FoundSays};
 ghost use Rattle.merge.specs.Sums.{firstRow, secondRow, pointOf, secondIn, sumsIn, Values, Paired, Halved};
 ghost use Rattle.merge.specs.Says.{KeptSays, noLists, CutFound};
@@ -195,7 +194,7 @@ pub fn merge_points(
     room: usize,
     work: &mut [u32],
 ) -> passes::Found
-    requires { ⌜ Halved p n 0 a b (now work) × All Word (take p ceilings) × (room ≤ maxPoints) ⌝ }
+    requires { ⌜ Halved p n 0 a b (now work) × All Ceiling (take p ceilings) × (room ≤ maxPoints) ⌝ }
     ensures { λ f. ⌜ FoundSays p n (best (sumsIn p n ceilings (now (work .entry)) a b)) room
         (now (work .entry)) (now (work .exit)) f ⌝ }
 {
@@ -226,7 +225,7 @@ pub fn merge_points(
     }
 }
 
-// Finds the list of one half and keeps it from the row `row` on.
+// Finds the list of one half, under its ceilings, and keeps it from the row `row` on.
 fn keep_half(
     s: &[u8],
     at: usize,
@@ -235,7 +234,7 @@ fn keep_half(
     sides: &[u8],
     side: u8,
     p: usize,
-    ceilings: [u32; 4],
+    ceilings: [u64; 4],
     row: usize,
     work: &mut [u32],
 ) -> passes::Found
@@ -243,7 +242,7 @@ fn keep_half(
         × (length (now sides) ≡ length (now sizes)) × (secondRow ≤ row) × (row ≤ firstRow)
         × (workNeed ≤ length (now work)) ⌝ }
     ensures { λ f. ⌜ KeptSays p (length (now (sizes .entry)))
-        (coreFrontier (view side (problemAt p ceilings (now (sizes .entry)) (now (s .entry)) at r) (now (sides .entry))))
+        (coreFrontier (view side (coreAt p ceilings (now (sizes .entry)) (now (s .entry)) at r) (now (sides .entry))))
         row (now (work .entry)) (now (work .exit)) f ⌝ }
 {
     let found = listing::find_half(
@@ -293,23 +292,23 @@ pub fn cut_lists(
     room: usize,
     work: &mut [u32],
 ) -> Lists
-    requires { ⌜ Accepted p r at room ceilings (now sizes) (now s) (now work)
+    requires { ⌜ Accepted p r at room (coreCeilings ceilings) (now sizes) (now s) (now work)
         × (sidesOk (problemAt p ceilings (now sizes) (now s) at r) (now sides) ≡ true)
         × (uncrossed (now sides) (problemAt p ceilings (now sizes) (now s) at r .tables) ≡ true)
         × (workNeed ≤ length (now work)) ⌝ }
-    ensures { λ f. ⌜ CutFound (problemAt p ceilings (now (sizes .entry)) (now (s .entry)) at r) (now (sides .entry))
-        room (now (work .entry)) (now (work .exit)) f ⌝ }
+    ensures { λ f. ⌜ CutFound (coreOf (problemAt p ceilings (now (sizes .entry)) (now (s .entry)) at r))
+        (take p (coreCeilings ceilings)) (now (sides .entry)) room (now (work .entry)) (now (work .exit)) f ⌝ }
 {
-    let first = keep_half(s, at, r, sizes, sides, 0, p, ceilings, FIRST_ROW, work);
+    let wide = listing::widened(ceilings);
+    let first = keep_half(s, at, r, sizes, sides, 0, p, wide, FIRST_ROW, work);
     if first.full {
         return no_lists();
     }
-    let second = keep_half(s, at, r, sizes, sides, 1, p, ceilings, SECOND_ROW, work);
+    let second = keep_half(s, at, r, sizes, sides, 1, p, wide, SECOND_ROW, work);
     if second.full {
         return no_lists();
     }
     let n = sizes.len();
-    let wide = listing::widened(ceilings);
     let merged = merge_points(first.count, second.count, n, p, wide, room, work);
     if merged.full {
         return no_lists();

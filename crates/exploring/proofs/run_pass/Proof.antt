@@ -38,7 +38,7 @@ zoned c =
 start-zones-requires : tie.Need-start-zones-requires
 start-zones-requires c κs =
     let h = c .before .before .before .before .pre .0 in
-    (h .planned .sensible, omega (arith, h .long), omega (arith, c .before .before .before .before .pre .1 .few, h .room-small), h .words)
+    (h .planned .sensible, omega (arith, h .long), omega (arith, c .before .before .before .before .pre .1 .few, h .room-small), h .limited)
 
 sub-root-bound : tie.Need-sub-root-bound
 sub-root-bound c = search needs
