@@ -15,7 +15,7 @@ use Rattle.archive.specs.declared.Taken as DT
 
 -- the most that a weight may be
 abbrev pub maxWeight : ℕ
-maxWeight = 1048576
+maxWeight = 4096
 
 -- costs that stand once
 abbrev pub Apart : ℕ → List ℕ → ℕ → Type 0

@@ -28,7 +28,7 @@ use Rattle.buckets.proofs.Sums.{placesOver-all, childrenOver-all, sent-
 use Rattle.buckets.proofs.Rearranging.{rearranged-costs}
 use Rattle.buckets.proofs.Ends.{record-limit, child-limit, message-limit}
 use Rattle.buckets.proofs.Reading.{sent-reads, content-reads, records-split}
-use Rattle.buckets.proofs.CostLimits.{costs-small}
+use Rattle.groups.proofs.SumLimits.{costs-small}
 
 -- what agrees at k positions agrees at fewer
 pub agree-fewer : (plan : List ℕ) (k m : ℕ) (x y : List ℕ) → m ≤ k → Agree plan k x y → Agree plan m x y

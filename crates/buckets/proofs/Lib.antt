@@ -4,7 +4,6 @@ pub mod Rearranging
 pub mod Ranges
 pub mod Reading
 pub mod Ends
-pub mod CostLimits
 pub mod Bounds
 pub mod RowSteps
 pub mod Runs

@@ -13,6 +13,7 @@ use Rattle.model.specs.Costs.{costOf, total}
 use Rattle.model.proofs.Elements.{all-map}
 use Rattle.model.proofs.LeastEntry.{entry-same}
 use Rattle.model.proofs.Totals.{totals-from-length}
+use Rattle.costs.specs.Entries.{tableAt}
 use Rattle.groups.specs.Groups.{tablesOver}
 use Rattle.directions.specs.Directions.{directionsOf, widthOf}
 use Rattle.directions.specs.declared.Directions as DD
@@ -47,10 +48,10 @@ module _ (P : ℕ → Type 0) (x y : List ℕ) (same : (v : ℕ) → P v → get
   pub received-reads : (w : ℕ) (plan : List ℕ) (first last : ℕ) → All (Reads P plan) (childrenOver plan first last) → (j : ℕ) → receivedOver w plan first last x j ≡ receivedOver w plan first last y j
   received-reads w plan first last h j = sumOver-equal (messageAt w plan x j) (messageAt w plan y j) (childrenOver plan first last) (messages-read w plan j (childrenOver plan first last) h)
 
-  record-reads : (ds s : List ℕ) (at : ℕ) → All P (tableScope (drop at s)) → costOf ds x (tableOf ds (drop at s)) ≡ costOf ds y (tableOf ds (drop at s))
+  record-reads : (ds s : List ℕ) (at : ℕ) → All P (tableScope (drop at s)) → costOf ds x (tableAt ds s at) ≡ costOf ds y (tableAt ds s at)
   unfolding costOf tableOf
   record-reads ds s at h =
-      ap (λ (i : ℕ). getD (tableOf ds (drop at s) .costs) i 0)
+      ap (λ (i : ℕ). getD (tableAt ds s at .costs) i 0)
       (entry-same ds ds x y 0 (tableScope (drop at s)) (all-map P (λ v. (getD ds v 0 ≡ getD ds v 0) × (getD x v 0 ≡ getD y v 0)) (λ v p. (refl, same v p)) (tableScope (drop at s)) h))
 
   total-reads : (ds s : List ℕ) (o : ℕ) (places : List ℕ) → All (λ at. All P (tableScope (drop at s))) places → total o (costOf ds x) (tablesOver ds s places) ≡ total o (costOf ds y) (tablesOver ds s places)

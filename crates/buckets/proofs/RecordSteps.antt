@@ -10,7 +10,8 @@ use lib.Dec.{eqb}
 use lib.ListN.{length, getD, drop, set, length-set}
 use lib.Seq.{getD-set-same, getD-set-other}
 use Rattle.model.specs.Basics.{when}
-use Rattle.model.specs.Limits.{maxTables, wordEnd}
+use Rattle.model.specs.Limits.{maxTables}
+use Rattle.model.specs.Core.{entryEnd}
 use Rattle.model.specs.Problems.{Table}
 use Rattle.model.specs.Reading.{tableObjective, tableOf}
 use Rattle.model.specs.Costs.{costOf, total}
@@ -24,13 +25,13 @@ use Rattle.buckets.proofs.Ranges.{places-next, places-none}
 -- f's cost was added to objective `own` of each value below a
 pub record AddingRecord (own : ℕ) (f : ℕ → ℕ) (before : List ℕ) (a : ℕ) (totals : List ℕ) : Type 0 where
   pub long : length totals ≡ length before
-  pub done : (b : ℕ) → b < a → (o : ℕ) → o < 4 → (getD totals (4 * b + o) 0 ≡ getD before (4 * b + o) 0 + when (eqb own o) (f b)) × (getD totals (4 * b + o) 0 < getD before (4 * b + o) 0 + wordEnd)
+  pub done : (b : ℕ) → b < a → (o : ℕ) → o < 4 → (getD totals (4 * b + o) 0 ≡ getD before (4 * b + o) 0 + when (eqb own o) (f b)) × (getD totals (4 * b + o) 0 < getD before (4 * b + o) 0 + entryEnd)
   pub rest : (i : ℕ) → 4 * a ≤ i → getD totals i 0 ≡ getD before i 0
 
 pub adding-start : (own : ℕ) (f : ℕ → ℕ) (before : List ℕ) → AddingRecord own f before 0 before
 adding-start own f before = record { long = refl; done = λ b h. absurd (omega arith); rest = λ i h. refl }
 
-module _ {own : ℕ} {f : ℕ → ℕ} {before : List ℕ} {a : ℕ} {totals : List ℕ} (u : AddingRecord own f before a totals) (cost : ℕ) (exists : own < 4) (inside : 4 * a + own < length before) (is : cost ≡ f a) (word : cost < wordEnd) where
+module _ {own : ℕ} {f : ℕ → ℕ} {before : List ℕ} {a : ℕ} {totals : List ℕ} (u : AddingRecord own f before a totals) (cost : ℕ) (exists : own < 4) (inside : 4 * a + own < length before) (is : cost ≡ f a) (limit : cost < entryEnd) where
   next : List ℕ
   next = set totals (4 * a + own) (getD totals (4 * a + own) 0 + cost)
 
@@ -39,11 +40,11 @@ module _ {own : ℕ} {f : ℕ → ℕ} {before : List ℕ} {a : ℕ} {totals : L
   other i h = getD-set-other totals (4 * a + own) i _ 0 h
 
   -- at value a: only its own objective has more
-  here : (o : ℕ) → o < 4 → (getD next (4 * a + o) 0 ≡ getD before (4 * a + o) 0 + when (eqb own o) (f a)) × (getD next (4 * a + o) 0 < getD before (4 * a + o) 0 + wordEnd)
+  here : (o : ℕ) → o < 4 → (getD next (4 * a + o) 0 ≡ getD before (4 * a + o) 0 + when (eqb own o) (f a)) × (getD next (4 * a + o) 0 < getD before (4 * a + o) 0 + entryEnd)
   unfolding next
   here o l = go (eqb own o) refl
     where
-      go : (t : Bool) → eqb own o ≡ t → (getD next (4 * a + o) 0 ≡ getD before (4 * a + o) 0 + when t (f a)) × (getD next (4 * a + o) 0 < getD before (4 * a + o) 0 + wordEnd)
+      go : (t : Bool) → eqb own o ≡ t → (getD next (4 * a + o) 0 ≡ getD before (4 * a + o) 0 + when t (f a)) × (getD next (4 * a + o) 0 < getD before (4 * a + o) 0 + entryEnd)
       go true e =
           let same : own ≡ o = eqb-true own o e in
           let same-place : 4 * a + own ≡ 4 * a + o = omega arith in
@@ -60,7 +61,7 @@ module _ {own : ℕ} {f : ℕ → ℕ} {before : List ℕ} {a : ℕ} {totals : L
       rw e
       (record {
         long = length-set totals (4 * a + own) _ ∙ u .long;
-        done = below-more (λ b. (o : ℕ) → o < 4 → (getD next (4 * b + o) 0 ≡ getD before (4 * b + o) 0 + when (eqb own o) (f b)) × (getD next (4 * b + o) 0 < getD before (4 * b + o) 0 + wordEnd)) a (λ b h o l. let e = other (4 * b + o) (λ k. omega arith) in let p = u .done b h o l in (e ∙ p .0, omega (arith, e, p .1))) here;
+        done = below-more (λ b. (o : ℕ) → o < 4 → (getD next (4 * b + o) 0 ≡ getD before (4 * b + o) 0 + when (eqb own o) (f b)) × (getD next (4 * b + o) 0 < getD before (4 * b + o) 0 + entryEnd)) a (λ b h o l. let e = other (4 * b + o) (λ k. omega arith) in let p = u .done b h o l in (e ∙ p .0, omega (arith, e, p .1))) here;
         rest = λ i h. other i (λ k. omega arith) ∙ u .rest i (omega arith);
       })
 
@@ -83,7 +84,7 @@ pub record Totalling (ds s plan : List ℕ) (span : DS.Span) (v : ℕ) (x : List
       → getD totals (4 * a + o) 0 + total o (costOf ds (set x v a)) (tablesOver ds s (placesOver plan i (span .to)))
       ≡ total o (costOf ds (set x v a)) (tablesOver ds s (placesOver plan (span .from) (span .to)))
   pub small : (a o : ℕ) → a < getD ds v 0 → o < 4
-      → getD totals (4 * a + o) 0 + (i - span .from) ≤ wordEnd * (i - span .from)
+      → getD totals (4 * a + o) 0 + (i - span .from) ≤ entryEnd * (i - span .from)
 
 pub totalling-start :
     (ds s plan : List ℕ) (span : DS.Span) (v : ℕ) (x totals : List ℕ) → span .from ≤ span .to → 32 ≤ length totals

@@ -9,10 +9,10 @@ use lib.ListN.{take, drop}
 use lib.Seq.{take-add, take-take, drop-drop}
 use Rattle.model.specs.Basics.{when, All}
 use Rattle.model.specs.Problems.{Table}
-use Rattle.model.specs.Reading.{tableOf}
 use Rattle.model.specs.Costs.{total, totalsFrom}
 use Rattle.model.specs.Vectors.{added}
 use Rattle.model.proofs.Elements.{all-take}
+use Rattle.costs.specs.Entries.{tableAt}
 use Rattle.groups.specs.Groups.{tablesOver}
 use Rattle.buckets.specs.Places.{childrenAt}
 use Rattle.buckets.specs.Messages.{sumOver, countFrom, messageAt, sentOver, childrenOver, receivedOver}
@@ -74,7 +74,7 @@ module _ (w : ℕ) (plan : List ℕ) (a b c : ℕ) (g : a ≤ b) (h : b ≤ c) (
 -- the sum of an objective's records is a sum over their places
 module _ (ds s : List ℕ) where
   abbrev pub shareOf : ℕ → (Table → ℕ) → ℕ → ℕ
-  shareOf o f at = when (eqb (tableOf ds (drop at s) .objective) o) (f (tableOf ds (drop at s)))
+  shareOf o f at = when (eqb (tableAt ds s at .objective) o) (f (tableAt ds s at))
 
   pub total-over : (o : ℕ) (f : Table → ℕ) (places : List ℕ) → total o f (tablesOver ds s places) ≡ sumOver (shareOf o f) places
   unfolding total tablesOver sumOver

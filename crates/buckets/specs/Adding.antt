@@ -6,7 +6,7 @@ use lib.Dec.{eqb}
 use lib.ListN.{length, getD, take, drop, set}
 use Rattle.model.specs.Basics.{when}
 use Rattle.model.specs.Limits.{wordEnd}
-use Rattle.model.specs.Core.{coreSumEnd}
+use Rattle.model.specs.Core.{entryEnd, coreSumEnd}
 use Rattle.model.specs.Reading.{tableObjective}
 use Rattle.model.specs.Costs.{entryFrom, costOf, total}
 use Rattle.costs.specs.Entries.{tableAt, scopeAt, entriesAt}
@@ -81,7 +81,7 @@ RecordAdded ds s at v x before after =
     (a o : ℕ) → a < getD ds v 0 → o < 4
     → (getD after (4 * a + o) 0
     ≡ getD before (4 * a + o) 0 + when (eqb (tableObjective (drop at s)) o) (costOf ds (set x v a) (tableAt ds s at)))
-    × (getD after (4 * a + o) 0 < getD before (4 * a + o) 0 + wordEnd)
+    × (getD after (4 * a + o) 0 < getD before (4 * a + o) 0 + entryEnd)
 
 -- zeros alone
 abbrev pub Blank : List ℕ → Type 0

@@ -1,6 +1,7 @@
 -- The laws that the functions' proofs share.
 pub mod ScopeVariables
 pub mod TableEntries
+pub mod EntryLimits
 pub mod Rooms
 pub mod PrefixSteps
 pub mod LeastSteps

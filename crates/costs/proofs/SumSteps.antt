@@ -7,7 +7,8 @@ use native.Mathlib.Nat.{add-zero, zero-add, add-assoc}
 use borrow.Author.Tests.{eq-eqb, ne-eqb}
 use lib.ListN.{length, getD, set, drop, replicate, length-set}
 use Rattle.model.specs.Basics.{All}
-use Rattle.model.specs.Limits.{maxTables, maxObjectives, wordEnd}
+use Rattle.model.specs.Limits.{maxTables, maxObjectives}
+use Rattle.model.specs.Core.{entryEnd}
 use Rattle.model.specs.Problems.{Table}
 use Rattle.model.specs.Reading.{tableObjective, tableLength, tableOf, tablesAt}
 use Rattle.model.specs.Vectors.{added}
@@ -66,7 +67,7 @@ module _ (f : Table → ℕ) where
 pub record Summing (f : Table → ℕ) (ds s : List ℕ) (r at : ℕ) (sums : List ℕ) (here left : ℕ) : Type 0 where
   pub fewer : left ≤ r
   pub four : length sums ≡ maxObjectives
-  pub small : All (λ x. x ≤ wordEnd * (r - left)) sums
+  pub small : All (λ x. x ≤ entryEnd * (r - left)) sums
   pub whole : AllWhole left ds s here
   pub rest : added sums (totalsFrom maxObjectives 0 f (tablesAt left ds s here)) ≡ totalsFrom maxObjectives 0 f (tablesAt r ds s at)
 
@@ -82,8 +83,8 @@ module _ (f : Table → ℕ) (ds s : List ℕ) (r at : ℕ) where
       }
 
   module _ (sums : List ℕ) (here left : ℕ) (u : Summing f ds s r at sums here left) where
-    pub sum-small : r ≤ maxTables → (o : ℕ) → getD sums o 0 ≤ wordEnd * maxTables
-    sum-small few o = omega (arith, all-at (λ x. x ≤ wordEnd * (r - left)) sums (u .small) o 0 (omega arith))
+    pub sum-small : r ≤ maxTables → (o : ℕ) → getD sums o 0 ≤ entryEnd * maxTables
+    sum-small few o = omega (arith, all-at (λ x. x ≤ entryEnd * (r - left)) sums (u .small) o 0 (omega arith))
 
     pub summing-end : left ≡ 0 → sums ≡ totalsFrom maxObjectives 0 f (tablesAt r ds s at)
     unfolding tablesAt
@@ -93,13 +94,13 @@ module _ (f : Table → ℕ) (ds s : List ℕ) (r at : ℕ) where
       pub next-whole : Whole ds s here
       next-whole = whole-next left ds s here more (u .whole) .0
 
-      pub summing-next : (o cost width : ℕ) → o ≡ tableObjective (drop here s) → cost ≡ f (tableOf ds (drop here s)) → cost < wordEnd → width ≡ tableLength ds (drop here s) → Summing f ds s r at (set sums o (getD sums o 0 + cost)) (here + width) (left - 1)
+      pub summing-next : (o cost width : ℕ) → o ≡ tableObjective (drop here s) → cost ≡ f (tableOf ds (drop here s)) → cost < entryEnd → width ≡ tableLength ds (drop here s) → Summing f ds s r at (set sums o (getD sums o 0 + cost)) (here + width) (left - 1)
       unfolding tableOf
       summing-next o cost width own is word wide =
           let t = tableOf ds (drop here s) in
           let next = tablesAt (left - 1) ds s (here + tableLength ds (drop here s)) in
-          let more-small : (x : ℕ) → x ≤ wordEnd * (r - left) → x ≤ wordEnd * (r - (left - 1)) = λ x h. omega (arith, u .fewer) in
-          let o-small = all-at (λ x. x ≤ wordEnd * (r - left)) sums (u .small) o 0 (omega arith) in
+          let more-small : (x : ℕ) → x ≤ entryEnd * (r - left) → x ≤ entryEnd * (r - (left - 1)) = λ x h. omega (arith, u .fewer) in
+          let o-small = all-at (λ x. x ≤ entryEnd * (r - left)) sums (u .small) o 0 (omega arith) in
           let inside : o < maxObjectives = rw own (next-whole .owner) in
           let step : added (set sums o (getD sums o 0 + cost)) (totalsFrom maxObjectives 0 f next) ≡ added sums (totalsFrom maxObjectives 0 f (t ∷ next)) = rw is (added-next f t next maxObjectives 0 o sums (u .four) inside (sym own ∙ sym (zero-add o))) in
           record {

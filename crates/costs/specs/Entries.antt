@@ -1,13 +1,14 @@
--- A record's table by the place where the record starts.
+-- A record's table by the place where the record starts, as the core has it.
 use Prim.Native.Nat.{ℕ}
 use mathlib.Core.List.{List}
 use lib.ListN.{getD, drop}
 use Rattle.model.specs.Problems.{Table, sizeOf}
 use Rattle.model.specs.Reading.{tableScope, tableOf}
+use Rattle.model.specs.Core.{coreTable}
 
 -- the table of the record at `at`, its entry i, and how many entries it has
 abbrev pub tableAt : List ℕ → List ℕ → ℕ → Table
-tableAt ds s at = tableOf ds (drop at s)
+tableAt ds s at = coreTable (tableOf ds (drop at s))
 
 abbrev pub entryAt : List ℕ → List ℕ → ℕ → ℕ → ℕ
 entryAt ds s at i = getD (tableAt ds s at .costs) i 0

@@ -8,18 +8,33 @@ ghost use Rattle.model.specs.Limits.{maxTables, maxObjectives};
 ghost use Rattle.model.specs.Problems.{DomainSize, sizeOf};
 ghost use Rattle.model.specs.Reading.{tableArity, tablesAt};
 ghost use Rattle.model.specs.Costs.{isChoice, entryFrom, costOf, totalsFrom};
+ghost use Rattle.model.specs.Core.{entryEnd, entry, plain};
 ghost use Rattle.model.specs.Bounds.{prefixOk, leastTo, leastFrom, leastOf};
 ghost use Rattle.problem.specs.Records.{Whole, AllWhole};
 ghost use Rattle.costs.specs.Entries.{tableAt, entryAt, scopeAt, entriesAt};
 ghost use Rattle.costs.specs.Runs.{RunSays};
 
+// What a table's number weighs in the core.
+fn weigh(x: u32) -> u64
+    ensures { λ r. ⌜ (r ≡ entry x) × (r < entryEnd) ⌝ }
+{
+    x as u64
+}
+
+// The number that weighs so much: the way back.
+fn unweighed(w: u64) -> u64
+    ensures { λ r. ⌜ (r ≡ plain w) × (r ≤ w) ⌝ }
+{
+    w
+}
+
 // Entry `i` of the table of the record at `at`: the one place that knows where tables stand.
-pub fn table_entry(s: &[u8], at: usize, i: usize, sizes: &[u8]) -> u32
+pub fn table_entry(s: &[u8], at: usize, i: usize, sizes: &[u8]) -> u64
     requires { ⌜ Whole (now sizes) (now s) at × (i < entriesAt (now sizes) (now s) at) ⌝ }
-    ensures { λ r. ⌜ r ≡ entryAt (now (sizes .entry)) (now (s .entry)) at i ⌝ }
+    ensures { λ r. ⌜ (r ≡ entryAt (now (sizes .entry)) (now (s .entry)) at i) × (r < entryEnd) ⌝ }
 {
     let a = s[at + 3] as usize;
-    problem::four_at(s, at + 4 + a + 4 * i)
+    weigh(problem::four_at(s, at + 4 + a + 4 * i))
 }
 
 // How many entries the table of the record at `at` has.
@@ -52,17 +67,17 @@ pub fn entry_index(s: &[u8], at: usize, sizes: &[u8], choice: &[u8]) -> usize
 }
 
 // What the record at `at` costs a complete choice.
-pub fn cost_at(s: &[u8], at: usize, sizes: &[u8], choice: &[u8]) -> u32
+pub fn cost_at(s: &[u8], at: usize, sizes: &[u8], choice: &[u8]) -> u64
     requires { ⌜ Whole (now sizes) (now s) at × All DomainSize (now sizes)
         × (isChoice (now sizes) (now choice) ≡ true) ⌝ }
-    ensures { λ r. ⌜ r ≡ costOf (now (sizes .entry)) (now (choice .entry))
-        (tableAt (now (sizes .entry)) (now (s .entry)) at) ⌝ }
+    ensures { λ r. ⌜ (r ≡ costOf (now (sizes .entry)) (now (choice .entry))
+        (tableAt (now (sizes .entry)) (now (s .entry)) at)) × (r < entryEnd) ⌝ }
 {
     let i = entry_index(s, at, sizes, choice);
     table_entry(s, at, i, sizes)
 }
 
-// The cost vector of a complete choice: the sums over the `r` records from `at` on.
+// The cost vector of a complete choice: the sums over the tables of the `r` records from `at` on, as they were read.
 pub fn costs_of(s: &[u8], at: usize, r: u32, sizes: &[u8], choice: &[u8]) -> [u64; 4]
     requires { ⌜ AllWhole r (now sizes) (now s) at × (r ≤ maxTables) × All DomainSize (now sizes)
         × (isChoice (now sizes) (now choice) ≡ true) ⌝ }
@@ -75,7 +90,7 @@ pub fn costs_of(s: &[u8], at: usize, r: u32, sizes: &[u8], choice: &[u8]) -> [u6
     while left > 0 {
         let t = problem::record_at(s, here, sizes);
         let o = t.objective as usize;
-        sums[o] = sums[o] + (cost_at(s, here, sizes, choice) as u64);
+        sums[o] = sums[o] + unweighed(cost_at(s, here, sizes, choice));
         here += t.length;
         left -= 1;
     }
@@ -99,7 +114,7 @@ pub fn prefix_ok(sizes: &[u8], prefix: &[u8]) -> bool
     true
 }
 
-fn lesser(a: u32, b: u32) -> u32
+fn lesser(a: u64, b: u64) -> u64
     ensures { λ r. ⌜ r ≡ Prim.Native.Nat.min a b ⌝ }
 {
     if a <= b {
@@ -110,9 +125,10 @@ fn lesser(a: u32, b: u32) -> u32
 
 // The least of `count` entries in a row, from entry `first` on. The loop meets the first again:
 // `count` turns suit vectors.
-pub fn least_row(s: &[u8], at: usize, first: usize, count: usize, sizes: &[u8]) -> u32
+pub fn least_row(s: &[u8], at: usize, first: usize, count: usize, sizes: &[u8]) -> u64
     requires { ⌜ Whole (now sizes) (now s) at × (1 ≤ count) × (first + count ≤ entriesAt (now sizes) (now s) at) ⌝ }
-    ensures { λ r. ⌜ r ≡ leastTo (count - 1) (λ a. entryAt (now (sizes .entry)) (now (s .entry)) at (first + a)) ⌝ }
+    ensures { λ r. ⌜ (r ≡ leastTo (count - 1) (λ a. entryAt (now (sizes .entry)) (now (s .entry)) at (first + a)))
+        × (r < entryEnd) ⌝ }
 {
     let mut least = table_entry(s, at, first, sizes);
     let mut i: usize = 0;
@@ -124,12 +140,13 @@ pub fn least_row(s: &[u8], at: usize, first: usize, count: usize, sizes: &[u8]) 
 }
 
 // The least entry over the scope variables from number `k` on that agrees with the prefix, after the index `index`.
-pub fn least_from(s: &[u8], at: usize, k: usize, index: usize, sizes: &[u8], prefix: &[u8]) -> u32
+pub fn least_from(s: &[u8], at: usize, k: usize, index: usize, sizes: &[u8], prefix: &[u8]) -> u64
     requires { ⌜ Whole (now sizes) (now s) at × All DomainSize (now sizes) × (prefixOk (now sizes) (now prefix) ≡ true)
         × (k ≤ tableArity (drop at (now s)))
         × ((index + 1) * sizeOf (now sizes) (drop k (scopeAt (now s) at)) ≤ entriesAt (now sizes) (now s) at) ⌝ }
-    ensures { λ r. ⌜ r ≡ leastFrom (now (sizes .entry)) (now (prefix .entry))
-        (entryAt (now (sizes .entry)) (now (s .entry)) at) index (drop k (scopeAt (now (s .entry)) at)) ⌝ }
+    ensures { λ r. ⌜ (r ≡ leastFrom (now (sizes .entry)) (now (prefix .entry))
+        (entryAt (now (sizes .entry)) (now (s .entry)) at) index (drop k (scopeAt (now (s .entry)) at)))
+        × (r < entryEnd) ⌝ }
 {
     let a = s[at + 3] as usize;
     if k == a {
@@ -194,11 +211,11 @@ pub fn run_at(s: &[u8], at: usize, sizes: &[u8], prefix: &[u8]) -> Run
 }
 
 // The least entry of the record at `at` that agrees with the prefix.
-pub fn least_at(s: &[u8], at: usize, sizes: &[u8], prefix: &[u8]) -> u32
+pub fn least_at(s: &[u8], at: usize, sizes: &[u8], prefix: &[u8]) -> u64
     requires { ⌜ Whole (now sizes) (now s) at × All DomainSize (now sizes)
         × (prefixOk (now sizes) (now prefix) ≡ true) ⌝ }
-    ensures { λ r. ⌜ r ≡ leastOf (now (sizes .entry)) (now (prefix .entry))
-        (tableAt (now (sizes .entry)) (now (s .entry)) at) ⌝ }
+    ensures { λ r. ⌜ (r ≡ leastOf (now (sizes .entry)) (now (prefix .entry))
+        (tableAt (now (sizes .entry)) (now (s .entry)) at)) × (r < entryEnd) ⌝ }
 {
     let t = run_at(s, at, sizes, prefix);
     if t.count == 0 {
@@ -207,7 +224,7 @@ pub fn least_at(s: &[u8], at: usize, sizes: &[u8], prefix: &[u8]) -> u32
     least_row(s, at, t.first, t.count, sizes)
 }
 
-// The bound of a prefix: the sums of least entries over the `r` records from `at` on.
+// The bound of a prefix: the sums of least entries over the tables of the `r` records from `at` on, as they were read.
 pub fn bounds_of(s: &[u8], at: usize, r: u32, sizes: &[u8], prefix: &[u8]) -> [u64; 4]
     requires { ⌜ AllWhole r (now sizes) (now s) at × (r ≤ maxTables) × All DomainSize (now sizes)
         × (prefixOk (now sizes) (now prefix) ≡ true) ⌝ }
@@ -220,7 +237,7 @@ pub fn bounds_of(s: &[u8], at: usize, r: u32, sizes: &[u8], prefix: &[u8]) -> [u
     while left > 0 {
         let t = problem::record_at(s, here, sizes);
         let owner = t.objective as usize;
-        sums[owner] = sums[owner] + (least_at(s, here, sizes, prefix) as u64);
+        sums[owner] = sums[owner] + unweighed(least_at(s, here, sizes, prefix));
         here += t.length;
         left -= 1;
     }

@@ -14,17 +14,19 @@ use Rattle.model.specs.Encoding.{Byte}
 use Rattle.model.specs.Problems.{Problem}
 use Rattle.model.specs.Reading.{problemOf}
 use Rattle.model.specs.Frontiers.{frontier}
+use Rattle.model.specs.Core.{coreCeilings, coreOf, coreFrontier}
 use Rattle.model.specs.Cuts.{sidesOk, uncrossed, cutList, halfSize}
 use Rattle.model.specs.Calls.{over, divided, roomOf, flatCosts, flatChoices, roomVerdict, cutRoomVerdict, cutVerdict, cutOutcome}
 use Rattle.model.proofs.Cut.{cut-frontier}
+use Rattle.model.proofs.Core.{core-frontier, core-half-list, take-ceilings}
 use Rattle.groups.specs.Layout.{listEnd}
 use Rattle.rows.specs.Rows.{listIn}
 use Rattle.problem.specs.declared.Reading as DG
 use Rattle.problem.proofs.Accepted.{AcceptedReading}
 use Rattle.listing.specs.Says.{problemAt, Accepted}
 use Rattle.merge.specs.declared.Lists as DL
-use Rattle.merge.specs.Says.{CutFound}
-use Rattle.cutting.specs.Says.{cutRefusal, uncut, CutSays}
+use Rattle.merge.specs.Says.{halfCount, CutFound}
+use Rattle.cutting.specs.Says.{cutRefusal, uncut, CutListed, CutSays}
 use Rattle.solving.proofs.SolveSteps.{same-problem, objectives-are, variables-are, asked}
 use Rattle.solving.proofs.CopyOut as out
 use Rattle.cutting.proofs.CutRefusals.{cut-open, cut-verdict}
@@ -45,6 +47,22 @@ none-longer true b c h = absurd (false≢true h)
 none-longer false true c h = absurd (false≢true h)
 none-longer false false c h = (refl, refl, sym h)
 
+-- the core's lists are the frontier lists of the problem and of its halves
+cut-listed : (q : Problem) (hs : List ℕ) → hs ≡ coreOf q .ceilings → (ss : List ℕ) (room : ℕ) (w w1 : List ℕ)
+    (l : DL.Lists) → CutFound (coreOf q) hs ss room w w1 l → CutListed q ss room w w1 l
+cut-listed q hs same ss room w w1 l says =
+    let sizes : (k : ℕ) → halfCount k hs (coreOf q) ss ≡ halfSize k q ss =
+    λ k. ap (λ (cs : List ℕ). halfCount k cs (coreOf q) ss) same ∙ ap length (core-half-list k ss q) in
+    let whole : coreFrontier (coreOf q) ≡ frontier q = core-frontier q in
+    record {
+      full = says .full ∙ rw (sizes 0, sizes 1, whole) refl;
+      count = says .count ∙ rw whole refl;
+      first = says .first ∙ rw (sizes 0) refl;
+      second = says .second ∙ rw (sizes 1) refl;
+      list = λ t. says .list t ∙ whole;
+      long = says .long;
+    }
+
 module _ (s : List ℕ) (r : DG.Reading) (a : AcceptedReading s r) (ss w : List ℕ) (none : cutRefusal s ss (length w) .number ≡ 0) where
   abbrev n : ℕ
   n = r .head .variables
@@ -55,15 +73,20 @@ module _ (s : List ℕ) (r : DG.Reading) (a : AcceptedReading s r) (ss w : List 
   abbrev searched : Problem
   searched = problemAt p (r .head .ceilings) (take n (r .sizes)) s (6 + 4 * p + 3 * n) (r .head .tables)
 
-  pub cut-asked : ((i : ℕ) → getD s i 0 < 256) → (room : ℕ) → room ≤ maxPoints → Accepted p (r .head .tables) (6 + 4 * p + 3 * n) room (r .head .ceilings) (take n (r .sizes)) s w × (sidesOk searched ss ≡ true) × (uncrossed ss (searched .tables) ≡ true) × (workNeed ≤ length w)
+  pub cut-asked : ((i : ℕ) → getD s i 0 < 256) → (room : ℕ) → room ≤ maxPoints → Accepted p (r .head .tables) (6 + 4 * p + 3 * n) room (coreCeilings (r .head .ceilings)) (take n (r .sizes)) s w × (sidesOk searched ss ≡ true) × (uncrossed ss (searched .tables) ≡ true) × (workNeed ≤ length w)
   cut-asked bytes room small =
       let free = cut-open s ss (length w) none in
       (asked s r a bytes room w small (free .1), subst (λ (q : Problem). sidesOk q ss ≡ true) (sym (same-problem s r a)) (free .2), subst (λ (q : Problem). uncrossed ss (q .tables) ≡ true) (sym (same-problem s r a)) (free .3), free .1)
 
-  pub cut-found : (room : ℕ) (w1 : List ℕ) (l : DL.Lists) → CutFound searched ss room w w1 l → CutFound (problemOf s) ss room w w1 l
-  cut-found room w1 l says = subst (λ (q : Problem). CutFound q ss room w w1 l) (same-problem s r a) says
+  pub cut-found : (room : ℕ) (w1 : List ℕ) (l : DL.Lists)
+      → CutFound (coreOf searched) (take p (coreCeilings (r .head .ceilings))) ss room w w1 l
+      → CutListed (problemOf s) ss room w w1 l
+  cut-found room w1 l says =
+      subst (λ (q : Problem). CutListed q ss room w w1 l) (same-problem s r a)
+      (cut-listed searched (take p (coreCeilings (r .head .ceilings))) (take-ceilings p (r .head .ceilings)) ss room w w1 l
+      says)
 
-  module _ (c x : List ℕ) (room : ℕ) (room-as : room ≡ min (divided (length c) p) (min (divided (length x) n) maxPoints)) (l : DL.Lists) (w1 : List ℕ) (says : CutFound (problemOf s) ss room w w1 l) where
+  module _ (c x : List ℕ) (room : ℕ) (room-as : room ≡ min (divided (length c) p) (min (divided (length x) n) maxPoints)) (l : DL.Lists) (w1 : List ℕ) (says : CutListed (problemOf s) ss room w w1 l) where
     abbrev q : Problem
     q = problemOf s
 

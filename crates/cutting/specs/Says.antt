@@ -1,14 +1,20 @@
 -- What the cut promises: for every input, what the model's definition of the call says.
 use mathlib.Core.Path.{_≡_}
+use mathlib.Core.Bool.{false, not, _||_}
 use mathlib.Core.List.{List}
 use Prim.Native.Nat.{ℕ}
 use lib.Dec.{ltb}
-use Rattle.model.specs.Basics.{pick}
-use Rattle.model.specs.Limits.{workNeed}
+use lib.ListN.{length}
+use Rattle.model.specs.Basics.{pick, when}
+use Rattle.model.specs.Limits.{maxPoints, workNeed}
 use Rattle.model.specs.Refusals.{workShort, Verdict, verdict, accepted, first}
 use Rattle.model.specs.Reading.{verdictOf, problemOf, placesOf}
-use Rattle.model.specs.Cuts.{linkedVerdict}
+use Rattle.model.specs.Problems.{Problem}
+use Rattle.model.specs.Frontiers.{frontier}
+use Rattle.model.specs.Cuts.{linkedVerdict, halfSize}
 use Rattle.model.specs.Calls.{CutOutcome, sidesVerdict}
+use Rattle.rows.specs.Rows.{listIn}
+use Rattle.merge.specs.declared.Lists as DL
 use Rattle.cutting.specs.declared.Halves as DH
 
 -- what the cut call refuses before it searches, with k numbers of work memory: 1 to 11, 12, 13, and 14 with the place
@@ -22,6 +28,17 @@ cutRefusal s sides k =
 -- a refusal as an answer of the cut call
 abbrev pub uncut : ℕ → ℕ → DH.Halves
 uncut number place = record { number = number; place = place; count = 0; first = 0; second = 0 }
+
+-- the frontier list is in work memory, or it is longer than the room or a half's list longer than a list may be; and
+-- how many points each half has
+pub record CutListed (q : Problem) (sides : List ℕ) (room : ℕ) (work work′ : List ℕ) (f : DL.Lists) : Type 0 where
+  pub full : f .full
+      ≡ (ltb maxPoints (halfSize 0 q sides) || (ltb maxPoints (halfSize 1 q sides) || ltb room (length (frontier q))))
+  pub count : f .count ≡ when (not (f .full)) (length (frontier q))
+  pub first : f .first ≡ when (not (f .full)) (halfSize 0 q sides)
+  pub second : f .second ≡ when (not (f .full)) (halfSize 1 q sides)
+  pub list : f .full ≡ false → listIn (q .objectives) (length (q .domains)) work′ 0 (f .count) ≡ frontier q
+  pub long : length work′ ≡ length work
 
 -- the cut call: its answer with how many points each half has, and the three lent buffers on exit
 pub record CutSays (o : CutOutcome) (costs′ choices′ work′ : List ℕ) (r : DH.Halves) : Type 0 where

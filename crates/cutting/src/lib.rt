@@ -6,8 +6,7 @@ ghost use Rattle.model.specs.Limits.{maxPoints};
 ghost use Rattle.model.specs.Reading.{problemOf};
 ghost use Rattle.model.specs.Calls.{cutOutcome};
 ghost use Rattle.problem.specs.Says.{RefusalSays, ReadSays};
-ghost use Rattle.merge.specs.Says.{CutFound};
-ghost use Rattle.cutting.specs.Says.{cutRefusal, uncut, CutSays};
+ghost use Rattle.cutting.specs.Says.{cutRefusal, uncut, CutListed, CutSays};
 
 // What the cut call answers: a refusal's number and place,
 // or 0 and 0 with the count of points and how many each half has.
@@ -74,7 +73,7 @@ fn cut_rows(
 ) -> merge::Lists
     requires { ⌜ ReadSays (now problem) g × (cutRefusal (now problem) (now sides) (length (now work)) .number ≡ 0)
         × (room ≤ maxPoints) ⌝ }
-    ensures { λ f. ⌜ CutFound (problemOf (now (problem .entry))) (now (sides .entry)) room
+    ensures { λ f. ⌜ CutListed (problemOf (now (problem .entry))) (now (sides .entry)) room
         (now (work .entry)) (now (work .exit)) f ⌝ }
 {
     let head = g.head;

@@ -55,7 +55,7 @@ module _
         planned = subst (λ (l : List ℕ). Planned d r ds s l) (sym (k .plan)) (h .planned);
         objectives = h .objectives;
         some-variable = h .some-variable;
-        words = h .words;
+        limited = h .limited;
         room-small = h .room-small;
         long = omega (arith, h .long, k .long);
       }

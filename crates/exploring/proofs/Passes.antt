@@ -15,12 +15,12 @@ use Rattle.model.specs.Basics.{All}
 use Rattle.model.specs.Limits.{maxVariables, byteEnd, wordEnd}
 use Rattle.model.specs.Problems.{Problem, Word}
 use Rattle.model.specs.Frontiers.{Point, sorted}
-use Rattle.model.specs.Core.{coreFrontier, CoreReached}
+use Rattle.model.specs.Core.{WordCeiling, coreFrontier, CoreReached}
 use Rattle.model.specs.Archive.{weighted, Distinct}
 use Rattle.model.proofs.Bits.{true-false}
 use Rattle.model.proofs.Elements.{all-take, all-drop}
-use Rattle.model.proofs.Frontier.{reached-width, reached-length, under-words}
-use Rattle.model.proofs.Core.{core-under}
+use Rattle.model.proofs.Frontier.{reached-width, reached-length}
+use Rattle.model.proofs.Core.{core-under, under-ceilings}
 use Rattle.model.proofs.Weighted.{weighted-limit}
 use Rattle.model.proofs.Archive.{archive-start, archived-wide}
 use Rattle.model.proofs.ArchiveEnd.{archive-frontier, archive-full}
@@ -161,9 +161,9 @@ module _ {d : DD.Directions} {task : DT.Task} {ds s work : List ℕ} (h : Ready 
         let p = d .objectives in
         let wide : length (y .costs) ≡ p = reached-width problem y m in
         let long = wide ∙ sym (length-take-le p (task .ceilings) four) in
-        let limits = all-take Word p (task .ceilings) (h .words) in
+        let limits = all-take WordCeiling p (task .ceilings) (h .limited) in
         let words : All Word (y .costs) =
-        under-words (y .costs) (take p (task .ceilings)) long (core-under problem y m) limits in
+        under-ceilings (y .costs) (take p (task .ceilings)) long (core-under problem y m) limits in
         let small = all-drop (λ w. w ≤ maxWeight) (4 * 0) (d .weights) (sensible .small) in
         let weights : All (λ w. w ≤ maxWeight) (leadWeights d) =
         all-take (λ w. w ≤ maxWeight) p (drop (4 * 0) (d .weights)) small in

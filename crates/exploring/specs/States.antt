@@ -8,10 +8,10 @@ use lib.Dec.{ltb}
 use lib.ListN.{length, getD, take, drop, set}
 use Rattle.model.specs.Basics.{All, when}
 use Rattle.model.specs.Limits.{maxPoints}
-use Rattle.model.specs.Problems.{Problem, Word}
+use Rattle.model.specs.Problems.{Problem}
 use Rattle.model.specs.Costs.{isChoice}
 use Rattle.model.specs.Frontiers.{Point}
-use Rattle.model.specs.Core.{CoreReached}
+use Rattle.model.specs.Core.{WordCeiling, CoreReached}
 use Rattle.model.specs.Archive.{Covered, Archived, Distinct, Follows, Zoned}
 use Rattle.groups.specs.Layout.{listEnd}
 use Rattle.rows.specs.Rows.{listIn}
@@ -61,7 +61,7 @@ pub record Ready (d : DD.Directions) (task : DT.Task) (ds s work : List ℕ) : T
   pub planned : Planned d (task .records) ds s (planIn work)
   pub objectives : d .objectives ≡ task .objectives
   pub some-variable : 1 ≤ length ds
-  pub words : All Word (task .ceilings)
+  pub limited : All WordCeiling (task .ceilings)
   pub room-small : task .room ≤ maxPoints
   pub long : listEnd + numbersAt ≤ length work
 

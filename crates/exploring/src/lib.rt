@@ -5,8 +5,7 @@ ghost use Prim.Native.Nat.{ℕ, _+_, _<_, _≤_};
 ghost use lib.ListN.{length};
 ghost use Rattle.model.specs.Basics.{All};
 ghost use Rattle.model.specs.Limits.{maxVariables, maxDomain, maxPoints};
-ghost use Rattle.model.specs.Problems.{Word};
-ghost use Rattle.model.specs.Core.{coreFrontier};
+ghost use Rattle.model.specs.Core.{WordCeiling, coreFrontier};
 ghost use Rattle.groups.specs.Layout.{listEnd};
 ghost use Rattle.directions.specs.Directions.{Sensible};
 ghost use Rattle.zones.specs.Zones.{Measured};
@@ -130,7 +129,7 @@ fn split_all(c: usize, m: usize, d: directions::Directions, work: &mut [u32]) ->
 // The zones at the start of a pass: all that is under the ceilings and that no archived point matches. How many there
 // are.
 fn start_zones(c: usize, ceilings: [u64; 4], d: directions::Directions, work: &mut [u32]) -> usize
-    requires { ⌜ Sensible d × (listEnd ≤ length (now work)) × (c ≤ maxPoints + 1) × All Word ceilings ⌝ }
+    requires { ⌜ Sensible d × (listEnd ≤ length (now work)) × (c ≤ maxPoints + 1) × All WordCeiling ceilings ⌝ }
     ensures { λ m. ⌜ ZonesWritten d (now (work .entry)) (now (work .exit)) m
         × ZonesHold d c ceilings (now (work .entry)) (now (work .exit)) m ⌝ }
 {

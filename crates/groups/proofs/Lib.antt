@@ -5,6 +5,7 @@ pub mod Overwritten
 pub mod Keeping
 pub mod Adding
 pub mod PlacedRecords
+pub mod SumLimits
 pub mod GroupLengths
 pub mod Grouping
 pub mod Tasks

@@ -6,7 +6,8 @@ use native.Mathlib.Omega.{arith}
 use native.Mathlib.Nat.{zero-add}
 use lib.ListN.{length, getD, set, take, drop, replicate, length-set}
 use Rattle.model.specs.Basics.{All}
-use Rattle.model.specs.Limits.{maxTables, maxObjectives, wordEnd}
+use Rattle.model.specs.Limits.{maxTables, maxObjectives}
+use Rattle.model.specs.Core.{entryEnd}
 use Rattle.model.specs.Problems.{Table}
 use Rattle.model.specs.Reading.{tableObjective, tableOf}
 use Rattle.model.specs.Vectors.{added}
@@ -14,6 +15,7 @@ use Rattle.model.specs.Costs.{totalsFrom}
 use Rattle.model.proofs.Elements.{all-at, all-map}
 use Rattle.problem.specs.Records.{Whole}
 use Rattle.problem.proofs.Behind.{take-cons}
+use Rattle.costs.specs.Entries.{tableAt}
 use Rattle.costs.proofs.SumSteps.{all-set, added-zeros, added-none, added-next}
 use Rattle.groups.specs.Groups.{tablesOver}
 
@@ -33,7 +35,7 @@ pub record SummingOver (f : Table → ℕ) (ds s work : List ℕ) (from to : ℕ
   pub inside : to ≤ length work
   pub few : to - from ≤ maxTables
   pub four : length sums ≡ maxObjectives
-  pub small : All (λ x. x ≤ wordEnd * (i - from)) sums
+  pub small : All (λ x. x ≤ entryEnd * (i - from)) sums
   pub whole : All (Whole ds s) (left work i to)
   pub rest : added sums (totalsFrom maxObjectives 0 f (tablesOver ds s (left work i to))) ≡ totalsFrom maxObjectives 0 f (tablesOver ds s (left work from to))
 
@@ -51,8 +53,8 @@ sums-start f ds s work from to h l few w =
     }
 
 module _ {f : Table → ℕ} {ds s work : List ℕ} {from to : ℕ} {sums : List ℕ} {i : ℕ} (u : SummingOver f ds s work from to sums i) where
-  pub sums-small : (o : ℕ) → getD sums o 0 ≤ wordEnd * maxTables
-  sums-small o = omega (arith, u .behind, u .before, u .few, all-at (λ x. x ≤ wordEnd * (i - from)) sums (u .small) o 0 (omega arith))
+  pub sums-small : (o : ℕ) → getD sums o 0 ≤ entryEnd * maxTables
+  sums-small o = omega (arith, u .behind, u .before, u .few, all-at (λ x. x ≤ entryEnd * (i - from)) sums (u .small) o 0 (omega arith))
 
   pub sums-end : to ≤ i → sums ≡ totalsFrom maxObjectives 0 f (tablesOver ds s (left work from to))
   unfolding tablesOver
@@ -67,13 +69,13 @@ module _ {f : Table → ℕ} {ds s work : List ℕ} {from to : ℕ} {sums : List
     pub place-whole : Whole ds s (getD work i 0)
     place-whole = (rw step at (u .whole)) .0
 
-    pub sums-next : (o cost : ℕ) → o ≡ tableObjective (drop (getD work i 0) s) → cost ≡ f (tableOf ds (drop (getD work i 0) s)) → cost < wordEnd → SummingOver f ds s work from to (set sums o (getD sums o 0 + cost)) (i + 1)
+    pub sums-next : (o cost : ℕ) → o ≡ tableObjective (drop (getD work i 0) s) → cost ≡ f (tableAt ds s (getD work i 0)) → cost < entryEnd → SummingOver f ds s work from to (set sums o (getD sums o 0 + cost)) (i + 1)
     unfolding tableOf tablesOver
     sums-next o cost own is word =
-        let t = tableOf ds (drop (getD work i 0) s) in
+        let t = tableAt ds s (getD work i 0) in
         let next = tablesOver ds s (left work (i + 1) to) in
-        let more-small : (x : ℕ) → x ≤ wordEnd * (i - from) → x ≤ wordEnd * (i + 1 - from) = λ x h. omega arith in
-        let o-small = all-at (λ x. x ≤ wordEnd * (i - from)) sums (u .small) o 0 (omega arith) in
+        let more-small : (x : ℕ) → x ≤ entryEnd * (i - from) → x ≤ entryEnd * (i + 1 - from) = λ x h. omega arith in
+        let o-small = all-at (λ x. x ≤ entryEnd * (i - from)) sums (u .small) o 0 (omega arith) in
         let inner : o < maxObjectives = rw own (place-whole .owner) in
         let sum : added (set sums o (getD sums o 0 + cost)) (totalsFrom maxObjectives 0 f next) ≡ added sums (totalsFrom maxObjectives 0 f (t ∷ next)) = rw is (added-next f t next maxObjectives 0 o sums (u .four) inner (sym own ∙ sym (zero-add o))) in
         record {

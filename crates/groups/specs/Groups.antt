@@ -8,8 +8,9 @@ use lib.ListN.{length, getD, take, drop}
 use Rattle.model.specs.Basics.{All, keepIf}
 use Rattle.model.specs.Limits.{maxTables, maxVariables}
 use Rattle.model.specs.Problems.{Table, DomainSize}
-use Rattle.model.specs.Reading.{tableScope, tableOf}
+use Rattle.model.specs.Reading.{tableScope}
 use Rattle.problem.specs.Records.{Whole}
+use Rattle.costs.specs.Entries.{tableAt}
 use Rattle.groups.specs.Layout.{groupsAt, recordsAt, searchEnd}
 
 unfoldable pub hasVariable : ℕ → List ℕ → Bool
@@ -21,10 +22,10 @@ unfoldable pub groupOf : List ℕ → ℕ → List ℕ → List ℕ
 groupOf s v [] = []
 groupOf s v (at ∷ places) = keepIf (hasVariable v (tableScope (drop at s))) at (groupOf s v places)
 
--- the tables of the records at some places
+-- the tables of the records at some places, as the core has them
 unfoldable pub tablesOver : List ℕ → List ℕ → List ℕ → List Table
 tablesOver ds s [] = []
-tablesOver ds s (at ∷ places) = tableOf ds (drop at s) ∷ tablesOver ds s places
+tablesOver ds s (at ∷ places) = tableAt ds s at ∷ tablesOver ds s places
 
 -- the places of r records in work memory
 abbrev pub placesIn : List ℕ → ℕ → List ℕ

@@ -1,10 +1,11 @@
--- A problem by the places of its records in work memory: what both forms of the search start from.
+-- A problem of the core by the places of its records in work memory: what both forms of the search start from.
 use mathlib.Core.List.{List}
 use Prim.Native.Nat.{ℕ, _≤_}
 use lib.ListN.{length, take, drop}
 use Rattle.model.specs.Basics.{All}
 use Rattle.model.specs.Limits.{maxObjectives, maxTables, maxVariables}
-use Rattle.model.specs.Problems.{Problem, Word, DomainSize}
+use Rattle.model.specs.Problems.{Problem, DomainSize}
+use Rattle.model.specs.Core.{Ceiling}
 use Rattle.problem.specs.Records.{Whole}
 use Rattle.groups.specs.Layout.{sourceAt, searchEnd}
 use Rattle.groups.specs.Groups.{tablesOver}
@@ -24,5 +25,5 @@ pub record Source (p r : ℕ) (ceilings ds s work : List ℕ) : Type 0 where
   pub small : All DomainSize ds
   pub variables : length ds ≤ maxVariables
   pub objectives : p ≤ maxObjectives
-  pub words : All Word ceilings
+  pub limited : All Ceiling ceilings
   pub long : searchEnd ≤ length work

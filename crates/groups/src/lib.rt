@@ -109,7 +109,7 @@ pub fn bounds_over(
     while i < to {
         let at = work[i] as usize;
         let o = s[at + 2] as usize;
-        sums[o] = sums[o] + (costs::least_at(s, at, sizes, prefix) as u64);
+        sums[o] = sums[o] + costs::least_at(s, at, sizes, prefix);
         i += 1;
     }
     sums

@@ -9,7 +9,7 @@ use Rattle.model.specs.Basics.{All}
 use Rattle.model.specs.Limits.{maxPoints, maxTables}
 use Rattle.model.specs.Problems.{DomainSize}
 use Rattle.model.specs.Frontiers.{Point}
-use Rattle.model.specs.Core.{coreFrontier}
+use Rattle.model.specs.Core.{WordCeiling, coreFrontier}
 use Rattle.model.proofs.Bits.{true-false}
 use Rattle.problem.specs.Records.{Whole}
 use Rattle.groups.specs.Layout.{sourceAt}
@@ -54,7 +54,7 @@ module _ {p r : ℕ} {ceilings ds s work : List ℕ} (source : Source p r ceilin
           small = source .small;
           variables = source .variables;
           objectives = source .objectives;
-          words = source .words;
+          limited = source .limited;
           long = omega (arith, kept .long, source .long);
         }
 
@@ -69,14 +69,15 @@ module _ {p r : ℕ} {ceilings ds s work : List ℕ} (source : Source p r ceilin
       abbrev task : DT.Task
       task = record { records = r; objectives = p; ceilings = ceilings; room = room }
 
-      pub plan-ready : PlanSays d r ds s work work′ → 1 ≤ length ds → Ready d task ds s work′
-      plan-ready says some =
+      pub plan-ready : PlanSays d r ds s work work′ → 1 ≤ length ds → All WordCeiling ceilings
+          → Ready d task ds s work′
+      plan-ready says some short =
           record {
             sound = says .sound;
             planned = says .planned;
             objectives = same;
             some-variable = some;
-            words = source .words;
+            limited = short;
             room-small = small;
             long = omega (arith, kept .long, source .long);
           }

@@ -7,10 +7,12 @@ use lib.ListN.{length, take, drop, length-drop}
 use lib.Seq.{take-all, drop-drop, drop-length}
 use Rattle.model.specs.Basics.{All}
 use Rattle.model.specs.Limits.{maxObjectives}
-use Rattle.model.specs.Core.{coreFrontier}
+use Rattle.model.specs.Core.{coreTables, coreCeilings, coreOf, coreFrontier}
 use Rattle.model.specs.Reading.{tableLength, tableOf, tablesAt, placesAt}
+use Rattle.model.proofs.Core.{take-ceilings}
 use Rattle.model.specs.Calls.{over as filled}
 use Rattle.problem.specs.Records.{Whole, AllWhole}
+use Rattle.costs.specs.Entries.{tableAt}
 use Rattle.groups.specs.Layout.{sourceAt}
 use Rattle.groups.specs.Groups.{tablesOver}
 use Rattle.groups.proofs.Overwritten.{over, over-length, over-here}
@@ -31,13 +33,14 @@ module _ (ds s : List ℕ) where
   places-whole zero at h = tt
   places-whole (suc r) at h = (h .0, places-whole r (at + tableLength ds (drop at s)) (h .1))
 
-  pub places-tables : (r at : ℕ) → tablesOver ds s (placesAt r ds s at) ≡ tablesAt r ds s at
-  unfolding placesAt tablesAt tablesOver
+  pub places-tables : (r at : ℕ) → tablesOver ds s (placesAt r ds s at) ≡ coreTables (tablesAt r ds s at)
+  unfolding placesAt tablesAt tablesOver coreTables
   places-tables zero at = refl
-  places-tables (suc r) at = ap (_∷_ (tableOf ds (drop at s))) (places-tables r (at + tableLength ds (drop at s)))
+  places-tables (suc r) at = ap (_∷_ (tableAt ds s at)) (places-tables r (at + tableLength ds (drop at s)))
 
-  pub places-owners : (r at : ℕ) → AllWhole r ds s at → All (λ t. t .objective < maxObjectives) (tablesAt r ds s at)
-  unfolding tablesAt tableOf
+  pub places-owners : (r at : ℕ) → AllWhole r ds s at
+      → All (λ t. t .objective < maxObjectives) (coreTables (tablesAt r ds s at))
+  unfolding tablesAt tableOf coreTables
   places-owners zero at h = tt
   places-owners (suc r) at h = (h .0 .owner, places-owners r (at + tableLength ds (drop at s)) (h .1))
 
@@ -70,7 +73,7 @@ module _ (r at : ℕ) (ds s work : List ℕ) (from : ℕ) (inside : from + r ≤
   written-length = rw written-over (over-length work from places (from + r) ends inside)
 
 -- they are kept as the problem's records
-module _ (p r at room : ℕ) (ceilings ds s work : List ℕ) (a : Accepted p r at room ceilings ds s work) (kept : List ℕ) (says : kept ≡ filled (placesAt r ds s at) (behindAt work sourceAt)) (wide : List ℕ) (same : wide ≡ ceilings) where
+module _ (p r at room : ℕ) (ceilings ds s work : List ℕ) (a : Accepted p r at room (coreCeilings ceilings) ds s work) (kept : List ℕ) (says : kept ≡ filled (placesAt r ds s at) (behindAt work sourceAt)) (wide : List ℕ) (same : wide ≡ coreCeilings ceilings) where
   inside : sourceAt + r ≤ length work
   inside = omega (arith, a .tables, a .memory)
 
@@ -85,11 +88,12 @@ module _ (p r at room : ℕ) (ceilings ds s work : List ℕ) (a : Accepted p r a
         small = a .small;
         variables = a .variables;
         objectives = a .objectives;
-        words = rw same (a .words);
+        limited = rw same (a .limited);
         long = omega (arith, written-length r at ds s work sourceAt inside kept says, a .memory);
       }
 
-  pub kept-says : (work′ : List ℕ) (f : DF.Found) → FoundSays p (length ds) (coreFrontier (sourceProblem p r wide ds s after)) room after work′ f → FoundSays p (length ds) (coreFrontier (problemAt p ceilings ds s at r)) room work work′ f
+  pub kept-says : (work′ : List ℕ) (f : DF.Found) → FoundSays p (length ds) (coreFrontier (sourceProblem p r wide ds s after)) room after work′ f → FoundSays p (length ds) (coreFrontier (coreOf (problemAt p ceilings ds s at r))) room work work′ f
   kept-says work′ f =
-      let q : sourceProblem p r wide ds s after ≡ problemAt p ceilings ds s at r = rw (same, written-places r at ds s work sourceAt inside kept says, places-tables ds s r at) in
+      let q : sourceProblem p r wide ds s after ≡ coreOf (problemAt p ceilings ds s at r) =
+      rw (same, written-places r at ds s work sourceAt inside kept says, places-tables ds s r at, take-ceilings p ceilings) in
       says-since (written-length r at ds s work sourceAt inside kept says) (ap coreFrontier q)

@@ -7,7 +7,8 @@ use lib.Dec.{ltb}
 use lib.ListN.{length, take}
 use Rattle.model.specs.Basics.{All, when}
 use Rattle.model.specs.Limits.{maxBytes, maxObjectives, maxTables, maxVariables, maxPoints}
-use Rattle.model.specs.Problems.{Problem, Word, DomainSize}
+use Rattle.model.specs.Problems.{Problem, DomainSize}
+use Rattle.model.specs.Core.{Ceiling, coreTables}
 use Rattle.model.specs.Reading.{tablesAt}
 use Rattle.model.specs.Frontiers.{Point}
 use Rattle.problem.specs.Records.{Whole, AllWhole}
@@ -25,7 +26,12 @@ abbrev pub problemAt : ℕ → List ℕ → List ℕ → List ℕ → ℕ → �
 problemAt p ceilings ds s at r =
     record { objectives = p; ceilings = take p ceilings; domains = ds; tables = tablesAt r ds s at }
 
--- what is asked for: accepted records, and work memory
+-- as the core has it, with ceilings of the core
+abbrev pub coreAt : ℕ → List ℕ → List ℕ → List ℕ → ℕ → ℕ → Problem
+coreAt p ceilings ds s at r =
+    record { objectives = p; ceilings = take p ceilings; domains = ds; tables = coreTables (tablesAt r ds s at) }
+
+-- what is asked for: accepted records, ceilings of the core, and work memory
 pub record Accepted (p r at room : ℕ) (ceilings ds s work : List ℕ) : Type 0 where
   pub whole : AllWhole r ds s at
   pub small : All DomainSize ds
@@ -33,7 +39,7 @@ pub record Accepted (p r at room : ℕ) (ceilings ds s work : List ℕ) : Type 0
   pub objectives : p ≤ maxObjectives
   pub tables : r ≤ maxTables
   pub bytes : length s ≤ maxBytes
-  pub words : All Word ceilings
+  pub limited : All Ceiling ceilings
   pub room-small : room ≤ maxPoints
   pub memory : searchEnd ≤ length work
 

@@ -3,27 +3,47 @@ ghost use mathlib.Core.Path.{_≡_};
 ghost use mathlib.Core.Bool.{true, false};
 ghost use Prim.Native.Nat.{_≤_};
 ghost use lib.ListN.{length};
+ghost use Rattle.model.specs.Basics.{All};
 ghost use Rattle.model.specs.Limits.{maxPoints};
-ghost use Rattle.model.specs.Core.{coreFrontier};
+ghost use Rattle.model.specs.Core.{WordCeiling, coreCeiling, coreCeilings, coreOf, coreFrontier};
 ghost use Rattle.model.specs.Views.{view};
 ghost use Rattle.groups.specs.Sources.{Source, sourceProblem};
 ghost use Rattle.passes.specs.Says.{FoundSays};
 ghost use Rattle.directions.specs.Directions.{Sensible};
-ghost use Rattle.listing.specs.Says.{problemAt, Accepted, Plannable, Kept, PlanSays, SecondSays};
+ghost use Rattle.listing.specs.Says.{problemAt, coreAt, Accepted, Plannable, Kept, PlanSays, SecondSays};
 
 // A search may change all of work memory up to here.
 pub const SEARCH_END: usize = 6361;
 
-// The ceilings in eight bytes each, as the sums are.
+// The core's ceiling, which a cost stays below, in eight bytes as the sums are.
+fn wide(ceiling: u32) -> u64
+    ensures { λ w. ⌜ w ≡ coreCeiling ceiling ⌝ }
+{
+    ceiling as u64
+}
+
+// The core's ceilings.
 pub fn widened(ceilings: [u32; 4]) -> [u64; 4]
-    ensures { λ wide. ⌜ wide ≡ ceilings ⌝ }
+    ensures { λ r. ⌜ r ≡ coreCeilings ceilings ⌝ }
 {
     [
-        ceilings[0] as u64,
-        ceilings[1] as u64,
-        ceilings[2] as u64,
-        ceilings[3] as u64,
+        wide(ceilings[0]),
+        wide(ceilings[1]),
+        wide(ceilings[2]),
+        wide(ceilings[3]),
     ]
+}
+
+// Whether each ceiling is at most one more than a number of four bytes: what is below it fits the second form.
+fn are_short(ceilings: [u64; 4]) -> bool
+    ensures { λ b. ⌜ b ≡ true → All WordCeiling ceilings ⌝ }
+{
+    let low = directions::larger(ceilings[0], ceilings[1]);
+    let high = directions::larger(ceilings[2], ceilings[3]);
+    if 4294967296 < directions::larger(low, high) {
+        return false;
+    }
+    true
 }
 
 // Plans the search of the `r` records whose places stand where a problem's records are,
@@ -55,7 +75,8 @@ fn given_up() -> exploring::Explored
     }
 }
 
-// The second form of the search. It gives up where there is nothing to plan or a plan fails its test.
+// The second form of the search. It gives up where there is nothing to plan, where a ceiling is too large for it, or
+// where a plan fails its test.
 fn explore_source(
     s: &[u8],
     sizes: &[u8],
@@ -76,6 +97,9 @@ fn explore_source(
         return given_up();
     }
     if p == 0 {
+        return given_up();
+    }
+    if !are_short(ceilings) {
         return given_up();
     }
     let apart = spreads::spreads_of(s, sizes, r, ceilings, &work[groups::SOURCE_AT..]);
@@ -135,17 +159,17 @@ pub fn find_list(
     by_passes: bool,
     work: &mut [u32],
 ) -> passes::Found
-    requires { ⌜ Accepted p r at room ceilings (now sizes) (now s) (now work) ⌝ }
+    requires { ⌜ Accepted p r at room (coreCeilings ceilings) (now sizes) (now s) (now work) ⌝ }
     ensures { λ f. ⌜ FoundSays p (length (now (sizes .entry)))
-        (coreFrontier (problemAt p ceilings (now (sizes .entry)) (now (s .entry)) at r))
+        (coreFrontier (coreOf (problemAt p ceilings (now (sizes .entry)) (now (s .entry)) at r)))
         room (now (work .entry)) (now (work .exit)) f ⌝ }
 {
     problem::keep_places(s, at, r, sizes, &mut work[groups::SOURCE_AT..]);
-    let wide = widened(ceilings);
-    find_source(s, sizes, r as usize, p, wide, room, by_passes, work)
+    find_source(s, sizes, r as usize, p, widened(ceilings), room, by_passes, work)
 }
 
-// The frontier list of one half, in work memory: the records on the side, over the domain sizes that it leaves.
+// The frontier list of one half, in work memory: the records on the side, over the domain sizes that it leaves, under
+// the half's own ceilings.
 pub fn find_half(
     s: &[u8],
     at: usize,
@@ -154,13 +178,13 @@ pub fn find_half(
     sides: &[u8],
     side: u8,
     p: usize,
-    ceilings: [u32; 4],
+    ceilings: [u64; 4],
     work: &mut [u32],
 ) -> passes::Found
     requires { ⌜ Accepted p r at maxPoints ceilings (now sizes) (now s) (now work)
         × (length (now sides) ≡ length (now sizes)) ⌝ }
     ensures { λ f. ⌜ FoundSays p (length (now (sizes .entry)))
-        (coreFrontier (view side (problemAt p ceilings (now (sizes .entry)) (now (s .entry)) at r) (now (sides .entry))))
+        (coreFrontier (view side (coreAt p ceilings (now (sizes .entry)) (now (s .entry)) at r) (now (sides .entry))))
         maxPoints (now (work .entry)) (now (work .exit)) f ⌝ }
 {
     problem::keep_places(s, at, r, sizes, &mut work[groups::RECORDS_AT..]);
@@ -178,6 +202,5 @@ pub fn find_half(
         work,
     );
     let n = sizes.len();
-    let wide = widened(ceilings);
-    find_source(s, &narrow[..n], count, p, wide, 64, false, work)
+    find_source(s, &narrow[..n], count, p, ceilings, 64, false, work)
 }

@@ -4,14 +4,14 @@ ghost use mathlib.Core.Bool.{true};
 ghost use Prim.Native.Nat.{_≤_};
 ghost use lib.ListN.{length};
 ghost use Rattle.model.specs.Limits.{maxPoints, workNeed};
-ghost use Rattle.model.specs.Core.{coreFrontier};
+ghost use Rattle.model.specs.Core.{coreCeilings, coreOf, coreFrontier};
 ghost use Rattle.model.specs.Cuts.{sidesOk, uncrossed};
 ghost use Rattle.model.specs.Views.{view};
-ghost use Rattle.listing.specs.Says.{problemAt, Accepted};
+ghost use Rattle.listing.specs.Says.{problemAt, coreAt, Accepted};
 ghost use Rattle.sums.specs.Sums.{firstRow, secondRow};
 ghost use Rattle.merge.specs.Says.{KeptSays, noLists, CutFound};
 
-// Finds the list of one half and keeps it from the row `row` on.
+// Finds the list of one half, under its ceilings, and keeps it from the row `row` on.
 fn keep_half(
     s: &[u8],
     at: usize,
@@ -20,7 +20,7 @@ fn keep_half(
     sides: &[u8],
     side: u8,
     p: usize,
-    ceilings: [u32; 4],
+    ceilings: [u64; 4],
     row: usize,
     work: &mut [u32],
 ) -> passes::Found
@@ -28,7 +28,7 @@ fn keep_half(
         × (length (now sides) ≡ length (now sizes)) × (secondRow ≤ row) × (row ≤ firstRow)
         × (workNeed ≤ length (now work)) ⌝ }
     ensures { λ f. ⌜ KeptSays p (length (now (sizes .entry)))
-        (coreFrontier (view side (problemAt p ceilings (now (sizes .entry)) (now (s .entry)) at r) (now (sides .entry))))
+        (coreFrontier (view side (coreAt p ceilings (now (sizes .entry)) (now (s .entry)) at r) (now (sides .entry))))
         row (now (work .entry)) (now (work .exit)) f ⌝ }
 {
     let found = listing::find_half(
@@ -78,13 +78,14 @@ pub fn cut_lists(
     room: usize,
     work: &mut [u32],
 ) -> Lists
-    requires { ⌜ Accepted p r at room ceilings (now sizes) (now s) (now work)
+    requires { ⌜ Accepted p r at room (coreCeilings ceilings) (now sizes) (now s) (now work)
         × (sidesOk (problemAt p ceilings (now sizes) (now s) at r) (now sides) ≡ true)
         × (uncrossed (now sides) (problemAt p ceilings (now sizes) (now s) at r .tables) ≡ true)
         × (workNeed ≤ length (now work)) ⌝ }
-    ensures { λ f. ⌜ CutFound (problemAt p ceilings (now (sizes .entry)) (now (s .entry)) at r) (now (sides .entry))
-        room (now (work .entry)) (now (work .exit)) f ⌝ }
+    ensures { λ f. ⌜ CutFound (coreOf (problemAt p ceilings (now (sizes .entry)) (now (s .entry)) at r))
+        (take p (coreCeilings ceilings)) (now (sides .entry)) room (now (work .entry)) (now (work .exit)) f ⌝ }
 {
+    let wide = listing::widened(ceilings);
     let first = keep_half(
         s,
         at,
@@ -93,7 +94,7 @@ pub fn cut_lists(
         sides,
         0,
         p,
-        ceilings,
+        wide,
         sums::FIRST_ROW,
         work,
     );
@@ -108,7 +109,7 @@ pub fn cut_lists(
         sides,
         1,
         p,
-        ceilings,
+        wide,
         sums::SECOND_ROW,
         work,
     );
@@ -116,7 +117,6 @@ pub fn cut_lists(
         return no_lists();
     }
     let n = sizes.len();
-    let wide = listing::widened(ceilings);
     let merged = sums::merge_points(first.count, second.count, n, p, wide, room, work);
     if merged.full {
         return no_lists();

@@ -16,7 +16,7 @@ use Rattle.model.specs.Frontiers.{consistent, Point, frontier}
 use Rattle.model.specs.Bounds.{leastTo, leastFrom, leastOf}
 use Rattle.model.specs.Cuts.{sidesOk, crosses, uncrossed, inHalf, halfTable, halfTables, half}
 use Rattle.model.specs.Cuts.{pairOf, pairsWith, allPairs}
-use Rattle.model.specs.Core.{entryEnd, coreSumEnd, Ceiling, entry, plain, weighed, coreTable, coreTables}
+use Rattle.model.specs.Core.{entryEnd, coreSumEnd, Ceiling, WordCeiling, entry, plain, weighed, coreTable, coreTables}
 use Rattle.model.specs.Core.{coreCeiling, coreCeilings, coreOf, coreConsistent, coreFrontier, CoreReached}
 use Rattle.model.proofs.Bits.{and-left, and-right}
 use Rattle.model.proofs.Elements.{all-at}
@@ -161,8 +161,9 @@ pub core-under : (q : Problem) (p : Point) → CoreReached q p → under (p .cos
 unfolding coreConsistent
 core-under q p h = subst (λ (c : List ℕ). under c (q .ceilings) ≡ true) (sym (h .exact)) (h .allowed)
 
--- and has four bytes
-pub under-ceilings : (xs cs : List ℕ) → length xs ≡ length cs → under xs cs ≡ true → All Ceiling cs → All Word xs
+-- what is below ceilings of the second form has four bytes
+pub under-ceilings : (xs cs : List ℕ) → length xs ≡ length cs → under xs cs ≡ true → All WordCeiling cs
+    → All Word xs
 unfolding under
 under-ceilings [] cs e u w = tt
 under-ceilings (x ∷ xs) [] e u w = absurd (omega arith)

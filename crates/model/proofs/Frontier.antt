@@ -13,7 +13,8 @@ use Rattle.model.specs.Basics.{All}
 use Rattle.model.specs.Problems.{Problem, Word, RecordRules}
 use Rattle.model.specs.Vectors.{under, beats}
 use Rattle.model.specs.Costs.{isChoice, costOf, costsOf}
-use Rattle.model.specs.Frontiers.{consistent, Point, point, best, choices, pointsBy, frontierBy, frontier, ReachedBy, Reached, Is-frontier}
+use Rattle.model.specs.Frontiers.{consistent, Point, point, best, choices, pointsBy, frontierBy, frontier}
+use Rattle.model.specs.Frontiers.{ReachedBy, Reached, Is-frontier}
 use Rattle.model.proofs.Bits.{not-true-false, and-left, and-right}
 use Rattle.model.proofs.Vectors.{at-most-true, at-most-test, at-most-refl, beats-true, beats-false, not-earlier, later-false}
 use Rattle.model.proofs.Points.{rising-true, rising-test}
@@ -50,7 +51,8 @@ module _ {test : List ℕ → Bool} (q : Problem) where
   reached-all : (p : Point) → ReachedBy test q p → In p (allBy test q)
   reached-all p h =
       subst (λ (c : List ℕ). In (point c (p .choice)) (allBy test q)) (sym (h .exact))
-      (points-in test q (choices (q .domains)) (p .choice) (in-choices (q .domains) (p .choice) (h .complete)) (h .allowed))
+      (points-in test q (choices (q .domains)) (p .choice) (in-choices (q .domains) (p .choice) (h .complete))
+      (h .allowed))
 
   pub frontier-best : Best (ReachedBy test q) (frontierBy test q)
   unfolding frontierBy

@@ -132,10 +132,6 @@ module _ (q : Problem) (o k : ℕ) where
         gain-none q o k y c,
       )
 
-  pub gain-limit : (skip : List Point → List ℕ → Held → Bool) → Sound (suffixOf q o k) skip → gainOf q o k (pass (suffixOf q o k) skip []) ≤ getD (q .ceilings) o 0
-  unfolding gainOf
-  gain-limit skip sound = omega (arith, held-limit (pass part skip []) (held skip sound))
-
 -- the gains that are known of later variables are gains of the suffix problem
 pub suffix-gains : (q : Problem) (o k : ℕ) (gains : ℕ → List ℕ) → All (λ d. 1 ≤ d) (q .domains) → k ≤ length (q .domains) → ((j : ℕ) → j ≤ length (q .domains) → length (gains j) ≡ suc o) → ((i j : ℕ) → i < o → j ≤ length (q .domains) → getD (gains j) i 0 ≡ 0) → ((j : ℕ) → j ≤ k → getD (gains j) o 0 ≡ 0) → ((j : ℕ) → k < j → j ≤ length (q .domains) → Gain q o j (getD (gains j) o 0)) → Gains (suffixOf q o k) gains
 unfolding suffixOf

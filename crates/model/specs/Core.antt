@@ -1,5 +1,5 @@
--- The problem that the search works on: natural numbers, and ceilings that a cost stays below. Entries and ceilings of a
--- problem become the core's here and nowhere else; today they stay as they are.
+-- The problem that the search works on: natural numbers, and ceilings that a cost stays below. Entries and ceilings of
+-- a problem become the core's here and nowhere else; today they stay as they are.
 -- Nobody has to believe it: proofs/Core.antt shows that the core's list is the frontier list.
 use mathlib.Core.Bool.{Bool}
 use mathlib.Core.List.{List, [], _∷_}

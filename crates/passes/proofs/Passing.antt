@@ -11,12 +11,13 @@ use Rattle.model.specs.Limits.{maxObjectives, maxPoints}
 use Rattle.model.specs.Problems.{Problem, Word}
 use Rattle.model.specs.Vectors.{under}
 use Rattle.model.specs.Frontiers.{Point, point}
-use Rattle.model.specs.Core.{coreConsistent, coreFrontier, CoreReached}
+use Rattle.model.specs.Core.{Ceiling, coreFrontier, CoreReached}
 use Rattle.model.specs.Search.{pass}
 use Rattle.model.specs.Suffixes.{Gains}
 use Rattle.model.specs.Calls.{padded}
 use Rattle.model.proofs.Passes.{Prefix, found-count}
-use Rattle.model.proofs.Frontier.{reached-width, under-words}
+use Rattle.model.proofs.Frontier.{reached-width}
+use Rattle.model.proofs.Core.{core-under, under-ceilings}
 use Rattle.model.proofs.Search.{After, pass-holds, pass-none, pass-some}
 use Rattle.model.proofs.Suffixes.{gains-sound}
 use Rattle.groups.specs.Layout.{listEnd}
@@ -93,11 +94,10 @@ module _ (p r : ℕ) (ceilings ds s was : List ℕ) where
         pub costs-wide : length (take p (best .costs)) ≡ p
         costs-wide = reached-width q x reached
 
-        pub costs-words : length ceilings ≡ maxObjectives → All Word (take p ceilings) → All Word (take p (best .costs))
-        unfolding coreConsistent
-        costs-words long words =
-            under-words (take p (best .costs)) (take p ceilings) (costs-wide ∙ sym (length-take-le p ceilings (omega (arith, setting .objectives))))
-            (subst (λ (c : List ℕ). under c (take p ceilings) ≡ true) (sym (reached .exact)) (reached .allowed)) words
+        pub costs-words : length ceilings ≡ maxObjectives → All Ceiling (take p ceilings) → All Word (take p (best .costs))
+        costs-words long limited =
+            let wide = costs-wide ∙ sym (length-take-le p ceilings (omega (arith, setting .objectives))) in
+            under-ceilings (take p (best .costs)) (take p ceilings) wide (core-under q x reached) limited
 
         pub passing-next : k < maxPoints → (stored : List ℕ) → length stored ≡ length work → stored ≡ take (rowAt k) work ++ padded maxObjectives (take p (best .costs)) ++ best .choice ++ drop (rowAt k + 28) work → Passing stored (k + 1)
         passing-next h stored size is =

@@ -7,8 +7,7 @@ use lib.Dec.{ltb}
 use lib.ListN.{length}
 use Rattle.model.specs.Basics.{when}
 use Rattle.model.specs.Problems.{Problem}
-use Rattle.model.specs.Frontiers.{Point}
-use Rattle.model.specs.Core.{coreFrontier}
+use Rattle.model.specs.Frontiers.{Point, frontier}
 use Rattle.rows.specs.Rows.{listIn}
 use Rattle.passes.specs.declared.Found as DF
 
@@ -19,6 +18,6 @@ pub record FoundSays (p n : ℕ) (fs : List Point) (room : ℕ) (work work′ : 
   pub list : f .full ≡ false → listIn p n work′ 0 (f .count) ≡ fs
   pub long : length work′ ≡ length work
 
--- of a problem's frontier list
+-- of a problem's frontier list, which callers pass to from the core's
 abbrev pub FoundFor : Problem → ℕ → List ℕ → List ℕ → DF.Found → Type 0
 FoundFor q room work work′ f = FoundSays (q .objectives) (length (q .domains)) (coreFrontier q) room work work′ f

@@ -4,8 +4,7 @@ ghost use Prim.Native.Nat.{_≤_};
 ghost use lib.ListN.{length, take};
 ghost use Rattle.model.specs.Basics.{All};
 ghost use Rattle.model.specs.Limits.{maxPoints};
-ghost use Rattle.model.specs.Problems.{Word};
-ghost use Rattle.model.specs.Core.{coreFrontier};
+ghost use Rattle.model.specs.Core.{Ceiling, coreFrontier};
 ghost use Rattle.model.specs.Suffixes.{Gains};
 ghost use Rattle.search.specs.States.{problemIn, gainsIn, Setting, Stands};
 ghost use Rattle.groups.specs.Sources.{Source, sourceProblem};
@@ -29,7 +28,7 @@ pub fn find_points(
     work: &mut [u32],
 ) -> Found
     requires { ⌜ Setting p r 0 (now sizes) (now s) (now work) × Stands r (now sizes) (now s) (now work) root
-        × (root .len ≡ 0) × All Word (take p ceilings) × (room ≤ maxPoints)
+        × (root .len ≡ 0) × All Ceiling (take p ceilings) × (room ≤ maxPoints)
         × Gains (problemIn p r ceilings (now sizes) (now s) (now work)) (gainsIn p (now work)) ⌝ }
     ensures { λ f. ⌜ FoundSays p (length (now (sizes .entry)))
         (coreFrontier (problemIn p r ceilings (now (sizes .entry)) (now (s .entry)) (now (work .entry))))

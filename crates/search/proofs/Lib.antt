@@ -2,7 +2,6 @@
 pub mod FourTotals
 pub mod Matching
 pub mod Touched
-pub mod SumLimits
 pub mod PrefixSteps
 pub mod Partials
 pub mod Opening

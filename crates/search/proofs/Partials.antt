@@ -21,7 +21,7 @@ use Rattle.search.specs.declared.Partial as DP
 use Rattle.search.proofs.Partial.{the-type}
 use Rattle.vectors.proofs.Fours.{listed, at-listed}
 use Rattle.search.proofs.FourTotals.{totals-listed}
-use Rattle.search.proofs.SumLimits.{total-fits}
+use Rattle.groups.proofs.SumLimits.{total-fits}
 use Rattle.search.proofs.Touched.{split-before, split-after}
 use Rattle.search.proofs.PrefixSteps.{prefix-more}
 

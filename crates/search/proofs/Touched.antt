@@ -14,6 +14,7 @@ use Rattle.model.specs.Reading.{tableScope, tableOf}
 use Rattle.model.specs.Costs.{total}
 use Rattle.model.specs.Bounds.{leastTo, leastFrom, leastOf}
 use Rattle.model.proofs.Bits.{test}
+use Rattle.costs.specs.Entries.{tableAt}
 use Rattle.groups.specs.Groups.{hasVariable, groupOf, tablesOver}
 use Rattle.search.specs.States.{untouched}
 
@@ -61,7 +62,7 @@ module _ (k : ℕ) (ds s : List ℕ) (f g : Table → ℕ) (apart : (t : Table) 
   unfolding total tablesOver groupOf tableOf
   total-split [] = refl
   total-split (at ∷ places) =
-      let t = tableOf ds (drop at s) in
+      let t = tableAt ds s at in
       let own = eqb (t .objective) o in
       let rest : total o f (tablesOver ds s places) ≡ total o others (tablesOver ds s places) + total o f (tablesOver ds s (groupOf s k places)) = total-split places in
       ⊎-elim

@@ -14,17 +14,19 @@ use Rattle.model.specs.Problems.{Problem, Word, DomainSize}
 use Rattle.model.specs.Encoding.{Byte}
 use Rattle.model.specs.Reading.{wordsIn, headObjectives, tablesAt, problemOf}
 use Rattle.model.specs.Costs.{isChoice}
-use Rattle.model.specs.Frontiers.{frontier}
+use Rattle.model.specs.Frontiers.{Point, frontier}
+use Rattle.model.specs.Core.{coreCeilings, coreOf, coreFrontier}
 use Rattle.model.specs.Calls.{padded}
 use Rattle.model.proofs.Bits.{and-left, and-right}
 use Rattle.model.proofs.Elements.{all-each, all-in, all-append, all-drop}
 use Rattle.model.proofs.Words.{length-wordsIn, words-below}
 use Rattle.model.proofs.Frontier.{frontier-best}
+use Rattle.model.proofs.Core.{core-frontier, core-ceilings}
 use Rattle.problem.specs.declared.Reading as DG
 use Rattle.problem.proofs.Accepted.{AcceptedReading}
 use Rattle.passes.specs.declared.Found as DF
 use Rattle.listing.specs.Says.{problemAt, Accepted}
-use Rattle.passes.specs.Says.{FoundFor}
+use Rattle.passes.specs.Says.{FoundSays, FoundFor}
 
 all-zeros : (n : ℕ) → All Word (replicate n 0)
 all-zeros zero = tt
@@ -64,8 +66,17 @@ module _ (s : List ℕ) (r : DG.Reading) (a : AcceptedReading s r) where
   unfolding problemOf
   same-problem = λ i. record { objectives = a .objectives i; ceilings = ceilings-are i; domains = a .domains i; tables = tables-are i }
 
-  pub found-problem : (room : ℕ) (w w1 : List ℕ) (f : DF.Found) → FoundFor (problemAt objectives (r .head .ceilings) (take variables (r .sizes)) s start (r .head .tables)) room w w1 f → FoundFor (problemOf s) room w w1 f
-  found-problem room w w1 f says = subst (λ (q : Problem). FoundFor q room w w1 f) same-problem says
+  -- and the core's list is its frontier list
+  abbrev searched : Problem
+  searched = problemAt objectives (r .head .ceilings) (take variables (r .sizes)) s start (r .head .tables)
+
+  pub found-problem : (room : ℕ) (w w1 : List ℕ) (f : DF.Found)
+      → FoundSays objectives (length (take variables (r .sizes))) (coreFrontier (coreOf searched)) room w w1 f
+      → FoundFor (problemOf s) room w w1 f
+  found-problem room w w1 f says =
+      let n = length (take variables (r .sizes)) in
+      subst (λ (q : Problem). FoundFor q room w w1 f) same-problem
+      (subst (λ (fs : List Point). FoundSays objectives n fs room w w1 f) (core-frontier searched) says)
 
   pub objectives-are : objectives ≡ problemOf s .objectives
   objectives-are = λ i. same-problem i .objectives
@@ -73,7 +84,7 @@ module _ (s : List ℕ) (r : DG.Reading) (a : AcceptedReading s r) where
   pub variables-are : variables ≡ length (problemOf s .domains)
   variables-are = sym sized ∙ (λ i. length (same-problem i .domains))
 
-  pub asked : ((i : ℕ) → getD s i 0 < 256) → (room : ℕ) (w : List ℕ) → room ≤ maxPoints → workNeed ≤ length w → Accepted objectives (r .head .tables) start room (r .head .ceilings) (take variables (r .sizes)) s w
+  pub asked : ((i : ℕ) → getD s i 0 < 256) → (room : ℕ) (w : List ℕ) → room ≤ maxPoints → workNeed ≤ length w → Accepted objectives (r .head .tables) start room (coreCeilings (r .head .ceilings)) (take variables (r .sizes)) s w
   unfolding problemOf padded
   asked bytes room w small enough =
       record {
@@ -83,7 +94,7 @@ module _ (s : List ℕ) (r : DG.Reading) (a : AcceptedReading s r) where
         objectives = a .few-objectives .1;
         tables = a .few-tables;
         bytes = a .short;
-        words = rw (a .ceilings) (all-append Word (wordsIn (headObjectives s) (drop 6 s)) (replicate (maxObjectives - length (wordsIn (headObjectives s) (drop 6 s))) 0) (words-below (headObjectives s) (drop 6 s) (all-drop Byte 6 s (all-each Byte 0 s bytes))) (all-zeros (maxObjectives - length (wordsIn (headObjectives s) (drop 6 s)))));
+        limited = core-ceilings (r .head .ceilings) (rw (a .ceilings) (all-append Word (wordsIn (headObjectives s) (drop 6 s)) (replicate (maxObjectives - length (wordsIn (headObjectives s) (drop 6 s))) 0) (words-below (headObjectives s) (drop 6 s) (all-drop Byte 6 s (all-each Byte 0 s bytes))) (all-zeros (maxObjectives - length (wordsIn (headObjectives s) (drop 6 s))))));
         room-small = small;
         memory = omega arith;
       }

@@ -15,7 +15,7 @@ fn spread_at(s: &[u8], at: usize, sizes: &[u8], ceiling: u64) -> u64
     let mut most: u64 = 0;
     let mut i: usize = 0;
     while i < count {
-        let cost = costs::table_entry(s, at, i, sizes) as u64;
+        let cost = costs::table_entry(s, at, i, sizes);
         if cost < ceiling {
             least = directions::lesser(cost, least);
             most = directions::larger(cost, most);

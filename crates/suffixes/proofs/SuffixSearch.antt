@@ -8,18 +8,18 @@ use native.Mathlib.Numerals.{add-one}
 use lib.ListN.{length, getD, take, drop, replicate, length-drop}
 use lib.Seq.{length-take-le, getD-take}
 use Rattle.model.specs.Basics.{pick}
-use Rattle.model.specs.Limits.{maxTables, wordEnd}
-use Rattle.model.specs.Problems.{Problem, Word, DomainSize}
+use Rattle.model.specs.Limits.{maxTables}
+use Rattle.model.specs.Problems.{Problem, DomainSize}
 use Rattle.model.specs.Bounds.{leastOf}
 use Rattle.model.specs.Costs.{total}
 use Rattle.model.specs.Frontiers.{point}
 use Rattle.model.specs.Search.{Held, nothing, just, pass}
 use Rattle.model.specs.Views.{narrowed}
 use Rattle.model.specs.Suffixes.{suffixSides, suffixOf, leastCost, gainOf, Gain, Gains}
-use Rattle.model.proofs.Elements.{all-at, all-map}
+use Rattle.model.proofs.Elements.{all-map}
 use Rattle.model.proofs.Search.{Sound}
-use Rattle.model.proofs.Suffixes.{sides-length, gains-sound}
-use Rattle.model.proofs.SuffixProblems.{suffix-gains, suffix-gain, gain-limit}
+use Rattle.model.proofs.Suffixes.{sides-length, gains-sound, gain-less}
+use Rattle.model.proofs.SuffixProblems.{suffix-gains, suffix-gain}
 use Rattle.groups.specs.Layout.{recordsAt, gainsAt, sourceAt, searchEnd}
 use Rattle.groups.specs.Groups.{tablesOver, placesIn, Placed, Grouped}
 use Rattle.groups.proofs.Overwritten.{over, over-length, over-behind, over-here}
@@ -171,10 +171,10 @@ module _ {p r : ℕ} {ceilings ds s was : List ℕ} {o k : ℕ} {ss sizes : List
       unfolding gainOf
       gain-is = rw (← held-is, ceiling, cost-is (getD ceilings o 0), least-is) refl
 
-      pub gain-fits : pick (best .found) (getD (best .costs) o 0) (getD ceilings o 0) - getD (root .bound) o 0 < wordEnd
-      gain-fits =
-          let word : getD ceilings o 0 < wordEnd = all-at Word ceilings (u .source .words) o 0 (omega arith) in
-          omega (arith, gain-is, gain-limit q o k (ruleOf (suffixOf q o k) work) suffix-sound, ceiling)
-
-      pub gain-holds : (g : ℕ) → g ≡ pick (best .found) (getD (best .costs) o 0) (getD ceilings o 0) - getD (root .bound) o 0 → Gain q o k g
-      gain-holds g e = subst (Gain q o k) (sym (e ∙ gain-is)) (suffix-gain q o k (omega arith) (ruleOf (suffixOf q o k) work) suffix-sound)
+      pub gain-holds : (g : ℕ)
+          → g ≤ pick (best .found) (getD (best .costs) o 0) (getD ceilings o 0) - getD (root .bound) o 0 → Gain q o k g
+      gain-holds g less =
+          let most = gainOf q o k result in
+          let small : g ≤ most = omega (arith, gain-is) in
+          gain-less q o k g most small
+          (suffix-gain q o k (omega arith) (ruleOf (suffixOf q o k) work) suffix-sound)

@@ -5,7 +5,7 @@ ghost use mathlib.Core.List.{_++_, _∷_, []};
 ghost use Prim.Native.Nat.{_+_, _-_, _<_, _≤_};
 ghost use lib.ListN.{length, getD, take, drop, replicate};
 ghost use Rattle.model.specs.Basics.{pick};
-ghost use Rattle.model.specs.Limits.{maxObjectives, maxVariables, wordEnd};
+ghost use Rattle.model.specs.Limits.{maxObjectives, maxVariables};
 ghost use Rattle.model.specs.Suffixes.{suffixSides, Gain, Gains};
 ghost use Rattle.groups.specs.Layout.{gainsAt, sourceAt};
 ghost use Rattle.search.specs.States.{gainsIn};
@@ -36,10 +36,11 @@ fn suffix_ceilings(o: usize, c: u64) -> [u64; 4]
     ceilings
 }
 
-// What the least cost is more than the sum of least entries; the ceiling stands for it where no choice is under it.
+// What the least cost is more than the sum of least entries, or the largest number of four bytes where that is less: a
+// smaller gain is sound too. The ceiling stands for the least cost where no choice is under it.
 fn gain_of(best: search::Best, least: u64, o: usize, c: u64) -> u32
-    requires { ⌜ (o < maxObjectives) × (pick (best .found) (getD (best .costs) o 0) c - least < wordEnd) ⌝ }
-    ensures { λ g. ⌜ g ≡ pick (best .found) (getD (best .costs) o 0) c - least ⌝ }
+    requires { ⌜ o < maxObjectives ⌝ }
+    ensures { λ g. ⌜ g ≤ pick (best .found) (getD (best .costs) o 0) c - least ⌝ }
 {
     let costs = best.costs;
     let mut cost = c;
@@ -49,7 +50,11 @@ fn gain_of(best: search::Best, least: u64, o: usize, c: u64) -> u32
     if cost <= least {
         return 0;
     }
-    (cost - least) as u32
+    let gain = cost - least;
+    if gain > 4294967295 {
+        return 4294967295;
+    }
+    gain as u32
 }
 
 // The gain of objective `o` and the variables from `k` on,

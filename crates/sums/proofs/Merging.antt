@@ -9,6 +9,7 @@ use lib.Seq.{length-take-le}
 use Rattle.model.specs.Basics.{All}
 use Rattle.model.specs.Limits.{maxObjectives, maxPoints}
 use Rattle.model.specs.Problems.{Word}
+use Rattle.model.specs.Core.{Ceiling}
 use Rattle.model.specs.Vectors.{under}
 use Rattle.model.specs.Frontiers.{Point, best}
 use Rattle.model.specs.Search.{nothing}
@@ -16,7 +17,7 @@ use Rattle.model.specs.Merging.{leastLeft}
 use Rattle.model.specs.Calls.{padded}
 use Rattle.model.proofs.Best.{Pool}
 use Rattle.model.proofs.Passes.{Prefix}
-use Rattle.model.proofs.Frontier.{under-words}
+use Rattle.model.proofs.Core.{under-ceilings}
 use Rattle.model.proofs.Sorting.{Sized, AllSized}
 use Rattle.model.proofs.Merging.{merge-some, merge-none, merge-count}
 use Rattle.rows.specs.Rows.{rowAt, listIn}
@@ -76,8 +77,8 @@ module _ {p n a b : ℕ} {was : List ℕ} (halved : Halved p n 0 a b was) (ceili
       good : Sized p n x × (under (x .costs) (take p ceilings) ≡ true)
       good = sums-good halved ceilings x (longer .listed .sound x (in-right ps (here refl)))
 
-      pub sum-words : length ceilings ≡ maxObjectives → All Word (take p ceilings) → All Word (take p (next .costs))
-      sum-words long words = under-words (x .costs) (take p ceilings) (good .0 .0 ∙ sym (length-take-le p ceilings (omega (arith, halved .objectives)))) (good .1) words
+      pub sum-words : length ceilings ≡ maxObjectives → All Ceiling (take p ceilings) → All Word (take p (next .costs))
+      sum-words long words = under-ceilings (x .costs) (take p ceilings) (good .0 .0 ∙ sym (length-take-le p ceilings (omega (arith, halved .objectives)))) (good .1) words
 
       pub merging-next : k < maxPoints → (stored : List ℕ) → length stored ≡ length work → stored ≡ take (rowAt k) work ++ padded maxObjectives (take p (next .costs)) ++ next .choice ++ drop (rowAt k + 28) work → Made (Summed p n ceilings was a b) p n was stored (k + 1)
       merging-next h stored size is = made-next u (halved .objectives) (halved .variables) (omega arith) (omega (arith, u .same, halved .long)) (take p (next .costs)) (next .choice) stored (good .0 .0) size is longer

@@ -1,5 +1,5 @@
 -- The places of the wanted records: how many, that their records are whole over the sizes that the side leaves, and which tables they have.
-use mathlib.Core.Path.{_≡_, refl}
+use mathlib.Core.Path.{_≡_, refl, ap, ap₂}
 use mathlib.Core.Bool.{Bool, true, false}
 use mathlib.Core.List.{List, [], _∷_}
 use Prim.Native.Nat.{ℕ, _≤_}
@@ -7,9 +7,11 @@ use lib.Dec.{leb, ltb}
 use lib.ListN.{length, drop}
 use Rattle.model.specs.Basics.{All, keepIf}
 use Rattle.model.specs.Reading.{tableObjective, tableScope, tableOf}
+use Rattle.model.specs.Core.{coreTable}
 use Rattle.model.specs.Views.{narrowed, within, kept}
 use Rattle.model.proofs.Bits.{and-right}
 use Rattle.problem.specs.Records.{Whole}
+use Rattle.costs.specs.Entries.{tableAt}
 use Rattle.groups.specs.Groups.{tablesOver}
 use Rattle.groups.proofs.Keeping.{Keeps, keeps-few}
 use Rattle.views.specs.Wanted.{wanted, wantedTable, keptPlaces}
@@ -47,6 +49,6 @@ module _ (low high k : ℕ) (ss s : List ℕ) where
     kept-tables [] = refl
     kept-tables (at ∷ places) = go (wantedAt at) refl (kept-tables places)
       where
-        go : (b : Bool) → wantedAt at ≡ b → tablesOver (narrowed k ss ds) s (keptPlaces low high k ss s places) ≡ kept (wantedTable low high k ss) (tablesOver ds s places) → tablesOver (narrowed k ss ds) s (keepIf b at (keptPlaces low high k ss s places)) ≡ keepIf b (tableOf ds (drop at s)) (kept (wantedTable low high k ss) (tablesOver ds s places))
-        go true e r = rw (r, table-same k ss ds same (drop at s) (wanted-inside at e))
+        go : (b : Bool) → wantedAt at ≡ b → tablesOver (narrowed k ss ds) s (keptPlaces low high k ss s places) ≡ kept (wantedTable low high k ss) (tablesOver ds s places) → tablesOver (narrowed k ss ds) s (keepIf b at (keptPlaces low high k ss s places)) ≡ keepIf b (tableAt ds s at) (kept (wantedTable low high k ss) (tablesOver ds s places))
+        go true e r = ap₂ _∷_ (ap coreTable (table-same k ss ds same (drop at s) (wanted-inside at e))) r
         go false e r = r

@@ -7,6 +7,7 @@ use lib.ListN.{length, getD, take}
 use Rattle.model.specs.Basics.{All}
 use Rattle.model.specs.Limits.{maxObjectives}
 use Rattle.model.specs.Problems.{Word}
+use Rattle.model.specs.Core.{WordCeiling}
 use Rattle.model.specs.Archive.{lowered}
 use Rattle.vectors.proofs.Fours.{listed, four-all}
 
@@ -20,7 +21,7 @@ take-lowered zero cs = refl
 take-lowered (suc p) [] = refl
 take-lowered (suc p) (c ∷ cs) = ap (_∷_ (c - 1)) (take-lowered p cs)
 
-pub lowered-words : (cs : List ℕ) → All Word cs → All Word (lowered cs)
+pub lowered-words : (cs : List ℕ) → All WordCeiling cs → All Word (lowered cs)
 unfolding lowered
 lowered-words [] h = tt
 lowered-words (c ∷ cs) h = (omega (arith, h .0), lowered-words cs (h .1))

@@ -7,6 +7,7 @@ ghost use lib.ListN.{length, getD, take};
 ghost use Rattle.model.specs.Basics.{All};
 ghost use Rattle.model.specs.Limits.{maxObjectives};
 ghost use Rattle.model.specs.Problems.{Word};
+ghost use Rattle.model.specs.Core.{WordCeiling};
 ghost use Rattle.model.specs.Vectors.{atMost};
 ghost use Rattle.model.specs.Archive.{lowered};
 ghost use Rattle.directions.specs.Directions.{maxDirections, directionsOf, widthOf, Sensible};
@@ -273,7 +274,7 @@ fn lower(ceilings: [u64; 4]) -> [u64; 4]
 
 // The zone of all that is under the ceilings, as the only one; none where a ceiling is 0.
 pub fn first_zone(ceilings: [u64; 4], d: directions::Directions, zones: &mut [u32]) -> usize
-    requires { ⌜ Sensible d × All Word (take (d .objectives) ceilings) × (zonesEnd ≤ length (now zones)) ⌝ }
+    requires { ⌜ Sensible d × All WordCeiling (take (d .objectives) ceilings) × (zonesEnd ≤ length (now zones)) ⌝ }
     ensures { λ m. ⌜ Measured d (now (zones .exit)) m × (length (now (zones .exit)) ≡ length (now (zones .entry)))
         × FirstZone (d .objectives) ceilings (now (zones .exit)) m ⌝ }
 {

@@ -86,15 +86,12 @@ add-table-entry c =
 table-entry-requires : tie.Need-table-entry-requires Inv-loop μ-loop
 table-entry-requires c κs = (c .before .before .before .before .before .before .before .before .before .before .pre .0, inside (c .before))
 
-cast-totals : tie.Need-cast-totals Inv-loop μ-loop
-cast-totals c = omega (arith, c .table-entry .ok)
-
 add-totals : tie.Need-add-totals Inv-loop μ-loop
 add-totals c =
     let s = c .before .before .before .before .before .before .before .before .before .before .before in
     let w = c .before .before .before .loop in
     let o = getD (now (s .args .s)) (s .args .at + 2) 0 in
-    omega (arith, c .table-entry .ok, w .inv .1 .rest (4 * w .a + o) (omega arith), s .pre .5 (w .a) o (omega arith) (value (c .before .before) .1))
+    omega (arith, c .table-entry .ensures .1, w .inv .1 .rest (4 * w .a + o) (omega arith), s .pre .5 (w .a) o (omega arith) (value (c .before .before) .1))
 
 mul-totals-2 : tie.Need-mul-totals-2 Inv-loop μ-loop
 mul-totals-2 c = omega (arith, value (c .before .before))
@@ -116,8 +113,8 @@ loop-again c =
     let e = c .before .before .before .before .entry-run in
     let cost = c .table-entry in
     let own = sym (getD-drop (s .args .at) (now (s .args .s)) 2 0) in
-    let is : cost .result ≡ costOf (now (s .args .sizes)) (set (now (s .args .choice)) (s .args .v) (w .a)) (tableAt (now (s .args .sizes)) (now (s .args .s)) (s .args .at)) = cost .ensures ∙ ap (entryAt (now (s .args .sizes)) (now (s .args .s)) (s .args .at)) (sym (e .ensures (w .a) (omega arith) .0)) in
-    (omega arith, adding-next (w .inv .1) (cost .result) (s .pre .0 .owner) (omega (arith, own, value (c .before .before), s .pre)) is (omega (arith, cost .ok)) _ own)
+    let is : cost .result ≡ costOf (now (s .args .sizes)) (set (now (s .args .choice)) (s .args .v) (w .a)) (tableAt (now (s .args .sizes)) (now (s .args .s)) (s .args .at)) = cost .ensures .0 ∙ ap (entryAt (now (s .args .sizes)) (now (s .args .s)) (s .args .at)) (sym (e .ensures (w .a) (omega arith) .0)) in
+    (omega arith, adding-next (w .inv .1) (cost .result) (s .pre .0 .owner) (omega (arith, own, value (c .before .before), s .pre)) is (cost .ensures .1) _ own)
 
 same-length : tie.Need-same-length Inv-loop μ-loop
 same-length c = c .before .loop .inv .1 .long
@@ -145,7 +142,6 @@ add-record-spec =
     mul-table-entry
     add-table-entry
     table-entry-requires
-    cast-totals
     add-totals
     mul-totals-2
     slice-write-totals

@@ -1,5 +1,5 @@
 -- `costs::least_from` meets its contract. By recursion on the scope's variables, with a loop over the values of a free one.
--- The invariant: the least so far is the least over the first x values. The measure is how many variables are left, of three at most.
+-- The invariant: the least so far is the least over the first x values, and below the entries' limit. The measure is how many variables are left, of three at most.
 use mathlib.Core.Path.{_≡_}
 use mathlib.Core.Bool.{true}
 use mathlib.Core.List.{List}
@@ -15,6 +15,7 @@ use Rattle.model.specs.Basics.{All}
 use Rattle.model.specs.Limits.{maxArity}
 use Rattle.model.specs.Problems.{DomainSize}
 use Rattle.model.specs.Reading.{tableArity}
+use Rattle.model.specs.Core.{entryEnd}
 use Rattle.model.specs.Bounds.{prefixOk, leastTo, leastFrom}
 use Rattle.problem.specs.Records.{Whole}
 use Rattle.model.proofs.Prefixes.{prefix-below}
@@ -48,7 +49,8 @@ abbrev after : List ℕ → ℕ → ℕ → ℕ → List ℕ → List ℕ → �
 after s at k index sizes prefix d = λ y. leastFrom sizes prefix (entryAt sizes s at) (index * d + y) (drop (k + 1) (scopeAt s at))
 
 abbrev Inv-loop : lts.InvT-loop
-Inv-loop s at k index sizes prefix a v d least₀ x₀ least x = (1 ≤ x) × (x ≤ d) × (least ≡ leastTo (x - 1) (after s at k index sizes prefix d))
+Inv-loop s at k index sizes prefix a v d least₀ x₀ least x =
+    (1 ≤ x) × (x ≤ d) × (least ≡ leastTo (x - 1) (after s at k index sizes prefix d)) × (least < entryEnd)
 
 abbrev μ-loop : lts.MeasureT-loop
 μ-loop s at k index sizes prefix a v d least₀ x₀ least x = d - x
@@ -153,7 +155,8 @@ module _ (t : ℕ) where
   returns c =
       let a = c .before .before .before .before .before .before .args in
       let q = c .before .before .before .before .before .before .pre .1 in
-      rw (c .before .if1 .taken, scope-end (now (a .sizes)) (now (a .s)) (a .at) (q .0), least-none) (c .table-entry .ensures)
+      let entry = c .table-entry .ensures in
+      (rw (c .before .if1 .taken, scope-end (now (a .sizes)) (now (a .s)) (a .at) (q .0), least-none) (entry .0), entry .1)
 
   add-v : lts.Need-add-v (calls t) (asked t) least-from.Post Inv-loop μ-loop
   add-v c =
@@ -207,9 +210,13 @@ module _ (t : ℕ) where
 
   returns-2 : lts.Need-returns-2 (calls t) (asked t) least-from.Post Inv-loop μ-loop
   returns-2 c =
-      let a = c .before .before .before .before .before .before .before .before .before .before .args in
-      let q = c .before .before .before .before .before .before .before .before .before .before .pre .1 in
-      rw (scope-next (now (a .sizes)) (now (a .s)) (a .at) (q .0) (a .k) (inside (c .before .before .before .before .before)), least-fixed (now (a .sizes)) (now (a .prefix)) (entryAt (now (a .sizes)) (now (a .s)) (a .at)) (a .index) _ (drop (a .k + 1) (scopeAt (now (a .s)) (a .at))) (c .before .before .if2 .taken)) (c .least-from .ensures)
+      let fixed = c .before .before in
+      let s = start (fixed .before .before .before) in
+      let a = s .args in
+      let vs = drop (a .k + 1) (scopeAt (now (a .s)) (a .at)) in
+      let next = scope-next (now (a .sizes)) (now (a .s)) (a .at) (s .pre .1 .0) (a .k) (inside (fixed .before .before .before)) in
+      let value = least-fixed (now (a .sizes)) (now (a .prefix)) (entryAt (now (a .sizes)) (now (a .s)) (a .at)) (a .index) _ vs (fixed .if2 .taken) in
+      (rw (next, value) (c .least-from .ensures .0), c .least-from .ensures .1)
 
   add-least-from-3 : lts.Need-add-least-from-3 (calls t) (asked t) least-from.Post Inv-loop μ-loop
   add-least-from-3 c = omega (arith, short (c .before .before .before))
@@ -222,7 +229,9 @@ module _ (t : ℕ) where
 
   loop-holds : lts.Need-loop-holds (calls t) (asked t) least-from.Post Inv-loop μ-loop
   unfolding leastTo
-  loop-holds c = (omega arith, size (c .before .before .before .before) .0, rw add-zero (c .least-from2 .ensures))
+  loop-holds c =
+      let one = c .least-from2 .ensures in
+      (omega arith, size (c .before .before .before .before) .0, rw add-zero (one .0), one .1)
 
   add-least-from-4 : lts.Need-add-least-from-4 (calls t) (asked t) least-from.Post Inv-loop μ-loop
   add-least-from-4 c = omega (arith, short (c .before .before .before .before .before .before))
@@ -248,13 +257,18 @@ module _ (t : ℕ) where
   loop-again : lts.Need-loop-again (calls t) (asked t) least-from.Post Inv-loop μ-loop
   loop-again c =
       let w = c .before .before .before .loop in
-      (omega arith, omega arith, rw (least-next (w .x) (rest (c .before .before .before .before .before .before .before .before)), c .lesser .ensures, w .inv .2, c .before .least-from3 .ensures))
+      let next = c .before .least-from3 .ensures in
+      let step = least-next (w .x) (rest (c .before .before .before .before .before .before .before .before)) in
+      ( omega arith
+      , omega arith
+      , rw (step, c .lesser .ensures, w .inv .2, next .0)
+      , omega (arith, c .lesser .ensures, w .inv .3, next .1))
 
   returns-3 : lts.Need-returns-3 (calls t) (asked t) least-from.Post Inv-loop μ-loop
   returns-3 c =
       let w = c .before .loop in
       let end : w .x ≡ domain (c .before .before .before .before .before .before) = omega arith in
-      free (c .before .before .before) _ (rw end at (w .inv .2))
+      (free (c .before .before .before) _ (rw end at (w .inv .2)), w .inv .3)
 
 pub +least-from-spec : {M : Type 1} → statement M
 +least-from-spec =

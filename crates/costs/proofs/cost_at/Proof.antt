@@ -13,7 +13,7 @@ table-entry-requires c κs = search needs
 
 returns : tie.Need-returns
 unfolding costOf tableOf
-returns c = rw (← c .before .entry-index .ensures .0) (c .table-entry .ensures)
+returns c = (rw (← c .before .entry-index .ensures .0) (c .table-entry .ensures .0), c .table-entry .ensures .1)
 
 pub cost-at-spec : {M : Type 1} → statement M
 cost-at-spec = tie.close (tie.spec entry-index-requires table-entry-requires returns)

@@ -1,16 +1,25 @@
--- `costs::costs_of` meets its contract. The invariant, `Summing`, over the cost of a table.
-use Prim.Native.Nat.{_<_}
+-- `costs::costs_of` meets its contract. The invariant, `Summing`, over the cost of a table; a weight is taken back.
+use mathlib.Core.Path.{_≡_, ap, _∙_}
+use mathlib.Core.List.{List}
+use Prim.Native.Nat.{ℕ, _<_}
 use native.Mathlib.Omega.{arith}
+use lib.ListN.{drop}
 use denote.Ref.{now}
 use Rattle.model.specs.Limits.{maxObjectives}
+use Rattle.model.specs.Problems.{Table}
+use Rattle.model.specs.Reading.{tableOf}
+use Rattle.model.specs.Core.{plain}
 use Rattle.model.specs.Costs.{costOf}
 use Rattle.problem.specs.Records.{Whole}
+use borrow.Author.Needs.{needs}
+use Rattle.costs.proofs.EntryLimits.{plain-cost}
 use Rattle.costs.proofs.SumSteps.{Summing, summing-start, summing-next, summing-end, sum-small, next-whole}
 use Rattle.costs.proofs.costs_of.Statement.{statement}
 use Rattle.costs.proofs.costs_of.Tie as tie
 use Rattle.costs.proofs.costs_of.Reads as reads
 use Rattle.costs.proofs.costs_of.Lts as lts
 use Rattle.costs.proofs.cost_at.Reads as cost-at-reads
+use Rattle.costs.proofs.unweighed.Reads as unweighed-reads
 use Rattle.problem.proofs.record_at.Reads as record-at-reads
 
 abbrev Inv-loop : tie.InvT-loop
@@ -19,24 +28,68 @@ Inv-loop s at r sizes choice sums₀ here₀ left₀ sums here left = Summing (c
 abbrev μ-loop : tie.MeasureT-loop
 μ-loop s at r sizes choice sums₀ here₀ left₀ sums here left = left
 
-loop-holds : tie.Need-loop-holds Inv-loop μ-loop
-loop-holds c =
-    let a = c .before .before .before .args in
-    let q = c .before .before .before .pre in
-    summing-start (costOf (now (a .sizes)) (now (a .choice))) (now (a .sizes)) (now (a .s)) (a .r) (a .at) (q .0)
+abbrev calls : lts.Claims
+calls =
+    ( record-at-reads.Asked
+    , record-at-reads.Learnt
+    , cost-at-reads.Asked
+    , cost-at-reads.Learnt
+    , unweighed-reads.Asked
+    , unweighed-reads.Learnt)
+
+-- ## the places, each by its name
+
+abbrev Turn : Type 0
+Turn = lts.In-loop calls reads.Pre reads.Post Inv-loop μ-loop
+
+abbrev start : Turn → lts.Start calls reads.Pre reads.Post Inv-loop μ-loop
+start c = c .before .before .before .before .before
+
+abbrev Read : Type 0
+Read = lts.After-struct-known calls reads.Pre reads.Post Inv-loop μ-loop
+
+abbrev turn : Read → Turn
+turn c = c .before .before
+
+abbrev Back : Type 0
+Back = lts.After-unweighed calls reads.Pre reads.Post Inv-loop μ-loop
+
+abbrev read : Back → Read
+read c = c .before .before
+
+-- what a table adds to the sums
+abbrev share : Turn → Table → ℕ
+share c = costOf (now (start c .args .sizes)) (now (start c .args .choice))
 
 -- the next record is whole, and its objective exists
-whole : (c : lts.In-loop (record-at-reads.Asked, record-at-reads.Learnt, cost-at-reads.Asked, cost-at-reads.Learnt) reads.Pre reads.Post Inv-loop μ-loop) → let a = c .before .before .before .before .before .args in Whole (now (a .sizes)) (now (a .s)) (c .before .loop .here)
+whole : (c : Turn) → let a = start c .args in Whole (now (a .sizes)) (now (a .s)) (c .before .loop .here)
 whole c =
-    let a = c .before .before .before .before .before .args in
+    let a = start c .args in
     let w = c .before .loop in
-    next-whole (costOf (now (a .sizes)) (now (a .choice))) (now (a .sizes)) (now (a .s)) (a .r) (a .at) (w .sums) (w .here) (w .left) (w .inv) (omega arith)
+    next-whole (share c) (now (a .sizes)) (now (a .s)) (a .r) (a .at) (w .sums) (w .here) (w .left) (w .inv) (omega arith)
 
-own : (c : lts.After-struct-known (record-at-reads.Asked, record-at-reads.Learnt, cost-at-reads.Asked, cost-at-reads.Learnt) reads.Pre reads.Post Inv-loop μ-loop) → c .before .record-at .result .objective < maxObjectives
-own c = omega (arith, c .before .record-at .ensures .objective, whole (c .before .before) .owner)
+own : (c : Read) → c .before .record-at .result .objective < maxObjectives
+own c = omega (arith, c .before .record-at .ensures .objective, whole (turn c) .owner)
+
+-- what was added is the cost of the table that was read
+added : (c : Back) → let a = start (turn (read c)) .args in
+    c .unweighed .result ≡ share (turn (read c)) (tableOf (now (a .sizes)) (drop (turn (read c) .before .loop .here) (now (a .s))))
+added c =
+    let t = turn (read c) in
+    let a = start t .args in
+    c .unweighed .ensures .0 ∙ ap plain (c .before .cost-at .ensures .0)
+    ∙ plain-cost (now (a .sizes)) (now (a .s)) (t .before .loop .here) (λ i. omega (arith, t .before .before .before .before .shared-slice-known .given i)) (now (a .choice))
+
+-- ## the needs, in the order of the code
+
+loop-holds : tie.Need-loop-holds Inv-loop μ-loop
+loop-holds c =
+    let s = c .before .before .before in
+    let a = s .args in
+    summing-start (costOf (now (a .sizes)) (now (a .choice))) (now (a .sizes)) (now (a .s)) (a .r) (a .at) (s .pre .0)
 
 record-at-requires : tie.Need-record-at-requires Inv-loop μ-loop
-record-at-requires c κs = (whole c, c .before .before .before .before .before .pre .2)
+record-at-requires c κs = (whole c, start c .pre .2)
 
 cast-o : tie.Need-cast-o Inv-loop μ-loop
 cast-o c = omega (arith, own c)
@@ -48,28 +101,29 @@ array-read-sums : tie.Need-array-read-sums Inv-loop μ-loop
 array-read-sums c = omega (arith, own c)
 
 cost-at-requires : tie.Need-cost-at-requires Inv-loop μ-loop
-cost-at-requires c κs =
-    let q = c .before .before .before .before .before .before .before .pre in
-    (whole (c .before .before), q .2, q .3)
+cost-at-requires c κs = (whole (turn c), start (turn c) .pre .2, start (turn c) .pre .3)
 
-cast-sums : tie.Need-cast-sums Inv-loop μ-loop
-cast-sums c = omega (arith, c .cost-at .ok)
+unweighed-requires : tie.Need-unweighed-requires Inv-loop μ-loop
+unweighed-requires c κs = search needs
 
 add-sums : tie.Need-add-sums Inv-loop μ-loop
 add-sums c =
-    let a = c .before .before .before .before .before .before .before .before .args in
-    let q = c .before .before .before .before .before .before .before .before .pre in
-    let w = c .before .before .before .before .loop in
-    omega (arith, c .cost-at .ok, sum-small (costOf (now (a .sizes)) (now (a .choice))) (now (a .sizes)) (now (a .s)) (a .r) (a .at) (w .sums) (w .here) (w .left) (w .inv) (q .1) (c .before .before .record-at .result .objective))
+    let t = turn (read c) in
+    let a = start t .args in
+    let w = t .before .loop in
+    let small = sum-small (share t) (now (a .sizes)) (now (a .s)) (a .r) (a .at) (w .sums) (w .here) (w .left) (w .inv) (start t .pre .1) in
+    omega (arith, c .unweighed .ensures .1, c .before .cost-at .ensures .1, small (read c .before .record-at .result .objective))
 
 mul-sums-2 : tie.Need-mul-sums-2 Inv-loop μ-loop
-mul-sums-2 c = omega (arith, own (c .before))
+mul-sums-2 c = omega (arith, own (read c))
 
 array-write-sums : tie.Need-array-write-sums Inv-loop μ-loop
-array-write-sums c = omega (arith, own (c .before))
+array-write-sums c = omega (arith, own (read c))
 
 add-here : tie.Need-add-here Inv-loop μ-loop
-add-here c = omega (arith, c .before .before .before .record-at .ensures .width, whole (c .before .before .before .before) .long)
+add-here c =
+    let r = read (c .before) in
+    omega (arith, r .before .record-at .ensures .width, whole (turn r) .long)
 
 sub-left : tie.Need-sub-left Inv-loop μ-loop
 sub-left c = omega arith
@@ -79,17 +133,22 @@ loop-less c = omega arith
 
 loop-again : tie.Need-loop-again Inv-loop μ-loop
 loop-again c =
-    let a = c .before .before .before .before .before .before .before .before .before .args in
-    let w = c .before .before .before .before .before .loop in
-    let says = c .before .before .before .record-at .ensures in
-    let cost = c .before .cost-at in
-    summing-next (costOf (now (a .sizes)) (now (a .choice))) (now (a .sizes)) (now (a .s)) (a .r) (a .at) (w .sums) (w .here) (w .left) (w .inv) (omega arith) _ (cost .result) _ (says .objective) (cost .ensures) (omega (arith, cost .ok)) (says .width)
+    let b = c .before in
+    let t = turn (read b) in
+    let a = start t .args in
+    let w = t .before .loop in
+    let says = read b .before .record-at .ensures in
+    summing-next (share t) (now (a .sizes)) (now (a .s)) (a .r) (a .at) (w .sums) (w .here) (w .left) (w .inv)
+    (omega arith) _ (b .unweighed .result) _ (says .objective) (added b)
+    (omega (arith, b .unweighed .ensures .1, b .before .cost-at .ensures .1)) (says .width)
 
 returns : tie.Need-returns Inv-loop μ-loop
 returns c =
-    let a = c .before .before .before .before .before .args in
+    let s = c .before .before .before .before .before in
+    let a = s .args in
     let w = c .before .loop in
-    summing-end (costOf (now (a .sizes)) (now (a .choice))) (now (a .sizes)) (now (a .s)) (a .r) (a .at) (w .sums) (w .here) (w .left) (w .inv) (omega arith)
+    summing-end (costOf (now (a .sizes)) (now (a .choice))) (now (a .sizes)) (now (a .s)) (a .r) (a .at) (w .sums) (w .here)
+    (w .left) (w .inv) (omega arith)
 
 pub costs-of-spec : {M : Type 1} → statement M
 costs-of-spec =
@@ -103,7 +162,7 @@ costs-of-spec =
     mul-sums
     array-read-sums
     cost-at-requires
-    cast-sums
+    unweighed-requires
     add-sums
     mul-sums-2
     array-write-sums

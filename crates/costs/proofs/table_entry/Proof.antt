@@ -1,8 +1,10 @@
--- `costs::table_entry` meets its contract. The entry is a four-byte number of the problem (`entry-place`), and lies in it (`entry-inside`).
-use mathlib.Core.Path.{sym, _∙_}
+-- `costs::table_entry` meets its contract. The entry is what a four-byte number of the problem weighs (`entry-place`),
+-- and the number lies in it (`entry-inside`).
+use mathlib.Core.Path.{sym, ap, _∙_}
 use Prim.Native.Nat.{_+_}
 use native.Mathlib.Omega.{arith}
 use denote.Ref.{now}
+use Rattle.model.specs.Core.{entry}
 use Rattle.problem.proofs.WholeRecord.{whole-long}
 use Rattle.costs.proofs.TableEntries.{entry-place, entry-inside}
 use borrow.Author.Needs.{needs}
@@ -48,11 +50,16 @@ four-at-requires c κs =
     let q = c .before .before .before .pre in
     omega (arith, entry-inside (now (a .sizes)) (now (a .s)) (a .at) (a .i) (q .1) (q .0))
 
+weigh-requires : tie.Need-weigh-requires
+weigh-requires c κs = search needs
+
 returns : tie.Need-returns
 returns c =
-    let a = c .before .before .before .before .args in
-    let q = c .before .before .before .before .pre in
-    c .four-at .ensures ∙ sym (entry-place (now (a .sizes)) (now (a .s)) (a .at) (a .i) (q .1))
+    let read = c .before in
+    let start = read .before .before .before .before in
+    let a = start .args in
+    let place = entry-place (now (a .sizes)) (now (a .s)) (a .at) (a .i) (start .pre .1) in
+    (c .weigh .ensures .0 ∙ ap entry (read .four-at .ensures) ∙ sym place, c .weigh .ensures .1)
 
 pub table-entry-spec : {M : Type 1} → statement M
 table-entry-spec =
@@ -66,4 +73,5 @@ table-entry-spec =
     mul-four-at
     add-four-at-3
     four-at-requires
+    weigh-requires
     returns)

@@ -43,7 +43,7 @@ start-zones-requires c κs =
     let read : tie.After-slice-known = c .before .before in
     let s : tie.Start = read .before .before .before in
     let h = s .pre .0 in
-    (h .planned .sensible, omega (arith, h .long), omega (arith, s .pre .1 .few, h .room-small), h .words)
+    (h .planned .sensible, omega (arith, h .long), omega (arith, s .pre .1 .few, h .room-small), h .limited)
 
 sub-root-bound : tie.Need-sub-root-bound
 sub-root-bound c = search needs

@@ -8,7 +8,7 @@ use lib.Seq.{length-take-le}
 use mir.Syntax.{w64}
 use denote.Ref.{now}
 use Rattle.model.specs.Limits.{maxObjectives}
-use Rattle.model.specs.Problems.{Word}
+use Rattle.model.specs.Core.{WordCeiling}
 use Rattle.model.proofs.Elements.{all-take}
 use Rattle.rows.proofs.Arrays.{array-length}
 use Rattle.groups.specs.Layout.{listEnd}
@@ -70,7 +70,7 @@ first-zone-requires : tie.Need-first-zone-requires
 first-zone-requires c κs =
     let s : tie.Start = c .before .before in (
       s .pre .0,
-      all-take Word (s .args .d .objectives) (s .args .ceilings) (s .pre .3),
+      all-take WordCeiling (s .args .d .objectives) (s .args .ceilings) (s .pre .3),
       omega (arith, length-take-le zonesEnd (now (s .args .work)) (omega (arith, s .pre .1))),
     )
 

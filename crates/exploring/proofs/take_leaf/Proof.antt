@@ -13,7 +13,8 @@ use Rattle.model.specs.Limits.{maxObjectives}
 use Rattle.model.specs.Problems.{Word}
 use Rattle.model.specs.Vectors.{under}
 use Rattle.model.proofs.Elements.{all-take}
-use Rattle.model.proofs.Frontier.{under-words}
+use Rattle.model.specs.Core.{WordCeiling}
+use Rattle.model.proofs.Core.{under-ceilings}
 use Rattle.rows.proofs.Arrays.{array-length}
 use Rattle.archive.specs.Changes.{maxWeight}
 use Rattle.directions.specs.Directions.{maxDirections, leadAt}
@@ -86,10 +87,10 @@ module _ (c : tie.Else2) where
   words : All Word (take (p begun) (front tested))
   words =
       let n = p begun in
-      let limits = all-take Word n (ceilings begun) (begun .pre .ready .words) in
+      let limits = all-take WordCeiling n (ceilings begun) (begun .pre .ready .limited) in
       let long = leaf-wide (begun .pre) (wide begun) ∙ sym (long-ceilings begun) in
       subst (All Word) (sym (costs tested))
-      (under-words (take n (acc begun)) (take n (ceilings begun)) long allowed limits)
+      (under-ceilings (take n (acc begun)) (take n (ceilings begun)) long allowed limits)
 
 -- it was met by the archive
 module _ (c : tie.After-take-point) where

@@ -69,14 +69,11 @@ least-at-requires c κs =
     let q = c .before .before .before .before .before .before .before .before .pre in
     (whole (c .before .before), q .0, q .5)
 
-cast-sums : tie.Need-cast-sums Inv-loop μ-loop
-cast-sums c = omega (arith, c .least-at .ok)
-
 add-sums : tie.Need-add-sums Inv-loop μ-loop
 add-sums c =
     let a = c .before .before .before .before .before .before .before .before .before .args in
     let w = c .before .before .before .before .loop in
-    omega (arith, c .least-at .ok, sums-small (w .inv) (getD (now (a .s)) (getD (now (a .work)) (w .i) 0 + 2) 0))
+    omega (arith, c .least-at .ensures .1, sums-small (w .inv) (getD (now (a .s)) (getD (now (a .work)) (w .i) 0 + 2) 0))
 
 mul-sums-2 : tie.Need-mul-sums-2 Inv-loop μ-loop
 mul-sums-2 c = omega (arith, own (c .before .before .before))
@@ -95,7 +92,7 @@ loop-again c =
     let a = c .before .before .before .before .before .before .before .before .before .args in
     let w = c .before .before .before .before .loop in
     let cost = c .least-at in
-    sums-next (w .inv) (omega arith) _ (cost .result) (sym (getD-drop _ (now (a .s)) 2 0)) (cost .ensures) (omega (arith, cost .ok))
+    sums-next (w .inv) (omega arith) _ (cost .result) (sym (getD-drop _ (now (a .s)) 2 0)) (cost .ensures .0) (cost .ensures .1)
 
 returns : tie.Need-returns Inv-loop μ-loop
 returns c = sums-end (c .before .loop .inv) (omega arith)
@@ -116,7 +113,6 @@ bounds-over-spec =
     mul-sums
     array-read-sums
     least-at-requires
-    cast-sums
     add-sums
     mul-sums-2
     array-write-sums

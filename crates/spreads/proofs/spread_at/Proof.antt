@@ -23,9 +23,6 @@ table-entry-requires c κs =
     let start = counted .before .before .before in
     (start .pre .0, omega (arith, counted .entries-of .ensures))
 
-cast-cost : tie.Need-cast-cost Inv-loop μ-loop
-cast-cost c = search needs
-
 lesser-requires : tie.Need-lesser-requires Inv-loop μ-loop
 lesser-requires c κs = search needs
 
@@ -56,7 +53,6 @@ spread-at-spec =
     entries-of-requires
     loop-holds
     table-entry-requires
-    cast-cost
     lesser-requires
     larger-requires
     add-i

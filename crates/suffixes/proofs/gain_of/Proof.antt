@@ -1,5 +1,5 @@
 -- `suffixes::gain_of` meets its contract.
-use mathlib.Core.Path.{_≡_, refl}
+use mathlib.Core.Path.{_≡_}
 use mathlib.Core.Logic.{⊎-elim}
 use native.Mathlib.Omega.{arith}
 use lib.ListN.{getD}
@@ -15,21 +15,25 @@ array-read-cost : tie.Need-array-read-cost
 array-read-cost c = search needs
 
 -- the cost that the branches leave
-cost-is : (c : tie.Joined1) → c .if1 .cost ≡ pick (c .before .before .args .best .found) (getD (c .before .before .args .best .costs) (c .before .before .args .o) 0) (c .before .before .args .c)
+cost-is : (c : tie.Joined1) → let a = c .before .before .args in
+    c .if1 .cost ≡ pick (a .best .found) (getD (a .best .costs) (a .o) 0) (a .c)
 cost-is c = ⊎-elim (λ a. rw (a .0 .taken) (a .1)) (λ a. rw (a .0 .left) (a .1)) (c .if1 .came)
 
 returns : tie.Need-returns
 returns c = omega (arith, cost-is (c .before))
 
-sub-result : tie.Need-sub-result
-sub-result c = search needs
-
-cast-result : tie.Need-cast-result
-cast-result c = record { fits = omega (arith, cost-is (c .before .before), c .before .before .before .before .pre .1) }
+sub-gain : tie.Need-sub-gain
+sub-gain c = search needs
 
 returns-2 : tie.Need-returns-2
-returns-2 c = rw (cost-is (c .before .before)) refl
+returns-2 c = omega (arith, cost-is (c .before .before))
+
+cast-result : tie.Need-cast-result
+cast-result c = search needs
+
+returns-3 : tie.Need-returns-3
+returns-3 c = omega (arith, cost-is (c .before .before))
 
 pub gain-of-spec : {M : Type 1} → statement M
 gain-of-spec =
-    tie.close (tie.spec mul-cost array-read-cost returns sub-result cast-result returns-2)
+    tie.close (tie.spec mul-cost array-read-cost returns sub-gain returns-2 cast-result returns-3)

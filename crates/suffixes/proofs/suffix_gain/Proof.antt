@@ -8,7 +8,7 @@ use lib.Seq.{length-take-le}
 use denote.Ref.{now}
 use Rattle.model.specs.Limits.{maxVariables, maxObjectives}
 use Rattle.suffixes.proofs.SideLists.{sides-front}
-use Rattle.suffixes.proofs.SuffixSearch.{Suffix, suffix-placed, same-gains, same-long, suffix-setting, gain-fits, gain-holds}
+use Rattle.suffixes.proofs.SuffixSearch.{Suffix, suffix-placed, same-gains, same-long, suffix-setting, gain-holds}
 use borrow.Author.Needs.{needs}
 use Rattle.suffixes.proofs.suffix_gain.Statement.{statement}
 use Rattle.suffixes.proofs.suffix_gain.Tie as tie
@@ -122,12 +122,7 @@ array-read-gain-of : tie.Need-array-read-gain-of
 array-read-gain-of c = low (c .before .before .before .before .before .before .before .before .before .before .before .before .before .before .before .before .before .before .before .before .before .before .before .before)
 
 gain-of-requires : tie.Need-gain-of-requires
-gain-of-requires c κs =
-    let k = c .before .before .before .before .before .before .before .before .before .before .before .before .before .before .before in
-    let g = c .before .before .before .before .before .before .before .before .before .before .group-records in
-    let x = c .before .before .before .before .before .root-of in
-    let l = c .before .suffix-ceilings in
-    (low (c .before .before .before .before .before .before .before .before .before .before .before .before .before .before .before .before .before .before .before .before .before .before .before .before), gain-fits (place k) (g .last .1 .1 .1 .0) (g .ensures) (l .result) (l .ensures) (x .result) (x .ensures) (c .next-point .result) (c .next-point .ensures))
+gain-of-requires c κs = low (c .before .before .before .before .before .before .before .before .before .before .before .before .before .before .before .before .before .before .before .before .before .before .before .before)
 
 same-length : tie.Need-same-length
 same-length c = search needs

@@ -9,7 +9,7 @@ use denote.Ref.{now}
 use Rattle.model.specs.Limits.{maxObjectives, byteEnd}
 use Rattle.model.specs.Core.{coreSumEnd}
 use Rattle.model.specs.Bounds.{prefixOk}
-use Rattle.search.proofs.SumLimits.{total-fits}
+use Rattle.groups.proofs.SumLimits.{total-fits}
 use Rattle.search.proofs.Partials.{Standing, standing, next, next-room, next-prefix, next-good, next-sum, next-bound}
 use borrow.Author.Needs.{needs}
 use Rattle.search.proofs.Partial.with.Statement.{statement}
