@@ -8,13 +8,12 @@ use lib.Seq.{take-all, take-take, drop-drop, take-at, drop-at}
 use Rattle.model.specs.Limits.{maxTables}
 use Rattle.model.specs.Problems.{Problem}
 use Rattle.model.proofs.Points.{point-eq}
-use Rattle.groups.specs.Layout.{sourceAt, listAt, listEnd}
+use Rattle.layout.specs.Layout.{zonesEnd, sourceAt, listAt, listEnd}
 use Rattle.groups.specs.Groups.{tablesOver}
 use Rattle.groups.proofs.Overwritten.{take-drop}
 use Rattle.rows.specs.Rows.{rowAt, costsIn, pointIn, listIn, Framed}
 use Rattle.groups.specs.Sources.{sourceIn}
 use Rattle.directions.specs.declared.Directions as DD
-use Rattle.zones.specs.Zones.{zonesEnd}
 use Rattle.buckets.specs.Content.{Planned}
 use Rattle.buckets.specs.Sound.{Sound}
 use Rattle.pruning.specs.Tests.{zonesOf}

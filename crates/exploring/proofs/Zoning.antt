@@ -14,14 +14,14 @@ use Rattle.model.specs.Archive.{Zoned}
 use Rattle.model.proofs.Elements.{all-take, all-each}
 use Rattle.model.proofs.Vectors.{at-most-true}
 use Rattle.model.proofs.Zones.{zones-start, zones-none, zones-split, under-none}
-use Rattle.groups.specs.Layout.{listEnd}
+use Rattle.layout.specs.Layout.{zonesEnd, listEnd}
 use Rattle.rows.specs.Rows.{rowAt, costsIn, pointIn, listIn}
 use Rattle.rows.proofs.RowParts.{costs-long}
 use Rattle.rows.proofs.RowPlaces.{row-listed}
 use Rattle.archive.proofs.RowReads.{front-costs}
 use Rattle.directions.specs.Directions.{Sensible}
 use Rattle.directions.specs.declared.Directions as DD
-use Rattle.zones.specs.Zones.{zonesEnd, cornersIn, Measured, SplitAt, FirstZone}
+use Rattle.zones.specs.Zones.{cornersIn, Measured, SplitAt, FirstZone}
 use Rattle.zones.proofs.ZoneRows.{corners-wide}
 use Rattle.pruning.specs.Tests.{zonesOf}
 use Rattle.exploring.specs.Passes.{ZonesWritten, ZonesHold}

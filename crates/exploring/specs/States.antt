@@ -12,7 +12,7 @@ use Rattle.model.specs.Problems.{Problem, Word}
 use Rattle.model.specs.Costs.{isChoice}
 use Rattle.model.specs.Frontiers.{Point, Reached}
 use Rattle.model.specs.Archive.{Covered, Archived, Distinct, Follows, Zoned}
-use Rattle.groups.specs.Layout.{listEnd}
+use Rattle.layout.specs.Layout.{listEnd}
 use Rattle.rows.specs.Rows.{listIn}
 use Rattle.groups.specs.Sources.{sourceIn, sourceProblem}
 use Rattle.directions.specs.Directions.{directionEnd, widthOf, leadWeights}

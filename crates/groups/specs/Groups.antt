@@ -10,7 +10,7 @@ use Rattle.model.specs.Limits.{maxTables, maxVariables}
 use Rattle.model.specs.Problems.{Table, DomainSize}
 use Rattle.model.specs.Reading.{tableScope, tableOf}
 use Rattle.problem.specs.Records.{Whole}
-use Rattle.groups.specs.Layout.{groupsAt, recordsAt, searchEnd}
+use Rattle.layout.specs.Layout.{groupsAt, recordsAt, searchEnd}
 
 unfoldable pub hasVariable : ℕ → List ℕ → Bool
 hasVariable v [] = false

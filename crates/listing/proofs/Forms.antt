@@ -11,7 +11,7 @@ use Rattle.model.specs.Problems.{DomainSize}
 use Rattle.model.specs.Frontiers.{Point, frontier}
 use Rattle.model.proofs.Bits.{true-false}
 use Rattle.problem.specs.Records.{Whole}
-use Rattle.groups.specs.Layout.{sourceAt}
+use Rattle.layout.specs.Layout.{sourceAt}
 use Rattle.groups.specs.Sources.{Source, sourceProblem}
 use Rattle.passes.specs.Says.{FoundSays}
 use Rattle.passes.specs.declared.Found as DF

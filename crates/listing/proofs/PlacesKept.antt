@@ -11,7 +11,7 @@ use Rattle.model.specs.Frontiers.{frontier}
 use Rattle.model.specs.Reading.{tableLength, tableOf, tablesAt, placesAt}
 use Rattle.model.specs.Calls.{over as filled}
 use Rattle.problem.specs.Records.{Whole, AllWhole}
-use Rattle.groups.specs.Layout.{sourceAt}
+use Rattle.layout.specs.Layout.{sourceAt}
 use Rattle.groups.specs.Groups.{tablesOver}
 use Rattle.groups.proofs.Overwritten.{over, over-length, over-here}
 use Rattle.groups.specs.Sources.{sourceProblem, Source}

@@ -5,7 +5,7 @@ use Prim.Native.Nat.{ℕ, _+_, _-_, _*_, _≤_, _<_}
 use native.Mathlib.Omega.{arith}
 use lib.ListN.{length, getD}
 use Rattle.model.specs.Limits.{maxObjectives}
-use Rattle.groups.specs.Layout.{recordsAt, gainsAt, listAt}
+use Rattle.layout.specs.Layout.{recordsAt, gainsAt, listAt}
 use Rattle.groups.specs.Groups.{placesIn, Placed, Grouped}
 use Rattle.groups.proofs.Overwritten.{over, over-length, over-before, over-part}
 use Rattle.search.specs.States.{gainsIn}

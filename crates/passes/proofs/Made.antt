@@ -13,7 +13,7 @@ use Rattle.model.specs.Calls.{padded}
 use Rattle.model.proofs.Bits.{true-false}
 use Rattle.model.proofs.Best.{Pool}
 use Rattle.model.proofs.Passes.{Prefix, prefix-none}
-use Rattle.groups.specs.Layout.{listEnd}
+use Rattle.layout.specs.Layout.{listEnd}
 use Rattle.problem.proofs.Filled.{length-padded}
 use Rattle.groups.proofs.Overwritten.{over}
 use Rattle.rows.specs.Rows.{rowAt, pointIn, listIn, RowWritten}

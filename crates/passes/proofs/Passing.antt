@@ -18,7 +18,7 @@ use Rattle.model.proofs.Passes.{Prefix, found-count}
 use Rattle.model.proofs.Frontier.{reached-width, under-words}
 use Rattle.model.proofs.Search.{After, pass-holds, pass-none, pass-some}
 use Rattle.model.proofs.Suffixes.{gains-sound}
-use Rattle.groups.specs.Layout.{listEnd}
+use Rattle.layout.specs.Layout.{listEnd}
 use Rattle.groups.specs.Groups.{tablesOver, placesIn, Grouped}
 use Rattle.rows.specs.Rows.{rowAt, listIn}
 use Rattle.search.specs.States.{heldOf, problemIn, gainsIn, ruleOf, Setting, Stands}

@@ -78,7 +78,7 @@ pub fn find_source(
         room (now (work .entry)) (now (work .exit)) f ⌝ }
 {
     suffixes::find_gains(s, sizes, r, p, ceilings, work);
-    groups::copy_numbers(groups::SOURCE_AT, groups::RECORDS_AT, r, work);
+    groups::copy_numbers(layout::SOURCE_AT, layout::RECORDS_AT, r, work);
     groups::group_records(s, sizes, r, work);
     let root = search::root_of(s, sizes, r, work);
     find_points(root, s, sizes, r, p, ceilings, room, work)

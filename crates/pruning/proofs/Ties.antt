@@ -11,7 +11,7 @@ use Rattle.model.specs.Vectors.{atMost}
 use Rattle.model.specs.Archive.{weighted}
 use Rattle.model.proofs.Bits.{true-false}
 use Rattle.model.proofs.Vectors.{AtMost, at-most-true, at-most-test}
-use Rattle.groups.specs.Layout.{listEnd}
+use Rattle.layout.specs.Layout.{listEnd}
 use Rattle.rows.specs.Rows.{costsIn}
 use Rattle.rows.proofs.RowParts.{costs-long}
 use Rattle.directions.specs.Directions.{maxDirections, weightsOf, directionsOf, widthOf, Sensible}

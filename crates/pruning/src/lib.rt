@@ -7,13 +7,10 @@ ghost use lib.ListN.{length, getD, take};
 ghost use Rattle.model.specs.Basics.{All};
 ghost use Rattle.model.specs.Limits.{maxVariables, maxPoints, sumEnd};
 ghost use Rattle.model.specs.Archive.{weighted};
-ghost use Rattle.groups.specs.Layout.{listEnd};
+ghost use Rattle.layout.specs.Layout.{listEnd};
 ghost use Rattle.directions.specs.Directions.{weightsOf, Sensible};
 ghost use Rattle.zones.specs.Zones.{Measured};
 ghost use Rattle.pruning.specs.Tests.{zonesOf, Untied, Dead};
-
-// The zones are the first numbers of work memory.
-pub const ZONES_END: usize = 1024;
 
 // How many points and zones there are, and the limit: only vectors with a smaller leading sum are sought.
 pub struct Run {
@@ -108,7 +105,7 @@ pub fn is_alive(
     if directions::lead_of(b, d) >= run.limit {
         return false;
     }
-    if zones::is_reached(b, run.zones, d, &work[..ZONES_END]) {
+    if zones::is_reached(b, run.zones, d, &work[..layout::ZONES_END]) {
         return true;
     }
     is_tied(x, b, run.points, n, d, work)

@@ -10,7 +10,7 @@ use Rattle.model.specs.Basics.{All}
 use Rattle.model.specs.Limits.{maxObjectives, maxVariables}
 use Rattle.model.specs.Frontiers.{Point}
 use Rattle.model.specs.Calls.{flatCosts, flatChoices}
-use Rattle.groups.specs.Layout.{rowWidth}
+use Rattle.layout.specs.Layout.{rowWidth}
 use Rattle.rows.specs.Rows.{rowAt, costsIn, valuesIn, pointIn, listIn}
 use Rattle.rows.proofs.RowsOut.{joined}
 

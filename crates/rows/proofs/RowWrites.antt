@@ -11,7 +11,7 @@ use Rattle.model.specs.Frontiers.{Point, point}
 use Rattle.model.specs.Calls.{padded}
 use Rattle.model.proofs.Points.{point-eq}
 use Rattle.problem.proofs.Filled.{take-padded}
-use Rattle.groups.specs.Layout.{listAt, listEnd, rowWidth}
+use Rattle.layout.specs.Layout.{listAt, listEnd, rowWidth}
 use Rattle.groups.proofs.Overwritten.{over, over-length, over-behind, over-front, over-part}
 use Rattle.rows.specs.Rows.{rowAt, costsIn, valuesIn, pointIn, rowIn, Framed, RowWritten}
 use Rattle.rows.proofs.PaddedParts.{padded-long}

@@ -9,7 +9,7 @@ use Rattle.model.specs.Encoding.{Byte}
 use Rattle.model.specs.Frontiers.{Point, point}
 use Rattle.model.specs.Calls.{padded}
 use Rattle.model.specs.declared.Point as DP
-use Rattle.groups.specs.Layout.{listAt, rowWidth, listEnd}
+use Rattle.layout.specs.Layout.{listAt, rowWidth, listEnd}
 
 -- where row i starts
 abbrev pub rowAt : ℕ → ℕ

@@ -8,12 +8,8 @@ ghost use Rattle.model.specs.Limits.{maxObjectives, maxVariables, maxPoints};
 ghost use Rattle.model.specs.Problems.{Word};
 ghost use Rattle.model.specs.Encoding.{Byte};
 ghost use Rattle.model.specs.Calls.{over, padded, divided, flatCosts, flatChoices};
-ghost use Rattle.groups.specs.Layout.{listAt, listEnd};
+ghost use Rattle.layout.specs.Layout.{listAt, listEnd};
 ghost use Rattle.rows.specs.Rows.{rowAt, pointIn, listIn, recordOf, recordsOf, RowsHold};
-
-pub const LIST_AT: usize = 1405;
-
-pub const ROW_WIDTH: usize = 28;
 
 // Writes the first `p` costs and zeros, and the 24 values, to row `k`.
 pub fn store_point(costs: [u64; 4], choice: [u8; 24], p: usize, k: usize, work: &mut [u32])
@@ -22,7 +18,7 @@ pub fn store_point(costs: [u64; 4], choice: [u8; 24], p: usize, k: usize, work: 
         ≡ take (rowAt k) (now (work .entry)) ++ padded maxObjectives (take p costs) ++ choice
         ++ drop (rowAt k + 28) (now (work .entry)) ⌝ }
 {
-    let at = LIST_AT + ROW_WIDTH * k;
+    let at = layout::LIST_AT + layout::ROW_WIDTH * k;
     store_costs(costs, p, at, work);
     store_choice(choice, at + 4, work);
 }
@@ -77,7 +73,7 @@ pub fn copy_costs(work: &[u32], k: usize, n: usize, p: usize, costs: &mut [u32])
 {
     let mut row: usize = 0;
     while row < k {
-        copy_numbers(work, LIST_AT + ROW_WIDTH * row, p, costs, row * p);
+        copy_numbers(work, layout::LIST_AT + layout::ROW_WIDTH * row, p, costs, row * p);
         row += 1;
     }
 }
@@ -105,7 +101,7 @@ pub fn copy_choices(work: &[u32], k: usize, n: usize, p: usize, choices: &mut [u
 {
     let mut row: usize = 0;
     while row < k {
-        copy_values(work, LIST_AT + ROW_WIDTH * row + 4, n, choices, row * n);
+        copy_values(work, layout::LIST_AT + layout::ROW_WIDTH * row + 4, n, choices, row * n);
         row += 1;
     }
 }
@@ -131,7 +127,7 @@ pub fn point_at(work: &[u32], row: usize, n: usize, p: usize) -> model::Point
         × All Byte (pointIn p n (now work) row .choice) ⌝ }
     ensures { λ r. ⌜ r ≡ recordOf (pointIn p n (now (work .entry)) row) ⌝ }
 {
-    let at = LIST_AT + ROW_WIDTH * row;
+    let at = layout::LIST_AT + layout::ROW_WIDTH * row;
     let mut costs = [0u32; 4];
     let mut choice = [0u8; 24];
     copy_numbers(work, at, p, &mut costs, 0);

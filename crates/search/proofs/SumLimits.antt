@@ -14,7 +14,7 @@ use Rattle.model.proofs.Elements.{all-at, all-each, all-drop}
 use Rattle.model.proofs.Words.{words-below}
 use Rattle.model.proofs.Totals.{total-limit}
 use Rattle.model.proofs.LeastEntry.{least-limit}
-use Rattle.groups.specs.Layout.{recordsAt}
+use Rattle.layout.specs.Layout.{recordsAt}
 use Rattle.groups.specs.Groups.{tablesOver, placesIn}
 use Rattle.groups.proofs.PlacedRecords.{tables-count}
 use Rattle.search.specs.States.{tablesIn}

@@ -10,7 +10,8 @@ ghost use Rattle.model.specs.Problems.{Word};
 ghost use Rattle.model.specs.Vectors.{atMost};
 ghost use Rattle.model.specs.Archive.{lowered};
 ghost use Rattle.directions.specs.Directions.{maxDirections, directionsOf, widthOf, Sensible};
-ghost use Rattle.zones.specs.Zones.{maxZones, zoneWidth, zonesEnd, cornerIn, cornersIn, clamped};
+ghost use Rattle.layout.specs.Layout.{zonesEnd};
+ghost use Rattle.zones.specs.Zones.{maxZones, zoneWidth, cornerIn, cornersIn, clamped};
 ghost use Rattle.zones.specs.Zones.{Measured, SplitAt, FirstZone};
 ghost use Rattle.zones.specs.Steps.{Written, Held, PartAdded, Closed, ZonesSplit};
 

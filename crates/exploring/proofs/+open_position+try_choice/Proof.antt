@@ -12,7 +12,7 @@ use denote.Ref.{now}
 use Rattle.model.specs.Limits.{maxDomain, byteEnd}
 use Rattle.model.specs.Problems.{DomainSize}
 use Rattle.model.proofs.Elements.{all-below}
-use Rattle.groups.specs.Layout.{listEnd}
+use Rattle.layout.specs.Layout.{listEnd}
 use Rattle.directions.specs.Directions.{widthOf, leadAt}
 use Rattle.buckets.specs.Places.{numbersAt, orderIn}
 use Rattle.buckets.specs.Content.{Planned}

@@ -5,7 +5,7 @@ use native.Mathlib.Omega.{arith}
 use lib.ListN.{getD, length-drop}
 use denote.Ref.{now}
 use Rattle.model.specs.Limits.{byteEnd}
-use Rattle.groups.specs.Layout.{listEnd}
+use Rattle.layout.specs.Layout.{listEnd}
 use Rattle.exploring.specs.States.{Ready, Still}
 use Rattle.exploring.proofs.Memory.{ready-still, zones-still, lent-plan}
 use Rattle.exploring.proofs.Passes.{root-standing, root-passed}

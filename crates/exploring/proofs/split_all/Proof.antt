@@ -8,7 +8,7 @@ use lib.Seq.{length-take-le}
 use borrow.Author.Needs.{needs}
 use denote.Ref.{now}
 use Rattle.model.specs.Limits.{wordEnd}
-use Rattle.zones.specs.Zones.{zonesEnd}
+use Rattle.layout.specs.Layout.{zonesEnd}
 use Rattle.exploring.specs.Passes.{ZonesWritten, ZonesHold}
 use Rattle.exploring.proofs.Zoning.{split-words, split-written, split-hold}
 use Rattle.exploring.proofs.split_all.Statement.{statement}

@@ -11,7 +11,7 @@ use Rattle.model.specs.Limits.{maxObjectives}
 use Rattle.model.specs.Problems.{Word}
 use Rattle.model.proofs.Elements.{all-take}
 use Rattle.rows.proofs.Arrays.{array-length}
-use Rattle.zones.specs.Zones.{zonesEnd}
+use Rattle.layout.specs.Layout.{zonesEnd}
 use Rattle.exploring.proofs.Zoning.{lent-same, lent-measured, lent-written, first-hold, hold-rows, written-trans}
 use borrow.Author.Needs.{needs}
 use Rattle.exploring.proofs.start_zones.Statement.{statement}

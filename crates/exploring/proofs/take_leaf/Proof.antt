@@ -17,8 +17,7 @@ use Rattle.model.proofs.Frontier.{under-words}
 use Rattle.rows.proofs.Arrays.{array-length}
 use Rattle.archive.specs.Changes.{maxWeight}
 use Rattle.directions.specs.Directions.{maxDirections, leadAt}
-use Rattle.groups.specs.Layout.{listEnd}
-use Rattle.zones.specs.Zones.{zonesEnd}
+use Rattle.layout.specs.Layout.{zonesEnd, listEnd}
 use Rattle.exploring.proofs.Memory.{framed-zones, lent-front, lent-behind}
 use Rattle.exploring.proofs.Zoning.{lent-long, lent-same, lent-measured}
 use Rattle.exploring.proofs.Leaving.{opened-same, late-covers}

@@ -56,7 +56,7 @@ use Rattle.model.specs.declared.Point.{Point}
 use Rattle.model.proofs.Point as P
 use Rattle.model.proofs.Point.Laws as P′
 use Rattle.problem.proofs.Walks.{sliceOf, OwnedSlice, number, twice}
-use Rattle.groups.specs.Layout.{listEnd}
+use Rattle.layout.specs.Layout.{listEnd}
 use Rattle.rows.specs.Rows.{pointIn, recordOf, RowsHold}
 use Rattle.rows.proofs.RowParts.{row-has}
 use Rattle.rows.proofs.RecordsOut.{written, written-none, written-length, written-next}

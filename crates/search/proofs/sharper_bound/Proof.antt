@@ -7,7 +7,7 @@ use Rattle.model.specs.Limits.{sumEnd}
 use Rattle.model.proofs.Elements.{all-map}
 use Rattle.vectors.specs.Fronts.{Half}
 use Rattle.vectors.proofs.Fours.{four-half}
-use Rattle.groups.specs.Layout.{gainsAt}
+use Rattle.layout.specs.Layout.{gainsAt}
 use borrow.Author.Needs.{needs}
 use Rattle.search.proofs.sharper_bound.Statement.{statement}
 use Rattle.search.proofs.sharper_bound.Tie as tie
