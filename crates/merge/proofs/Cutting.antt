@@ -20,7 +20,7 @@ use Rattle.model.proofs.Merging.{sums-best, sums-bytes}
 use Rattle.passes.specs.declared.Found as DF
 use Rattle.listing.specs.Says.{problemAt, Accepted}
 use Rattle.passes.specs.Says.{FoundSays}
-use Rattle.merge.specs.Sums.{firstRow, secondRow, firstIn, secondIn, sumsIn, Halved}
+use Rattle.sums.specs.Sums.{firstRow, secondRow, firstIn, secondIn, sumsIn, Halved}
 use Rattle.merge.specs.Says.{KeptSays, noLists, CutFound}
 use Rattle.merge.proofs.Keeping.{kept-few, first-same}
 

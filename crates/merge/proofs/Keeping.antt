@@ -18,7 +18,7 @@ use Rattle.groups.proofs.Overwritten.{over, take-drop, over-length, over-behind
 use Rattle.rows.specs.Rows.{rowAt, listIn}
 use Rattle.passes.specs.declared.Found as DF
 use Rattle.passes.specs.Says.{FoundSays}
-use Rattle.merge.specs.Sums.{firstRow, secondRow, firstIn}
+use Rattle.sums.specs.Sums.{firstRow, secondRow, firstIn}
 use Rattle.merge.specs.Says.{KeptSays}
 
 -- a list that is not longer than its room

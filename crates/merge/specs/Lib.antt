@@ -1,3 +1,2 @@
--- What the merge's functions rely on and ensure.
-pub mod Sums
+-- What keeping a half's list and the whole cut ensure.
 pub mod Says

@@ -24,8 +24,8 @@ use Rattle.search.specs.States.{heldOf}
 use Rattle.search.specs.declared.Best as DB
 use Rattle.passes.specs.Says.{FoundSays}
 use Rattle.passes.proofs.Made.{Made, made-done, made-full, made-next}
-use Rattle.merge.specs.Sums.{firstRow, secondRow, sumsIn, pointOf, Halved}
-use Rattle.merge.proofs.Sums.{sums-good, rows-kept, sums-kept}
+use Rattle.sums.specs.Sums.{firstRow, secondRow, sumsIn, pointOf, Halved}
+use Rattle.sums.proofs.Sums.{sums-good, rows-kept, sums-kept}
 
 -- the sums, as the points that are listed
 abbrev pub Summed : ℕ → ℕ → List ℕ → List ℕ → ℕ → ℕ → Pool

@@ -1,4 +1,4 @@
--- `merge::sum_of` meets its contract: numbers of work memory are small enough that no sum of two wraps.
+-- `sums::sum_of` meets its contract: numbers of work memory are small enough that no sum of two wraps.
 use Prim.Native.Nat.{ℕ, _+_, _≤_}
 use native.Mathlib.Omega.{arith}
 use lib.ListN.{length, take, drop}
@@ -8,10 +8,10 @@ use Rattle.model.specs.Limits.{maxObjectives}
 use Rattle.rows.specs.Rows.{rowAt}
 use Rattle.vectors.specs.Fronts.{Half}
 use Rattle.vectors.proofs.Fours.{four-half}
-use Rattle.merge.proofs.Adding.{costs-added}
+use Rattle.sums.proofs.Adding.{costs-added}
 use borrow.Author.Needs.{needs}
-use Rattle.merge.proofs.sum_of.Statement.{statement}
-use Rattle.merge.proofs.sum_of.Tie as tie
+use Rattle.sums.proofs.sum_of.Statement.{statement}
+use Rattle.sums.proofs.sum_of.Tie as tie
 
 mul-a : tie.Need-mul-a
 mul-a c = search needs

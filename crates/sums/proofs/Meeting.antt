@@ -16,7 +16,7 @@ use Rattle.rows.specs.Rows.{pointIn, listIn}
 use Rattle.rows.proofs.RowParts.{row-has}
 use Rattle.search.specs.States.{heldOf}
 use Rattle.search.specs.declared.Best as DB
-use Rattle.merge.specs.Sums.{firstRow, secondRow, firstIn, secondIn, pointOf, Values, Paired, Halved}
+use Rattle.sums.specs.Sums.{firstRow, secondRow, firstIn, secondIn, pointOf, Values, Paired, Halved}
 
 -- what holds a point has found it
 pub held-some : (p n : ℕ) (h : DB.Best) (x : Point) → heldOf p n h ≡ just x → (h .found ≡ true) × (pointOf p n h ≡ x)

@@ -1,4 +1,4 @@
--- `merge::meet_row` meets its contract. The invariant: the pass goes on from row j as it does from the start.
+-- `sums::meet_row` meets its contract. The invariant: the pass goes on from row j as it does from the start.
 use mathlib.Core.Path.{_≡_, refl, sym, _∙_}
 use mathlib.Core.Bool.{true}
 use Prim.Native.Nat.{_+_, _-_, _≤_}
@@ -8,10 +8,10 @@ use Rattle.model.specs.Frontiers.{Point}
 use Rattle.model.specs.Merging.{sumOf}
 use Rattle.rows.specs.Rows.{pointIn}
 use Rattle.search.specs.States.{heldOf}
-use Rattle.merge.specs.Sums.{secondRow, pointOf}
-use Rattle.merge.proofs.Meeting.{held-some, meetsFrom, meets-start, meets-end, meets-next, paired-values}
-use Rattle.merge.proofs.meet_row.Statement.{statement}
-use Rattle.merge.proofs.meet_row.Tie as tie
+use Rattle.sums.specs.Sums.{secondRow, pointOf}
+use Rattle.sums.proofs.Meeting.{held-some, meetsFrom, meets-start, meets-end, meets-next, paired-values}
+use Rattle.sums.proofs.meet_row.Statement.{statement}
+use Rattle.sums.proofs.meet_row.Tie as tie
 
 abbrev Inv-loop : tie.InvT-loop
 Inv-loop i b n work k p ceilings best₀ j₀ best j = (j ≤ b) × (meetsFrom p n ceilings work k (pointIn p n work i) b j (heldOf p n best) ≡ meetsFrom p n ceilings work k (pointIn p n work i) b 0 (heldOf p n best₀))

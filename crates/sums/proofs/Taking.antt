@@ -11,7 +11,7 @@ use Rattle.model.specs.Search.{Held, matched}
 use Rattle.model.specs.Merging.{ahead, nearer, leastLeft}
 use Rattle.search.specs.States.{heldOf}
 use Rattle.search.specs.declared.Best as DB
-use Rattle.merge.specs.Sums.{pointOf}
+use Rattle.sums.specs.Sums.{pointOf}
 
 module _ (p n : ℕ) (ps : List Point) (ceilings : List ℕ) (sum held : DB.Best) where
   -- what is held once the sum is met

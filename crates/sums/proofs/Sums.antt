@@ -17,7 +17,7 @@ use Rattle.groups.specs.Layout.{listEnd}
 use Rattle.rows.specs.Rows.{rowAt, pointIn, listIn}
 use Rattle.rows.proofs.RowParts.{costs-long, values-long}
 use Rattle.passes.proofs.Since.{drop-more}
-use Rattle.merge.specs.Sums.{firstRow, secondRow, firstIn, secondIn, sumsIn, Halved}
+use Rattle.sums.specs.Sums.{firstRow, secondRow, firstIn, secondIn, sumsIn, Halved}
 
 -- what the sums of all pairs under the ceilings have
 module _ (P : Point → Type 0) (ceilings : List ℕ) where

@@ -1,4 +1,4 @@
--- `merge::choice_sum` meets its contract. The invariant: the array is the values added so far, then zeros.
+-- `sums::choice_sum` meets its contract. The invariant: the array is the values added so far, then zeros.
 use mathlib.Core.Path.{_≡_, refl}
 use Prim.Native.Nat.{_+_, _-_, _≤_, _<_}
 use native.Mathlib.Omega.{arith}
@@ -8,10 +8,10 @@ use denote.Ref.{now}
 use Rattle.model.specs.Limits.{maxVariables, maxDomain}
 use Rattle.model.specs.Calls.{padded}
 use Rattle.problem.proofs.Filled.{padded-step, take-padded}
-use Rattle.merge.proofs.Adding.{addedIn, sums-long, sums-more, sums-small}
+use Rattle.sums.proofs.Adding.{addedIn, sums-long, sums-more, sums-small}
 use borrow.Author.Needs.{needs}
-use Rattle.merge.proofs.choice_sum.Statement.{statement}
-use Rattle.merge.proofs.choice_sum.Tie as tie
+use Rattle.sums.proofs.choice_sum.Statement.{statement}
+use Rattle.sums.proofs.choice_sum.Tie as tie
 
 abbrev Inv-loop : tie.InvT-loop
 Inv-loop work a b n sum₀ i₀ sum i = (i ≤ n) × (sum ≡ padded maxVariables (take i (addedIn work a b n)))

@@ -1,13 +1,13 @@
--- `merge::is_ahead` meets its contract: equal costs are those of which neither is earlier.
+-- `sums::is_ahead` meets its contract: equal costs are those of which neither is earlier.
 use mathlib.Core.Path.{_≡_, sym, _∙_}
 use native.Mathlib.Omega.{arith}
 use lib.ListN.{length, take}
 use lib.Seq.{length-take-le}
-use Rattle.merge.specs.Sums.{pointOf}
-use Rattle.merge.proofs.Ahead.{costs-four, ahead-costs, ahead-later, ahead-tied}
+use Rattle.sums.specs.Sums.{pointOf}
+use Rattle.sums.proofs.Ahead.{costs-four, ahead-costs, ahead-later, ahead-tied}
 use borrow.Author.Needs.{needs}
-use Rattle.merge.proofs.is_ahead.Statement.{statement}
-use Rattle.merge.proofs.is_ahead.Tie as tie
+use Rattle.sums.proofs.is_ahead.Statement.{statement}
+use Rattle.sums.proofs.is_ahead.Tie as tie
 
 is-earlier-requires : tie.Need-is-earlier-requires
 is-earlier-requires c κs = search needs

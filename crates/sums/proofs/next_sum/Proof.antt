@@ -1,4 +1,4 @@
--- `merge::next_sum` meets its contract. The invariant: the pass goes on from row i as it does from the start.
+-- `sums::next_sum` meets its contract. The invariant: the pass goes on from row i as it does from the start.
 use mathlib.Core.Path.{_≡_, sym, _∙_}
 use Prim.Native.Nat.{_-_, _≤_}
 use native.Mathlib.Omega.{arith}
@@ -7,10 +7,10 @@ use Rattle.model.specs.Search.{nothing}
 use Rattle.model.specs.Merging.{leastLeft}
 use Rattle.rows.specs.Rows.{listIn}
 use Rattle.search.specs.States.{heldOf}
-use Rattle.merge.specs.Sums.{sumsIn}
-use Rattle.merge.proofs.Meeting.{passFrom, pass-start, pass-end, pass-next, halved-paired}
-use Rattle.merge.proofs.next_sum.Statement.{statement}
-use Rattle.merge.proofs.next_sum.Tie as tie
+use Rattle.sums.specs.Sums.{sumsIn}
+use Rattle.sums.proofs.Meeting.{passFrom, pass-start, pass-end, pass-next, halved-paired}
+use Rattle.sums.proofs.next_sum.Statement.{statement}
+use Rattle.sums.proofs.next_sum.Tie as tie
 
 abbrev Inv-loop : tie.InvT-loop
 Inv-loop a b n work k p ceilings best₀ i₀ best i = (i ≤ a) × (passFrom p n ceilings work k a b i (heldOf p n best) ≡ leastLeft (listIn p n work 0 k) (sumsIn p n ceilings work a b) nothing)

@@ -1,4 +1,4 @@
--- The sums of two lists of points in work memory: what the merge's functions rely on and ensure.
+-- The sums of two lists of points in work memory: what the passes over them rely on and ensure.
 use mathlib.Core.List.{List, List·Memᴰ as In}
 use Prim.Native.Nat.{ℕ, _+_, _≤_, _<_}
 use lib.ListN.{length, take}

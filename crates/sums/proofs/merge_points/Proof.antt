@@ -1,4 +1,4 @@
--- `merge::merge_points` meets its contract. The invariant, `Made`: the first k of the best sums are in work memory.
+-- `sums::merge_points` meets its contract. The invariant, `Made`: the first k of the best sums are in work memory.
 use Prim.Native.Nat.{_-_, _≤_}
 use native.Mathlib.Omega.{arith}
 use borrow.Author.Tests.{not-true, not-false}
@@ -7,9 +7,9 @@ use mir.Syntax.{w64}
 use Rattle.model.specs.Limits.{maxObjectives}
 use Rattle.rows.proofs.Arrays.{array-length}
 use Rattle.passes.proofs.Made.{Made, made-start}
-use Rattle.merge.proofs.Merging.{Summed, merging-halved, merging-done, merging-full, sum-words, merging-next}
-use Rattle.merge.proofs.merge_points.Statement.{statement}
-use Rattle.merge.proofs.merge_points.Tie as tie
+use Rattle.sums.proofs.Merging.{Summed, merging-halved, merging-done, merging-full, sum-words, merging-next}
+use Rattle.sums.proofs.merge_points.Statement.{statement}
+use Rattle.sums.proofs.merge_points.Tie as tie
 
 abbrev Inv-loop : tie.InvT-loop
 Inv-loop a b n p ceilings room work₀ k₀ work k = (k ≤ room) × Made (Summed p n ceilings work₀ a b) p n work₀ work k

@@ -1,4 +1,4 @@
--- `merge::take_sum` meets its contract: its tests are those of a pass over one sum, in their order.
+-- `sums::take_sum` meets its contract: its tests are those of a pass over one sum, in their order.
 use mathlib.Core.Path.{_≡_, sym, _∙_}
 use mathlib.Core.Bool.{true, false}
 use mathlib.Core.List.{List}
@@ -9,10 +9,10 @@ use Rattle.model.specs.Vectors.{under}
 use Rattle.model.specs.Frontiers.{Point}
 use Rattle.model.specs.Search.{matched}
 use Rattle.rows.specs.Rows.{listIn}
-use Rattle.merge.proofs.Taking.{taken-over, taken-listed, taken-later, taken-ahead, taken-first}
+use Rattle.sums.proofs.Taking.{taken-over, taken-listed, taken-later, taken-ahead, taken-first}
 use borrow.Author.Needs.{needs}
-use Rattle.merge.proofs.take_sum.Statement.{statement}
-use Rattle.merge.proofs.take_sum.Tie as tie
+use Rattle.sums.proofs.take_sum.Statement.{statement}
+use Rattle.sums.proofs.take_sum.Tie as tie
 
 abbrev listed : tie.Start → List Point
 listed s = listIn (s .args .p) (s .args .n) (now (s .args .work)) 0 (s .args .k)

@@ -10,7 +10,7 @@ use Rattle.model.specs.Vectors.{added}
 use Rattle.model.proofs.Elements.{all-below}
 use Rattle.model.proofs.Sums.{added-length}
 use Rattle.vectors.proofs.Fours.{take-added}
-use Rattle.merge.specs.Sums.{Values}
+use Rattle.sums.specs.Sums.{Values}
 
 added-at : (xs ys : List ℕ) (i : ℕ) → i < length xs → i < length ys → getD (added xs ys) i 0 ≡ getD xs i 0 + getD ys i 0
 unfolding added

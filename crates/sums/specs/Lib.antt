@@ -1,0 +1,2 @@
+-- What the passes over sums rely on and ensure.
+pub mod Sums
