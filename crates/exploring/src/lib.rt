@@ -8,6 +8,7 @@ ghost use Rattle.model.specs.Limits.{maxVariables, maxDomain, maxPoints};
 ghost use Rattle.model.specs.Problems.{Word};
 ghost use Rattle.model.specs.Frontiers.{frontier};
 ghost use Rattle.layout.specs.Layout.{listEnd};
+ghost use Rattle.rows.specs.Rows.{EachCost};
 ghost use Rattle.directions.specs.Directions.{Sensible};
 ghost use Rattle.zones.specs.Zones.{Measured};
 ghost use Rattle.pruning.specs.Tests.{zonesOf};
@@ -100,7 +101,7 @@ fn take_leaf(
 // Takes what the first `c` archived points match out of `m` zones; how many there are then.
 fn split_all(c: usize, m: usize, d: directions::Directions, work: &mut [u32]) -> usize
     requires { ⌜ Sensible d × (listEnd ≤ length (now work)) × (c ≤ maxPoints + 1)
-        × Measured d (zonesOf (now work)) m ⌝ }
+        × Measured d (zonesOf (now work)) m × EachCost Word (d .objectives) (now work) c ⌝ }
     ensures { λ t. ⌜ ZonesWritten d (now (work .entry)) (now (work .exit)) t
         × ((ceilings : List ℕ) → ZonesHold d c ceilings (now (work .entry)) (now (work .entry)) m
         → ZonesHold d c ceilings (now (work .entry)) (now (work .exit)) t) ⌝ }
@@ -108,7 +109,7 @@ fn split_all(c: usize, m: usize, d: directions::Directions, work: &mut [u32]) ->
     let mut zones = m;
     let mut i: usize = 0;
     while i < c {
-        let costs = archive::row_costs(i, work);
+        let costs = rows::row_costs(i, work);
         zones = zones::split_zones(costs, zones, d, &mut work[..layout::ZONES_END]);
         i += 1;
     }
@@ -118,7 +119,8 @@ fn split_all(c: usize, m: usize, d: directions::Directions, work: &mut [u32]) ->
 // The zones at the start of a pass: all that is under the ceilings and that no archived point matches. How many there
 // are.
 fn start_zones(c: usize, ceilings: [u64; 4], d: directions::Directions, work: &mut [u32]) -> usize
-    requires { ⌜ Sensible d × (listEnd ≤ length (now work)) × (c ≤ maxPoints + 1) × All Word ceilings ⌝ }
+    requires { ⌜ Sensible d × (listEnd ≤ length (now work)) × (c ≤ maxPoints + 1) × All Word ceilings
+        × EachCost Word (d .objectives) (now work) c ⌝ }
     ensures { λ m. ⌜ ZonesWritten d (now (work .entry)) (now (work .exit)) m
         × ZonesHold d c ceilings (now (work .entry)) (now (work .exit)) m ⌝ }
 {

@@ -12,7 +12,7 @@ use Rattle.model.specs.Problems.{Problem, Word}
 use Rattle.model.specs.Frontiers.{Point, best, frontier}
 use Rattle.model.specs.Cuts.{sidesOk, uncrossed, halfSize}
 use Rattle.model.specs.Views.{view}
-use Rattle.groups.specs.Layout.{searchEnd}
+use Rattle.layout.specs.Layout.{searchEnd, firstRow, secondRow}
 use Rattle.model.proofs.Bits.{true-false}
 use Rattle.model.proofs.Elements.{all-take}
 use Rattle.model.proofs.Views.{view-size}
@@ -20,7 +20,7 @@ use Rattle.model.proofs.Merging.{sums-best, sums-bytes}
 use Rattle.passes.specs.declared.Found as DF
 use Rattle.listing.specs.Says.{problemAt, Accepted}
 use Rattle.passes.specs.Says.{FoundSays}
-use Rattle.sums.specs.Sums.{firstRow, secondRow, firstIn, secondIn, sumsIn, Halved}
+use Rattle.sums.specs.Sums.{firstIn, secondIn, sumsIn, Halved}
 use Rattle.merge.specs.Says.{KeptSays, noLists, CutFound}
 use Rattle.merge.proofs.Keeping.{kept-few, first-same}
 

@@ -8,7 +8,7 @@ ghost use Rattle.model.specs.Frontiers.{frontier};
 ghost use Rattle.model.specs.Cuts.{sidesOk, uncrossed};
 ghost use Rattle.model.specs.Views.{view};
 ghost use Rattle.listing.specs.Says.{problemAt, Accepted};
-ghost use Rattle.sums.specs.Sums.{firstRow, secondRow};
+ghost use Rattle.layout.specs.Layout.{firstRow, secondRow};
 ghost use Rattle.merge.specs.Says.{KeptSays, noLists, CutFound};
 
 // Finds the list of one half and keeps it from the row `row` on.

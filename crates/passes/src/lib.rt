@@ -1,10 +1,8 @@
 // The first form of the search: passes in list order, each of which adds the next point to the list in work memory.
 ghost use mathlib.Core.Path.{_≡_};
 ghost use Prim.Native.Nat.{_≤_};
-ghost use lib.ListN.{length, take};
-ghost use Rattle.model.specs.Basics.{All};
+ghost use lib.ListN.{length};
 ghost use Rattle.model.specs.Limits.{maxPoints};
-ghost use Rattle.model.specs.Problems.{Word};
 ghost use Rattle.model.specs.Frontiers.{frontier};
 ghost use Rattle.model.specs.Suffixes.{Gains};
 ghost use Rattle.search.specs.States.{problemIn, gainsIn, Setting, Stands};
@@ -29,7 +27,7 @@ pub fn find_points(
     work: &mut [u32],
 ) -> Found
     requires { ⌜ Setting p r 0 (now sizes) (now s) (now work) × Stands r (now sizes) (now s) (now work) root
-        × (root .len ≡ 0) × All Word (take p ceilings) × (room ≤ maxPoints)
+        × (root .len ≡ 0) × (room ≤ maxPoints)
         × Gains (problemIn p r ceilings (now sizes) (now s) (now work)) (gainsIn p (now work)) ⌝ }
     ensures { λ f. ⌜ FoundSays p (length (now (sizes .entry)))
         (frontier (problemIn p r ceilings (now (sizes .entry)) (now (s .entry)) (now (work .entry))))

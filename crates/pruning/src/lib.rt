@@ -8,6 +8,7 @@ ghost use Rattle.model.specs.Basics.{All};
 ghost use Rattle.model.specs.Limits.{maxVariables, maxPoints, sumEnd};
 ghost use Rattle.model.specs.Archive.{weighted};
 ghost use Rattle.layout.specs.Layout.{listEnd};
+ghost use Rattle.rows.specs.Rows.{costsIn, EachCost};
 ghost use Rattle.directions.specs.Directions.{weightsOf, Sensible};
 ghost use Rattle.zones.specs.Zones.{Measured};
 ghost use Rattle.pruning.specs.Tests.{zonesOf, Untied, Dead};
@@ -54,10 +55,11 @@ fn is_tied_at(
     d: directions::Directions,
     work: &[u32],
 ) -> bool
-    requires { ⌜ Sensible d × (listEnd ≤ length (now work)) × (i ≤ maxPoints) × (n ≤ maxVariables) ⌝ }
+    requires { ⌜ Sensible d × (listEnd ≤ length (now work)) × (i ≤ maxPoints) × (n ≤ maxVariables)
+        × All (λ a. a < sumEnd) (costsIn (d .objectives) (now work) i) ⌝ }
     ensures { λ r. ⌜ (r ≡ false → Untied d n (now (work .entry)) x b i) ⌝ }
 {
-    let costs = archive::row_costs(i, work);
+    let costs = rows::row_costs(i, work);
     if !vectors::is_at_most(front_of(b), costs, d.objectives) {
         return false;
     }
@@ -76,7 +78,8 @@ fn is_tied(
     d: directions::Directions,
     work: &[u32],
 ) -> bool
-    requires { ⌜ Sensible d × (listEnd ≤ length (now work)) × (c ≤ maxPoints + 1) × (n ≤ maxVariables) ⌝ }
+    requires { ⌜ Sensible d × (listEnd ≤ length (now work)) × (c ≤ maxPoints + 1) × (n ≤ maxVariables)
+        × EachCost (λ a. a < sumEnd) (d .objectives) (now work) c ⌝ }
     ensures { λ r. ⌜ (r ≡ false → (i : ℕ) → i < c → Untied d n (now (work .entry)) x b i) ⌝ }
 {
     let mut i: usize = 0;
@@ -99,7 +102,8 @@ pub fn is_alive(
     work: &[u32],
 ) -> bool
     requires { ⌜ Sensible d × (listEnd ≤ length (now work)) × Measured d (zonesOf (now work)) (run .zones)
-        × (run .points ≤ maxPoints + 1) × (n ≤ maxVariables) ⌝ }
+        × (run .points ≤ maxPoints + 1) × (n ≤ maxVariables)
+        × EachCost (λ a. a < sumEnd) (d .objectives) (now work) (run .points) ⌝ }
     ensures { λ r. ⌜ (r ≡ false → Dead d n (now (work .entry)) run x b) ⌝ }
 {
     if directions::lead_of(b, d) >= run.limit {

@@ -34,11 +34,7 @@ pub fn is_matched(c: [u64; 4], n: usize, work: &[u32], k: usize, p: usize) -> bo
 {
     let mut i: usize = 0;
     while i < k {
-        if vectors::is_at_most(
-            rows::costs_at(work, layout::LIST_AT + layout::ROW_WIDTH * i),
-            c,
-            p,
-        ) {
+        if vectors::is_at_most(rows::row_costs(i, work), c, p) {
             return true;
         }
         i += 1;
@@ -80,7 +76,7 @@ fn sharper_bound(x: Partial, work: &[u32]) -> [u64; 4]
 {
     let len = x.len;
     let bound = x.bound;
-    let gains = rows::costs_at(work, layout::GAINS_AT + 4 * len);
+    let gains = vectors::numbers_at(work, layout::GAINS_AT + 4 * len);
     vectors::sum(bound, gains)
 }
 

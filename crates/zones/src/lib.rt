@@ -91,7 +91,7 @@ fn corner_at(i: usize, zones: &[u32]) -> [u64; 4]
     requires { ⌜ (zonesEnd ≤ length (now zones)) × (i < maxZones) ⌝ }
     ensures { λ c. ⌜ (c ≡ cornerIn maxObjectives (now (zones .entry)) i) × All Word c ⌝ }
 {
-    rows::costs_at(zones, ZONE_WIDTH * i)
+    vectors::numbers_at(zones, ZONE_WIDTH * i)
 }
 
 // Writes the first costs of `corner`, in every direction, to row `i`.

@@ -3,11 +3,9 @@ use mathlib.Core.Path.{refl, sym}
 use mathlib.Core.List.{List}
 use Prim.Native.Nat.{ℕ, _≤_, _<_, _-_}
 use native.Mathlib.Omega.{arith}
-use lib.ListN.{getD}
 use lib.Seq.{length-take-le}
 use borrow.Author.Needs.{needs}
 use denote.Ref.{now}
-use Rattle.model.specs.Limits.{wordEnd}
 use Rattle.layout.specs.Layout.{zonesEnd}
 use Rattle.exploring.specs.Passes.{ZonesWritten, ZonesHold}
 use Rattle.exploring.proofs.Zoning.{split-words, split-written, split-hold}
@@ -36,8 +34,11 @@ split-zones-requires : tie.Need-split-zones-requires Inv-loop μ-loop
 split-zones-requires c κs =
     let s = c .before .before .before .before .before .before in
     let w = c .before .before .before .before .loop in
-    let words : (k : ℕ) → getD (now (s .args .work)) k 0 < wordEnd = λ k. omega (arith, c .before .before .before .before .before .slice-known .given k) in
-    (s .pre .0, w .inv .1 .measured, split-words (s .args .d) (now (s .args .work)) (w .work) _ (w .i) (w .zones) (s .pre .0) (w .inv .1) (c .before .row-costs .ensures) words)
+    let inside : w .i < s .args .c = c .before .before .before .loop-test .taken in
+    let words =
+    split-words (s .args .d) (s .args .c) (now (s .args .work)) (w .work) _ (w .i) (w .zones) (s .pre .0) (w .inv .1)
+    (c .before .row-costs .ensures) (s .pre .4) inside in
+    (s .pre .0, w .inv .1 .measured, words)
 
 add-i : tie.Need-add-i Inv-loop μ-loop
 add-i c = search needs

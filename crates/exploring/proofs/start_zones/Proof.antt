@@ -1,5 +1,5 @@
 -- `exploring::start_zones` meets its contract.
-use mathlib.Core.Path.{sym}
+use mathlib.Core.Path.{sym, subst}
 use mathlib.Core.List.{_++_}
 use Prim.Native.Nat.{_≤_}
 use native.Mathlib.Omega.{arith}
@@ -7,12 +7,15 @@ use lib.ListN.{length, drop}
 use lib.Seq.{length-take-le}
 use mir.Syntax.{w64}
 use denote.Ref.{now}
+use Rattle.model.specs.Basics.{All}
 use Rattle.model.specs.Limits.{maxObjectives}
 use Rattle.model.specs.Problems.{Word}
 use Rattle.model.proofs.Elements.{all-take}
+use Rattle.rows.specs.Rows.{EachCost}
 use Rattle.rows.proofs.Arrays.{array-length}
 use Rattle.layout.specs.Layout.{zonesEnd}
-use Rattle.exploring.proofs.Zoning.{lent-same, lent-measured, lent-written, first-hold, hold-rows, written-trans}
+use Rattle.exploring.proofs.Memory.{zones-costs}
+use Rattle.exploring.proofs.Zoning.{lent-written, first-hold, hold-rows, written-trans}
 use borrow.Author.Needs.{needs}
 use Rattle.exploring.proofs.start_zones.Statement.{statement}
 use Rattle.exploring.proofs.start_zones.Tie as tie
@@ -30,10 +33,18 @@ first-zone-requires c κs =
 
 split-all-requires : tie.Need-split-all-requires
 split-all-requires c κs =
-    let s = c .before .before .before .before .before .before in
-    let first = c .before .before .before .first-zone in
+    let made = c .before .before .before in
+    let first = made .first-zone in
+    let s = made .before .before .before in
+    let a = s .args in
+    let work = now (a .work) in
     let z = first .last .1 .1 .0 in
-    (s .pre .0, omega (arith, s .pre .1, lent-same (s .args .d) (now (s .args .work)) z (first .result) (first .ensures .1) (s .pre .1) (first .ensures .0)), s .pre .2, lent-measured (s .args .d) (now (s .args .work)) z (first .result) (first .ensures .1) (s .pre .1) (first .ensures .0))
+    let written = lent-written (a .d) work z (first .result) (first .ensures .1) (s .pre .1) (first .ensures .0) in
+    let words : EachCost Word (a .d .objectives) (z ++ drop zonesEnd work) (a .c) =
+    λ i l.
+    subst (All Word) (sym (zones-costs work (z ++ drop zonesEnd work) (written .long) (written .behind) (a .d .objectives) i))
+    (s .pre .4 i l) in
+    (s .pre .0, omega (arith, s .pre .1, written .long), s .pre .2, written .measured, words)
 
 same-length : tie.Need-same-length
 same-length c = search needs
