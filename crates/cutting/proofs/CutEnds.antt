@@ -19,7 +19,7 @@ use Rattle.model.specs.Cuts.{sidesOk, uncrossed, cutList, halfSize}
 use Rattle.model.specs.Calls.{over, divided, roomOf, flatCosts, flatChoices, roomVerdict, cutRoomVerdict, cutVerdict, cutOutcome}
 use Rattle.model.proofs.Cut.{cut-frontier}
 use Rattle.model.proofs.Core.{core-frontier, core-half-list, take-ceilings}
-use Rattle.groups.specs.Layout.{listEnd}
+use Rattle.layout.specs.Layout.{listEnd}
 use Rattle.rows.specs.Rows.{listIn}
 use Rattle.problem.specs.declared.Reading as DG
 use Rattle.problem.proofs.Accepted.{AcceptedReading}

@@ -28,7 +28,8 @@ use Rattle.archive.specs.Says.{Meets, Takes}
 use Rattle.directions.specs.Directions.{maxDirections, directionsOf, widthOf, leadWeights, leadAt, Sensible}
 use Rattle.directions.specs.declared.Directions as DD
 use Rattle.directions.proofs.DirectionLaws.{directions-costs, directions-lead}
-use Rattle.zones.specs.Zones.{zonesEnd, cornersIn, Measured, SplitAt}
+use Rattle.layout.specs.Layout.{zonesEnd}
+use Rattle.zones.specs.Zones.{cornersIn, Measured, SplitAt}
 use Rattle.zones.proofs.ZoneRows.{corners-wide}
 use Rattle.buckets.specs.Bounds.{costsOver}
 use Rattle.buckets.proofs.Bounds.{bound-exact}

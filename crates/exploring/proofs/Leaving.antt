@@ -17,7 +17,7 @@ use Rattle.model.proofs.Frontier.{reached-width}
 use Rattle.model.proofs.Archive.{follows-refl}
 use Rattle.model.proofs.Zones.{dead-covered}
 use Rattle.rows.specs.Rows.{costsIn, valuesIn}
-use Rattle.rows.proofs.RowParts.{values-long}
+use Rattle.rows.proofs.RowNumbers.{values-long}
 use Rattle.rows.proofs.RowPlaces.{listed-row}
 use Rattle.groups.specs.Sources.{sourceIn}
 use Rattle.groups.specs.declared.Task as DT
@@ -94,7 +94,7 @@ module _
         let choice : a .choice ≡ valuesIn (length ds) work j = ap (λ (t : Point). t .choice) is in
         let inside : j ≤ maxPoints = omega (arith, h .running .few, h .ready .room-small) in
         let later = none j l (at-most-test _ _ (rw costs at low)) in
-        let long = values-long work j (omega (arith, h .ready .long)) (length ds) (h .ready .planned .variables) in
+        let long = values-long work j (length ds) in
         let after = completion-not-later (h .ready .sound) (h .partial) (y .choice) (m .complete) g in
         rw choice (after (valuesIn (length ds) work j) long later)
 

@@ -1,6 +1,7 @@
 -- Laws of the search.
 pub mod Nodes
 pub mod Memory
+pub mod ArchivedWords
 pub mod Completions
 pub mod Leaving
 pub mod Zoning

@@ -1,21 +1,19 @@
 -- What stays of work memory where only rows of the archive, or only zones, are written; and what a search relies on stays with it.
-use mathlib.Core.Path.{_≡_, refl, sym, ap, ap₂, _∙_, subst}
-use mathlib.Core.List.{List, _∷_, _++_}
-use Prim.Native.Nat.{ℕ, zero, suc, _+_, _-_, _≤_}
+use mathlib.Core.Path.{_≡_, refl, sym, ap, _∙_, subst}
+use mathlib.Core.List.{List, _++_}
+use Prim.Native.Nat.{ℕ, _+_, _-_, _≤_}
 use native.Mathlib.Omega.{arith}
 use lib.ListN.{length, take, drop, length-drop}
-use lib.Seq.{take-all, take-take, drop-drop, take-at, drop-at}
+use lib.Seq.{take-all, drop-drop, take-at, drop-at}
 use Rattle.model.specs.Limits.{maxTables}
 use Rattle.model.specs.Problems.{Problem}
-use Rattle.model.proofs.Points.{point-eq}
-use Rattle.groups.specs.Layout.{sourceAt, listAt, listEnd}
+use Rattle.layout.specs.Layout.{zonesEnd, sourceAt, listEnd}
 use Rattle.groups.specs.Groups.{tablesOver}
-use Rattle.groups.proofs.Overwritten.{take-drop}
-use Rattle.rows.specs.Rows.{rowAt, costsIn, pointIn, listIn, Framed}
+use Rattle.rows.specs.Rows.{costsIn, listIn, Framed}
+use Rattle.rows.proofs.RowsKept.{behind-costs, behind-rows, framed-part}
 use Rattle.groups.specs.Sources.{sourceIn}
 use Rattle.groups.specs.declared.Task as DT
 use Rattle.directions.specs.declared.Directions as DD
-use Rattle.zones.specs.Zones.{zonesEnd}
 use Rattle.buckets.specs.Content.{Planned}
 use Rattle.buckets.specs.Sound.{Sound}
 use Rattle.pruning.specs.Tests.{zonesOf}
@@ -62,21 +60,15 @@ module _
 
 -- rows of the archive
 module _ {work work′ : List ℕ} (f : Framed work work′) where
-  front : (k : ℕ) → k ≤ listAt → take k work′ ≡ take k work
-  front k l = sym (take-take k listAt work′ l) ∙ ap (λ (u : List ℕ). take k u) (f .before) ∙ take-take k listAt work l
-
   pub framed-zones : zonesOf work′ ≡ zonesOf work
-  framed-zones = front zonesEnd (omega arith)
+  framed-zones = framed-part f zonesEnd 0 (omega arith)
 
   pub framed-still : (task : DT.Task) → task .records ≤ maxTables → Still task work work′
   framed-still task l =
       record {
         long = f .long;
         plan = f .behind;
-        source =
-            take-drop (task .records) sourceAt work′
-            ∙ ap (λ (u : List ℕ). drop sourceAt u) (front (sourceAt + task .records) (omega arith))
-            ∙ sym (take-drop (task .records) sourceAt work);
+        source = framed-part f (task .records) sourceAt (omega arith);
       }
 
 -- zones
@@ -95,15 +87,10 @@ module _ (work work′ : List ℕ) (long : length work′ ≡ length work) (behi
       }
 
   pub zones-costs : (p i : ℕ) → costsIn p work′ i ≡ costsIn p work i
-  zones-costs p i = ap (λ (u : List ℕ). take p u) (same-from (rowAt i) (omega arith))
-
-  same-row : (p n i : ℕ) → pointIn p n work′ i ≡ pointIn p n work i
-  same-row p n i = point-eq (zones-costs p i) (ap (λ (u : List ℕ). take n u) (same-from (rowAt i + 4) (omega arith)))
+  zones-costs p i = behind-costs zonesEnd work′ work behind p i (omega arith)
 
   pub zones-rows : (p n i c : ℕ) → listIn p n work′ i c ≡ listIn p n work i c
-  unfolding listIn
-  zones-rows p n i zero = refl
-  zones-rows p n i (suc c) = ap₂ _∷_ (same-row p n i) (zones-rows p n (i + 1) c)
+  zones-rows p n i c = behind-rows zonesEnd work′ work behind p n i c (omega arith)
 
 -- the plan, as it is lent
 pub lent-plan : (work : List ℕ) → take (length work - listEnd) (drop listEnd work) ≡ planIn work

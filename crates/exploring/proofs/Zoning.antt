@@ -4,24 +4,23 @@ use mathlib.Core.Logic.{inl, inr, ⊎-elim}
 use mathlib.Core.List.{List, _++_, List·Memᴰ as In}
 use Prim.Native.Nat.{ℕ, _+_, _≤_, _<_}
 use native.Mathlib.Omega.{arith}
-use lib.ListN.{length, getD, take, drop, length-append, length-drop}
-use lib.Seq.{length-take-le, getD-take, getD-drop}
+use lib.ListN.{length, take, drop, length-append, length-drop}
+use lib.Seq.{length-take-le, getD-take}
 use Rattle.model.specs.Basics.{All}
-use Rattle.model.specs.Limits.{maxObjectives, maxPoints, wordEnd}
+use Rattle.model.specs.Limits.{maxObjectives, maxPoints}
 use Rattle.model.specs.Problems.{Word}
 use Rattle.model.specs.Frontiers.{Point}
 use Rattle.model.specs.Archive.{Zoned}
-use Rattle.model.proofs.Elements.{all-take, all-each}
 use Rattle.model.proofs.Vectors.{at-most-true}
 use Rattle.model.proofs.Zones.{zones-start, zones-none, zones-split, under-none}
-use Rattle.groups.specs.Layout.{listEnd}
-use Rattle.rows.specs.Rows.{rowAt, costsIn, pointIn, listIn}
-use Rattle.rows.proofs.RowParts.{costs-long}
+use Rattle.layout.specs.Layout.{zonesEnd, listEnd}
+use Rattle.rows.specs.Rows.{costsIn, pointIn, listIn, EachCost}
+use Rattle.rows.proofs.RowNumbers.{costs-long}
 use Rattle.rows.proofs.RowPlaces.{row-listed}
 use Rattle.archive.proofs.RowReads.{front-costs}
 use Rattle.directions.specs.Directions.{Sensible}
 use Rattle.directions.specs.declared.Directions as DD
-use Rattle.zones.specs.Zones.{zonesEnd, cornersIn, Measured, SplitAt, FirstZone}
+use Rattle.zones.specs.Zones.{cornersIn, Measured, SplitAt, FirstZone}
 use Rattle.zones.proofs.ZoneRows.{corners-wide}
 use Rattle.pruning.specs.Tests.{zonesOf}
 use Rattle.exploring.specs.Passes.{ZonesWritten, ZonesHold}
@@ -70,10 +69,11 @@ written-trans f g = record { long = g .long ∙ f .long; behind = g .behind ∙ 
 pub split-costs : (d : DD.Directions) (rows work row : List ℕ) (i m : ℕ) → Sensible d → ZonesWritten d rows work m → row ≡ costsIn maxObjectives work i → take (d .objectives) row ≡ costsIn (d .objectives) rows i
 split-costs d rows work row i m sensible w read = front-costs (d .objectives) work row i (sensible .few) read ∙ zones-costs rows work (w .long) (w .behind) (d .objectives) i
 
-pub split-words : (d : DD.Directions) (rows work row : List ℕ) (i m : ℕ) → Sensible d → ZonesWritten d rows work m → row ≡ costsIn maxObjectives work i → ((k : ℕ) → getD rows k 0 < wordEnd) → All Word (take (d .objectives) row)
-split-words d rows work row i m sensible w read words =
-    subst (All Word) (sym (split-costs d rows work row i m sensible w read))
-    (all-take Word (d .objectives) (drop (rowAt i) rows) (all-each Word 0 (drop (rowAt i) rows) (λ k. rw (getD-drop (rowAt i) rows k 0) (words (rowAt i + k)))))
+pub split-words : (d : DD.Directions) (c : ℕ) (rows work row : List ℕ) (i m : ℕ) → Sensible d → ZonesWritten d rows work m
+    → row ≡ costsIn maxObjectives work i → EachCost Word (d .objectives) rows c → i < c
+    → All Word (take (d .objectives) row)
+split-words d c rows work row i m sensible w read words l =
+    subst (All Word) (sym (split-costs d rows work row i m sensible w read)) (words i l)
 
 -- one more archived point: row i of the points of `rows`
 module _ (d : DD.Directions) (c : ℕ) (rows work z row : List ℕ) (i m t : ℕ) (sensible : Sensible d) (memory : listEnd ≤ length rows) (few : c ≤ maxPoints + 1) (inside : i < c) (w : ZonesWritten d rows work m) (read : row ≡ costsIn maxObjectives work i) (measured : Measured d z t) (e : length z ≡ length (zonesOf work)) (parts : SplitAt (d .objectives) (take (d .objectives) row) (cornersIn (d .objectives) (zonesOf work) 0 m) (cornersIn (d .objectives) z 0 t)) where
@@ -87,4 +87,4 @@ module _ (d : DD.Directions) (c : ℕ) (rows work z row : List ℕ) (i m t : ℕ
   split-hold ceilings h n limit ws =
       let p = d .objectives in
       rw (lent-front z (drop zonesEnd work) (lent-long d work z t e enough measured))
-      (zoned-split p (take p ceilings) ws (listIn p n rows 0 c) limit (cornersIn p (zonesOf work) 0 m) (cornersIn p z 0 t) (corners-wide sensible (w .measured)) (pointIn p n rows i) (row-listed p n rows c i inside) (costs-long rows i (omega arith) p (sensible .few)) (rw (split-costs d rows work row i m sensible w read) at parts) (h n limit ws))
+      (zoned-split p (take p ceilings) ws (listIn p n rows 0 c) limit (cornersIn p (zonesOf work) 0 m) (cornersIn p z 0 t) (corners-wide sensible (w .measured)) (pointIn p n rows i) (row-listed p n rows c i inside) (costs-long rows i p) (rw (split-costs d rows work row i m sensible w read) at parts) (h n limit ws))

@@ -6,7 +6,8 @@ use lib.ListN.{length, take, drop}
 use Rattle.model.specs.Archive.{Zoned}
 use Rattle.rows.specs.Rows.{listIn}
 use Rattle.directions.specs.declared.Directions as DD
-use Rattle.zones.specs.Zones.{zonesEnd, cornersIn, Measured}
+use Rattle.layout.specs.Layout.{zonesEnd}
+use Rattle.zones.specs.Zones.{cornersIn, Measured}
 use Rattle.pruning.specs.Tests.{zonesOf}
 
 -- only zones are written

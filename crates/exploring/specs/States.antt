@@ -13,7 +13,7 @@ use Rattle.model.specs.Costs.{isChoice}
 use Rattle.model.specs.Frontiers.{Point}
 use Rattle.model.specs.Core.{WordCeiling, CoreReached}
 use Rattle.model.specs.Archive.{Covered, Archived, Distinct, Follows, Zoned}
-use Rattle.groups.specs.Layout.{listEnd}
+use Rattle.layout.specs.Layout.{listEnd}
 use Rattle.rows.specs.Rows.{listIn}
 use Rattle.groups.specs.Groups.{tablesOver}
 use Rattle.groups.specs.Sources.{sourceIn, sourceProblem}

@@ -5,17 +5,16 @@ ghost use Prim.Native.Nat.{ℕ, _+_, _<_, _≤_};
 ghost use lib.ListN.{length};
 ghost use Rattle.model.specs.Basics.{All};
 ghost use Rattle.model.specs.Limits.{maxVariables, maxDomain, maxPoints};
+ghost use Rattle.model.specs.Problems.{Word};
 ghost use Rattle.model.specs.Core.{WordCeiling, coreFrontier};
-ghost use Rattle.groups.specs.Layout.{listEnd};
+ghost use Rattle.layout.specs.Layout.{listEnd};
+ghost use Rattle.rows.specs.Rows.{EachCost};
 ghost use Rattle.directions.specs.Directions.{Sensible};
 ghost use Rattle.zones.specs.Zones.{Measured};
 ghost use Rattle.pruning.specs.Tests.{zonesOf};
 ghost use Rattle.exploring.specs.States.{problemOf, taskProblem, extended, leaf, Ready, Standing, OpenedFrom};
 ghost use Rattle.exploring.specs.States.{Between, Passed, ExploredSays};
 ghost use Rattle.exploring.specs.Passes.{ZonesWritten, ZonesHold};
-
-// The plan begins behind the archive.
-pub const PLAN_AT: usize = 3225;
 
 // The limit while nothing is left out: no leading sum is as large. A value that was tried counts as having this one.
 const NO_LIMIT: u64 = 18446744073709551615;
@@ -100,7 +99,7 @@ fn take_leaf(
             limit: t.limit,
         };
     }
-    let m = zones::split_zones(costs, run.zones, d, &mut work[..pruning::ZONES_END]);
+    let m = zones::split_zones(costs, run.zones, d, &mut work[..layout::ZONES_END]);
     pruning::Progress {
         points: t.points,
         zones: m,
@@ -111,7 +110,7 @@ fn take_leaf(
 // Takes what the first `c` archived points match out of `m` zones; how many there are then.
 fn split_all(c: usize, m: usize, d: directions::Directions, work: &mut [u32]) -> usize
     requires { ⌜ Sensible d × (listEnd ≤ length (now work)) × (c ≤ maxPoints + 1)
-        × Measured d (zonesOf (now work)) m ⌝ }
+        × Measured d (zonesOf (now work)) m × EachCost Word (d .objectives) (now work) c ⌝ }
     ensures { λ t. ⌜ ZonesWritten d (now (work .entry)) (now (work .exit)) t
         × ((ceilings : List ℕ) → ZonesHold d c ceilings (now (work .entry)) (now (work .entry)) m
         → ZonesHold d c ceilings (now (work .entry)) (now (work .exit)) t) ⌝ }
@@ -119,8 +118,8 @@ fn split_all(c: usize, m: usize, d: directions::Directions, work: &mut [u32]) ->
     let mut zones = m;
     let mut i: usize = 0;
     while i < c {
-        let costs = archive::row_costs(i, work);
-        zones = zones::split_zones(costs, zones, d, &mut work[..pruning::ZONES_END]);
+        let costs = rows::row_costs(i, work);
+        zones = zones::split_zones(costs, zones, d, &mut work[..layout::ZONES_END]);
         i += 1;
     }
     zones
@@ -129,11 +128,12 @@ fn split_all(c: usize, m: usize, d: directions::Directions, work: &mut [u32]) ->
 // The zones at the start of a pass: all that is under the ceilings and that no archived point matches. How many there
 // are.
 fn start_zones(c: usize, ceilings: [u64; 4], d: directions::Directions, work: &mut [u32]) -> usize
-    requires { ⌜ Sensible d × (listEnd ≤ length (now work)) × (c ≤ maxPoints + 1) × All WordCeiling ceilings ⌝ }
+    requires { ⌜ Sensible d × (listEnd ≤ length (now work)) × (c ≤ maxPoints + 1) × All WordCeiling ceilings
+        × EachCost Word (d .objectives) (now work) c ⌝ }
     ensures { λ m. ⌜ ZonesWritten d (now (work .entry)) (now (work .exit)) m
         × ZonesHold d c ceilings (now (work .entry)) (now (work .exit)) m ⌝ }
 {
-    let m = zones::first_zone(ceilings, d, &mut work[..pruning::ZONES_END]);
+    let m = zones::first_zone(ceilings, d, &mut work[..layout::ZONES_END]);
     split_all(c, m, d, work)
 }
 
@@ -182,10 +182,10 @@ fn open_position(
     if k == n {
         return take_leaf(x, bound, run, s, sizes, task, d, work);
     }
-    let v = branching::variable_at(k, &work[PLAN_AT..]);
+    let v = branching::variable_at(k, &work[layout::PLAN_AT..]);
     let size = sizes[v] as usize;
-    let rows = branching::bucket_at(k, v, &x[..n], s, sizes, task.records, d, &work[PLAN_AT..]);
-    let away = branching::away_at(k, &x[..n], s, sizes, task.records, d, &work[PLAN_AT..]);
+    let rows = branching::bucket_at(k, v, &x[..n], s, sizes, task.records, d, &work[layout::PLAN_AT..]);
+    let away = branching::away_at(k, &x[..n], s, sizes, task.records, d, &work[layout::PLAN_AT..]);
     let mut leads = branching::leads_of(&rows, bound, away, size, d);
     let mut a = branching::least_value(&leads, size);
     let mut t = run;
@@ -216,7 +216,7 @@ fn run_pass(
 {
     let ceilings = task.ceilings;
     let m = start_zones(points, ceilings, d, work);
-    let bound = branching::root_bound(s, sizes, task.records, d, &work[PLAN_AT..]);
+    let bound = branching::root_bound(s, sizes, task.records, d, &work[layout::PLAN_AT..]);
     let node = Node {
         depth: 0,
         choice: [0u8; 24],

@@ -6,7 +6,7 @@ use native.Mathlib.Omega.{arith}
 use borrow.Author.Count.{below-more}
 use lib.ListN.{length, getD, take, drop, set, length-set}
 use lib.Seq.{drop-set-lt, getD-set-same, getD-set-other}
-use Rattle.groups.specs.Layout.{groupsAt, recordsAt}
+use Rattle.layout.specs.Layout.{groupsAt, recordsAt}
 use Rattle.groups.specs.Groups.{groupOf, placesIn, Placed, Grouped}
 use Rattle.groups.proofs.GroupLengths.{lengthTo, length-next, length-later, length-few}
 use Rattle.groups.proofs.Overwritten.{over, over-length, over-behind, over-before, over-part, over-here}

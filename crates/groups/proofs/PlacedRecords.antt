@@ -7,7 +7,7 @@ use native.Mathlib.Omega.{arith}
 use lib.ListN.{length, getD, take, drop, length-drop}
 use lib.Seq.{length-take-le}
 use Rattle.model.specs.Limits.{maxTables}
-use Rattle.groups.specs.Layout.{recordsAt}
+use Rattle.layout.specs.Layout.{recordsAt}
 use Rattle.groups.specs.Groups.{groupOf, placesIn, tablesOver, Placed, Grouped}
 use Rattle.groups.proofs.Keeping.{keeps-few, group-keeps}
 use Rattle.groups.proofs.Adding.{Apart}

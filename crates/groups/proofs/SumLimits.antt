@@ -12,7 +12,7 @@ use Rattle.model.specs.Bounds.{leastOf}
 use Rattle.model.proofs.Core.{core-sum}
 use Rattle.costs.specs.Entries.{tableAt}
 use Rattle.costs.proofs.EntryLimits.{cost-small, least-small}
-use Rattle.groups.specs.Layout.{recordsAt}
+use Rattle.layout.specs.Layout.{recordsAt}
 use Rattle.groups.specs.Groups.{tablesOver, placesIn}
 use Rattle.groups.proofs.PlacedRecords.{tables-count}
 

@@ -11,7 +11,7 @@ use Rattle.model.specs.Problems.{Table, DomainSize}
 use Rattle.model.specs.Reading.{tableScope}
 use Rattle.problem.specs.Records.{Whole}
 use Rattle.costs.specs.Entries.{tableAt}
-use Rattle.groups.specs.Layout.{groupsAt, recordsAt, searchEnd}
+use Rattle.layout.specs.Layout.{groupsAt, recordsAt, searchEnd}
 
 unfoldable pub hasVariable : ℕ → List ℕ → Bool
 hasVariable v [] = false

@@ -1,4 +1,3 @@
 -- Work memory while a list is searched, and the groups of records in it.
-pub mod Layout
 pub mod Groups
 pub mod Sources

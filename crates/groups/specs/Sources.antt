@@ -7,7 +7,7 @@ use Rattle.model.specs.Limits.{maxObjectives, maxTables, maxVariables}
 use Rattle.model.specs.Problems.{Problem, DomainSize}
 use Rattle.model.specs.Core.{Ceiling}
 use Rattle.problem.specs.Records.{Whole}
-use Rattle.groups.specs.Layout.{sourceAt, searchEnd}
+use Rattle.layout.specs.Layout.{sourceAt, searchEnd}
 use Rattle.groups.specs.Groups.{tablesOver}
 
 -- the places of a problem's r records in work memory, and the problem that they make

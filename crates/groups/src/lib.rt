@@ -12,7 +12,7 @@ ghost use Rattle.model.specs.Reading.{tableArity, tableScope};
 ghost use Rattle.model.specs.Costs.{totalsFrom};
 ghost use Rattle.model.specs.Bounds.{prefixOk, leastOf};
 ghost use Rattle.problem.specs.Records.{Whole};
-ghost use Rattle.groups.specs.Layout.{groupsAt, recordsAt};
+ghost use Rattle.layout.specs.Layout.{groupsAt, recordsAt};
 ghost use Rattle.groups.specs.Groups.{hasVariable, groupOf, tablesOver, placesIn, Placed, Grouped};
 
 // What is searched: so many records placed in work memory, so many objectives, their ceilings, and how many points
@@ -23,14 +23,6 @@ pub struct Task {
     pub ceilings: [u64; 4],
     pub room: usize,
 }
-
-pub const GROUPS_AT: usize = 25;
-
-pub const RECORDS_AT: usize = 793;
-
-pub const GAINS_AT: usize = 1049;
-
-pub const SOURCE_AT: usize = 1149;
 
 // Whether the scope of the record at `at` has the variable `v`.
 pub fn has_variable(s: &[u8], at: usize, v: usize) -> bool
@@ -60,7 +52,7 @@ pub fn add_group(s: &[u8], sizes: &[u8], r: usize, v: usize, from: usize, work: 
     let mut end = from;
     let mut i: usize = 0;
     while i < r {
-        let at = work[RECORDS_AT + i];
+        let at = work[layout::RECORDS_AT + i];
         if has_variable(s, at as usize, v) {
             work[end] = at;
             end += 1;
@@ -78,7 +70,7 @@ pub fn group_records(s: &[u8], sizes: &[u8], r: usize, work: &mut [u32])
         × (length (now (work .exit)) ≡ length (now (work .entry))) ⌝ }
 {
     let n = sizes.len();
-    let mut end: usize = GROUPS_AT;
+    let mut end: usize = layout::GROUPS_AT;
     let mut v: usize = 0;
     while v < n {
         work[v] = end as u32;

@@ -12,7 +12,7 @@ use Rattle.model.specs.Frontiers.{Point}
 use Rattle.model.specs.Core.{WordCeiling, coreFrontier}
 use Rattle.model.proofs.Bits.{true-false}
 use Rattle.problem.specs.Records.{Whole}
-use Rattle.groups.specs.Layout.{sourceAt}
+use Rattle.layout.specs.Layout.{sourceAt}
 use Rattle.groups.specs.Sources.{Source, sourceProblem}
 use Rattle.groups.specs.declared.Task as DT
 use Rattle.passes.specs.Says.{FoundSays}

@@ -12,7 +12,7 @@ use Rattle.model.specs.Core.{coreTables, coreFrontier}
 use Rattle.model.specs.Views.{narrowed, within, kept, view}
 use Rattle.model.specs.Calls.{over as filled}
 use Rattle.problem.specs.Records.{Whole}
-use Rattle.groups.specs.Layout.{recordsAt, sourceAt}
+use Rattle.layout.specs.Layout.{recordsAt, sourceAt}
 use Rattle.groups.specs.Groups.{tablesOver, placesIn}
 use Rattle.groups.proofs.Overwritten.{over, over-length, over-here}
 use Rattle.views.specs.Wanted.{wantedTable, keptPlaces}

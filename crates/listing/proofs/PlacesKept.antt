@@ -13,7 +13,7 @@ use Rattle.model.proofs.Core.{take-ceilings}
 use Rattle.model.specs.Calls.{over as filled}
 use Rattle.problem.specs.Records.{Whole, AllWhole}
 use Rattle.costs.specs.Entries.{tableAt}
-use Rattle.groups.specs.Layout.{sourceAt}
+use Rattle.layout.specs.Layout.{sourceAt}
 use Rattle.groups.specs.Groups.{tablesOver}
 use Rattle.groups.proofs.Overwritten.{over, over-length, over-here}
 use Rattle.groups.specs.Sources.{sourceProblem, Source}

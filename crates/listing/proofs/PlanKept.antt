@@ -8,7 +8,7 @@ use lib.ListN.{length, take, drop, length-append, length-drop}
 use lib.Seq.{length-take-le, take-all, take-take, take-append-le, drop-at, drop-drop, drop-length}
 use Rattle.model.specs.Basics.{All}
 use Rattle.problem.specs.Records.{Whole}
-use Rattle.groups.specs.Layout.{sourceAt, listEnd}
+use Rattle.layout.specs.Layout.{sourceAt, listEnd}
 use Rattle.groups.proofs.Overwritten.{over, take-drop, over-length, over-part, over-here}
 use Rattle.groups.specs.Sources.{sourceIn}
 use Rattle.directions.specs.Directions.{Sensible}

@@ -12,7 +12,7 @@ use Rattle.model.specs.Core.{Ceiling, coreTables}
 use Rattle.model.specs.Reading.{tablesAt}
 use Rattle.model.specs.Frontiers.{Point}
 use Rattle.problem.specs.Records.{Whole, AllWhole}
-use Rattle.groups.specs.Layout.{searchEnd}
+use Rattle.layout.specs.Layout.{searchEnd}
 use Rattle.rows.specs.Rows.{listIn}
 use Rattle.groups.specs.Sources.{sourceIn}
 use Rattle.directions.specs.declared.Directions as DD

@@ -12,9 +12,6 @@ ghost use Rattle.passes.specs.Says.{FoundSays};
 ghost use Rattle.directions.specs.Directions.{Sensible};
 ghost use Rattle.listing.specs.Says.{problemAt, coreAt, Accepted, Plannable, Kept, PlanSays, SecondSays};
 
-// A search may change all of work memory up to here.
-pub const SEARCH_END: usize = 6361;
-
 // The core's ceiling, which a cost stays below, in eight bytes as the sums are.
 fn wide(ceiling: u32) -> u64
     ensures { λ w. ⌜ w ≡ coreCeiling ceiling ⌝ }
@@ -59,9 +56,9 @@ fn plan_source(
     ensures { λ ok. ⌜ Kept r (now (work .entry)) (now (work .exit))
         × (ok ≡ true → PlanSays d r (now (sizes .entry)) (now (s .entry)) (now (work .entry)) (now (work .exit))) ⌝ }
 {
-    groups::copy_numbers(groups::SOURCE_AT, exploring::PLAN_AT, r, work);
-    planning::make_plan(s, sizes, r, d, &mut work[exploring::PLAN_AT..]);
-    checking::is_sound(s, sizes, r, d, &work[exploring::PLAN_AT..])
+    groups::copy_numbers(layout::SOURCE_AT, layout::PLAN_AT, r, work);
+    planning::make_plan(s, sizes, r, d, &mut work[layout::PLAN_AT..]);
+    checking::is_sound(s, sizes, r, d, &work[layout::PLAN_AT..])
 }
 
 // What the second form says where it is not tried.
@@ -102,7 +99,7 @@ fn explore_source(
     if !are_short(ceilings) {
         return given_up();
     }
-    let apart = spreads::spreads_of(s, sizes, r, ceilings, &work[groups::SOURCE_AT..]);
+    let apart = spreads::spreads_of(s, sizes, r, ceilings, &work[layout::SOURCE_AT..]);
     let d = directions::choose_directions(p, apart);
     if !plan_source(s, sizes, r, d, work) {
         return given_up();
@@ -164,7 +161,7 @@ pub fn find_list(
         (coreFrontier (coreOf (problemAt p ceilings (now (sizes .entry)) (now (s .entry)) at r)))
         room (now (work .entry)) (now (work .exit)) f ⌝ }
 {
-    problem::keep_places(s, at, r, sizes, &mut work[groups::SOURCE_AT..]);
+    problem::keep_places(s, at, r, sizes, &mut work[layout::SOURCE_AT..]);
     find_source(s, sizes, r as usize, p, widened(ceilings), room, by_passes, work)
 }
 
@@ -187,7 +184,7 @@ pub fn find_half(
         (coreFrontier (view side (coreAt p ceilings (now (sizes .entry)) (now (s .entry)) at r) (now (sides .entry))))
         maxPoints (now (work .entry)) (now (work .exit)) f ⌝ }
 {
-    problem::keep_places(s, at, r, sizes, &mut work[groups::RECORDS_AT..]);
+    problem::keep_places(s, at, r, sizes, &mut work[layout::RECORDS_AT..]);
     let narrow = views::narrow(sizes, sides, side);
     let count = views::keep_records(
         s,
@@ -197,8 +194,8 @@ pub fn find_half(
         0,
         4,
         r as usize,
-        groups::RECORDS_AT,
-        groups::SOURCE_AT,
+        layout::RECORDS_AT,
+        layout::SOURCE_AT,
         work,
     );
     let n = sizes.len();

@@ -13,7 +13,7 @@ use Rattle.model.specs.Frontiers.{Point, best}
 use Rattle.model.specs.Core.{Ceiling, coreCeilings, coreOf, withCeilings, coreFrontier}
 use Rattle.model.specs.Cuts.{sidesOk, uncrossed}
 use Rattle.model.specs.Views.{view}
-use Rattle.groups.specs.Layout.{searchEnd}
+use Rattle.layout.specs.Layout.{searchEnd, firstRow, secondRow}
 use Rattle.model.proofs.Bits.{true-false}
 use Rattle.model.proofs.Elements.{all-take}
 use Rattle.model.proofs.Core.{take-ceilings, core-sides, core-uncrossed}
@@ -24,7 +24,7 @@ use Rattle.passes.specs.declared.Found as DF
 use Rattle.listing.specs.Says.{problemAt, Accepted}
 use Rattle.model.specs.Vectors.{under}
 use Rattle.passes.specs.Says.{FoundSays}
-use Rattle.sums.specs.Sums.{firstRow, secondRow, firstIn, secondIn, sumsIn, Halved}
+use Rattle.sums.specs.Sums.{firstIn, secondIn, sumsIn, Halved}
 use Rattle.merge.specs.Says.{KeptSays, noLists, halfCount, longer, CutFound}
 use Rattle.merge.proofs.Keeping.{kept-few, first-same}
 

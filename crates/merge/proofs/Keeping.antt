@@ -13,12 +13,12 @@ use borrow.Author.Tests.{ltb-false}
 use Rattle.model.specs.Basics.{when}
 use Rattle.model.specs.Limits.{maxObjectives, maxVariables, maxPoints, workNeed}
 use Rattle.model.specs.Frontiers.{Point}
-use Rattle.groups.specs.Layout.{listAt, searchEnd, rowWidth}
+use Rattle.layout.specs.Layout.{listAt, searchEnd, rowWidth, firstRow, secondRow}
 use Rattle.groups.proofs.Overwritten.{over, take-drop, over-length, over-behind, over-here}
 use Rattle.rows.specs.Rows.{rowAt, listIn}
 use Rattle.passes.specs.declared.Found as DF
 use Rattle.passes.specs.Says.{FoundSays}
-use Rattle.sums.specs.Sums.{firstRow, secondRow, firstIn}
+use Rattle.sums.specs.Sums.{firstIn}
 use Rattle.merge.specs.Says.{KeptSays}
 
 -- a list that is not longer than its room

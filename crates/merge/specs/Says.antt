@@ -13,7 +13,7 @@ use Rattle.model.specs.Core.{withCeilings, coreFrontier}
 use Rattle.model.specs.Cuts.{half}
 use Rattle.rows.specs.Rows.{rowAt, listIn}
 use Rattle.passes.specs.declared.Found as DF
-use Rattle.sums.specs.Sums.{firstRow}
+use Rattle.layout.specs.Layout.{firstRow}
 use Rattle.merge.specs.declared.Lists as DL
 
 -- a half's list fs stands from the row on, or it is longer than a list may be; where the rows end before it,

@@ -8,7 +8,7 @@ ghost use Rattle.model.specs.Core.{coreCeilings, coreOf, coreFrontier};
 ghost use Rattle.model.specs.Cuts.{sidesOk, uncrossed};
 ghost use Rattle.model.specs.Views.{view};
 ghost use Rattle.listing.specs.Says.{problemAt, coreAt, Accepted};
-ghost use Rattle.sums.specs.Sums.{firstRow, secondRow};
+ghost use Rattle.layout.specs.Layout.{firstRow, secondRow};
 ghost use Rattle.merge.specs.Says.{KeptSays, noLists, CutFound};
 
 // Finds the list of one half, under its ceilings, and keeps it from the row `row` on.
@@ -40,10 +40,10 @@ fn keep_half(
         side,
         p,
         ceilings,
-        &mut work[..listing::SEARCH_END],
+        &mut work[..layout::SEARCH_END],
     );
-    let to = rows::LIST_AT + rows::ROW_WIDTH * row;
-    groups::copy_numbers(rows::LIST_AT, to, rows::ROW_WIDTH * found.count, work);
+    let to = layout::LIST_AT + layout::ROW_WIDTH * row;
+    groups::copy_numbers(layout::LIST_AT, to, layout::ROW_WIDTH * found.count, work);
     found
 }
 
@@ -95,7 +95,7 @@ pub fn cut_lists(
         0,
         p,
         wide,
-        sums::FIRST_ROW,
+        layout::FIRST_ROW,
         work,
     );
     if first.full {
@@ -110,7 +110,7 @@ pub fn cut_lists(
         1,
         p,
         wide,
-        sums::SECOND_ROW,
+        layout::SECOND_ROW,
         work,
     );
     if second.full {

@@ -4,30 +4,25 @@ use mathlib.Core.Bool.{true, false}
 use mathlib.Core.List.{List, [], _∷_, _++_, List·Memᴰ·head as here, Memᴰ·append-right as in-right}
 use Prim.Native.Nat.{ℕ, _+_, _≤_, _<_}
 use native.Mathlib.Omega.{arith}
-use lib.ListN.{length, take, drop}
-use lib.Seq.{length-take-le}
-use Rattle.model.specs.Basics.{All}
+use lib.ListN.{length, take}
 use Rattle.model.specs.Limits.{maxObjectives, maxPoints}
-use Rattle.model.specs.Problems.{Problem, Word}
-use Rattle.model.specs.Vectors.{under}
+use Rattle.model.specs.Problems.{Problem}
 use Rattle.model.specs.Frontiers.{Point, point}
-use Rattle.model.specs.Core.{Ceiling, coreFrontier, CoreReached}
+use Rattle.model.specs.Core.{coreFrontier, CoreReached}
 use Rattle.model.specs.Search.{pass}
 use Rattle.model.specs.Suffixes.{Gains}
 use Rattle.model.specs.Calls.{padded}
 use Rattle.model.proofs.Passes.{Prefix, found-count}
 use Rattle.model.proofs.Frontier.{reached-width}
-use Rattle.model.proofs.Core.{core-under, under-ceilings}
 use Rattle.model.proofs.Search.{After, pass-holds, pass-none, pass-some}
 use Rattle.model.proofs.Suffixes.{gains-sound}
-use Rattle.groups.specs.Layout.{listEnd}
 use Rattle.groups.specs.Groups.{tablesOver, placesIn, Grouped}
-use Rattle.rows.specs.Rows.{rowAt, listIn}
+use Rattle.rows.specs.Rows.{listIn, RowWritten}
 use Rattle.search.specs.States.{heldOf, problemIn, gainsIn, ruleOf, Setting, Stands}
 use Rattle.search.specs.declared.Partial as DP
 use Rattle.search.specs.declared.Best as DB
 use Rattle.passes.specs.Says.{FoundSays}
-use Rattle.passes.proofs.Made.{Made, made-start, made-done, made-full, stored-end, stored-inside, stored-over, made-next}
+use Rattle.passes.proofs.Made.{Made, made-start, made-done, made-full, made-next}
 use Rattle.passes.proofs.Kept.{kept-places, kept-gains, kept-grouped}
 
 module _ (p r : ℕ) (ceilings ds s was : List ℕ) where
@@ -94,26 +89,17 @@ module _ (p r : ℕ) (ceilings ds s was : List ℕ) where
         pub costs-wide : length (take p (best .costs)) ≡ p
         costs-wide = reached-width q x reached
 
-        pub costs-words : length ceilings ≡ maxObjectives → All Ceiling (take p ceilings) → All Word (take p (best .costs))
-        costs-words long limited =
-            let wide = costs-wide ∙ sym (length-take-le p ceilings (omega (arith, setting .objectives))) in
-            under-ceilings (take p (best .costs)) (take p ceilings) wide (core-under q x reached) limited
-
-        pub passing-next : k < maxPoints → (stored : List ℕ) → length stored ≡ length work → stored ≡ take (rowAt k) work ++ padded maxObjectives (take p (best .costs)) ++ best .choice ++ drop (rowAt k + 28) work → Passing stored (k + 1)
-        passing-next h stored size is =
-            let c = take p (best .costs) in
-            let v = best .choice in
-            let row = padded maxObjectives c ++ v in
+        pub passing-next : k < maxPoints → (stored : List ℕ)
+            → RowWritten work k (point (padded maxObjectives (take p (best .costs))) (best .choice)) stored
+            → Passing stored (k + 1)
+        passing-next h stored w =
             let few = setting .objectives in
             let values = u .grouped .placed .variables in
             let count : k ≤ maxPoints = omega arith in
-            let long : listEnd ≤ length work = omega (arith, u .grouped .placed .long) in
-            let says = stored-over (u .made) few values count long c v stored costs-wide size is in
-            let ends = stored-end (u .made) few values count long c v stored costs-wide size is in
-            let inside = stored-inside (u .made) few values count long c v stored costs-wide size is in
+            let f = w .frame in
             record {
-              made = made-next (u .made) few values count long c v stored costs-wide size is longer;
-              grouped = rw says (kept-grouped ds s work r (u .grouped) (rowAt k) row (rowAt k + 28) ends inside (omega arith));
-              places = rw says (kept-places ds s work r (u .grouped) (rowAt k) row (rowAt k + 28) ends inside (omega arith) ∙ u .places);
-              gains = λ w j small i. rw says (kept-gains ds s work r (u .grouped) (rowAt k) row (rowAt k + 28) ends inside (omega arith) w j small i ∙ u .gains w j small i);
+              made = made-next (u .made) few values count (best .costs) (best .choice) stored costs-wide w longer;
+              grouped = kept-grouped ds s work r (u .grouped) f;
+              places = kept-places ds s work r (u .grouped) f ∙ u .places;
+              gains = λ w j small i. kept-gains ds s work r (u .grouped) f w j small i ∙ u .gains w j small i;
             }

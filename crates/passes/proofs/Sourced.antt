@@ -10,7 +10,7 @@ use Rattle.model.specs.Limits.{maxObjectives}
 use Rattle.model.specs.Problems.{Problem}
 use Rattle.model.specs.Core.{coreFrontier}
 use Rattle.model.specs.Suffixes.{Gains}
-use Rattle.groups.specs.Layout.{recordsAt, gainsAt, sourceAt}
+use Rattle.layout.specs.Layout.{recordsAt, gainsAt, sourceAt}
 use Rattle.groups.specs.Groups.{placesIn, Placed, Grouped}
 use Rattle.groups.proofs.Overwritten.{over, over-length, over-behind, over-here}
 use Rattle.search.specs.States.{problemIn, gainsIn, Setting}

@@ -20,4 +20,4 @@ pub record FoundSays (p n : ℕ) (fs : List Point) (room : ℕ) (work work′ : 
 
 -- of a problem's frontier list, which callers pass to from the core's
 abbrev pub FoundFor : Problem → ℕ → List ℕ → List ℕ → DF.Found → Type 0
-FoundFor q room work work′ f = FoundSays (q .objectives) (length (q .domains)) (coreFrontier q) room work work′ f
+FoundFor q room work work′ f = FoundSays (q .objectives) (length (q .domains)) (frontier q) room work work′ f

@@ -1,10 +1,9 @@
 // The first form of the search: passes in list order, each of which adds the next point to the list in work memory.
 ghost use mathlib.Core.Path.{_≡_};
 ghost use Prim.Native.Nat.{_≤_};
-ghost use lib.ListN.{length, take};
-ghost use Rattle.model.specs.Basics.{All};
+ghost use lib.ListN.{length};
 ghost use Rattle.model.specs.Limits.{maxPoints};
-ghost use Rattle.model.specs.Core.{Ceiling, coreFrontier};
+ghost use Rattle.model.specs.Core.{coreFrontier};
 ghost use Rattle.model.specs.Suffixes.{Gains};
 ghost use Rattle.search.specs.States.{problemIn, gainsIn, Setting, Stands};
 ghost use Rattle.groups.specs.Sources.{Source, sourceProblem};
@@ -28,7 +27,7 @@ pub fn find_points(
     work: &mut [u32],
 ) -> Found
     requires { ⌜ Setting p r 0 (now sizes) (now s) (now work) × Stands r (now sizes) (now s) (now work) root
-        × (root .len ≡ 0) × All Ceiling (take p ceilings) × (room ≤ maxPoints)
+        × (root .len ≡ 0) × (room ≤ maxPoints)
         × Gains (problemIn p r ceilings (now sizes) (now s) (now work)) (gainsIn p (now work)) ⌝ }
     ensures { λ f. ⌜ FoundSays p (length (now (sizes .entry)))
         (coreFrontier (problemIn p r ceilings (now (sizes .entry)) (now (s .entry)) (now (work .entry))))
@@ -77,7 +76,7 @@ pub fn find_source(
         room (now (work .entry)) (now (work .exit)) f ⌝ }
 {
     suffixes::find_gains(s, sizes, r, p, ceilings, work);
-    groups::copy_numbers(groups::SOURCE_AT, groups::RECORDS_AT, r, work);
+    groups::copy_numbers(layout::SOURCE_AT, layout::RECORDS_AT, r, work);
     groups::group_records(s, sizes, r, work);
     let root = search::root_of(s, sizes, r, work);
     find_points(root, s, sizes, r, p, ceilings, room, work)

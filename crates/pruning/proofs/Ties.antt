@@ -11,9 +11,9 @@ use Rattle.model.specs.Vectors.{atMost}
 use Rattle.model.specs.Archive.{weighted}
 use Rattle.model.proofs.Bits.{true-false}
 use Rattle.model.proofs.Vectors.{AtMost, at-most-true, at-most-test}
-use Rattle.groups.specs.Layout.{listEnd}
+use Rattle.layout.specs.Layout.{listEnd}
 use Rattle.rows.specs.Rows.{costsIn}
-use Rattle.rows.proofs.RowParts.{costs-long}
+use Rattle.rows.proofs.RowNumbers.{costs-long}
 use Rattle.directions.specs.Directions.{maxDirections, weightsOf, directionsOf, widthOf, Sensible}
 use Rattle.directions.specs.declared.Directions as DD
 use Rattle.directions.proofs.AtMostAt.{at-most-at}
@@ -31,7 +31,7 @@ module _ (d : DD.Directions) (n : ℕ) (work x b : List ℕ) (i : ℕ) (sensible
   costs = costsIn (d .objectives) work i
 
   wide : length costs ≡ d .objectives
-  wide = costs-long work i (omega arith) (d .objectives) (sensible .few)
+  wide = costs-long work i (d .objectives)
 
   pub untied-costs : atMost (take (d .objectives) (take maxObjectives b)) (costsIn (d .objectives) work i) ≡ false → Untied d n work x b i
   untied-costs f t =

@@ -10,7 +10,8 @@ use Rattle.model.specs.Vectors.{atMost, earlier}
 use Rattle.rows.specs.Rows.{costsIn, valuesIn}
 use Rattle.directions.specs.Directions.{directionsOf, widthOf, leadAt}
 use Rattle.directions.specs.declared.Directions as DD
-use Rattle.zones.specs.Zones.{zonesEnd, cornerIn}
+use Rattle.layout.specs.Layout.{zonesEnd}
+use Rattle.zones.specs.Zones.{cornerIn}
 use Rattle.pruning.specs.declared.Progress as DP
 
 -- the zones are the first numbers of work memory

@@ -8,13 +8,11 @@ ghost use Rattle.model.specs.Basics.{All};
 ghost use Rattle.model.specs.Limits.{maxVariables, maxPoints};
 ghost use Rattle.model.specs.Core.{coreSumEnd};
 ghost use Rattle.model.specs.Archive.{weighted};
-ghost use Rattle.groups.specs.Layout.{listEnd};
+ghost use Rattle.layout.specs.Layout.{listEnd};
+ghost use Rattle.rows.specs.Rows.{costsIn, EachCost};
 ghost use Rattle.directions.specs.Directions.{weightsOf, Sensible};
 ghost use Rattle.zones.specs.Zones.{Measured};
 ghost use Rattle.pruning.specs.Tests.{zonesOf, Untied, Dead};
-
-// The zones are the first numbers of work memory.
-pub const ZONES_END: usize = 1024;
 
 // How many points and zones there are, and the limit: only vectors with a smaller leading sum are sought.
 pub struct Progress {
@@ -58,10 +56,11 @@ fn is_tied_at(
     d: directions::Directions,
     work: &[u32],
 ) -> bool
-    requires { ⌜ Sensible d × (listEnd ≤ length (now work)) × (i ≤ maxPoints) × (n ≤ maxVariables) ⌝ }
+    requires { ⌜ Sensible d × (listEnd ≤ length (now work)) × (i ≤ maxPoints) × (n ≤ maxVariables)
+        × All (λ a. a < coreSumEnd) (costsIn (d .objectives) (now work) i) ⌝ }
     ensures { λ r. ⌜ (r ≡ false → Untied d n (now (work .entry)) x b i) ⌝ }
 {
-    let costs = archive::row_costs(i, work);
+    let costs = rows::row_costs(i, work);
     if !vectors::is_at_most(front_of(b), costs, d.objectives) {
         return false;
     }
@@ -80,7 +79,8 @@ fn is_tied(
     d: directions::Directions,
     work: &[u32],
 ) -> bool
-    requires { ⌜ Sensible d × (listEnd ≤ length (now work)) × (c ≤ maxPoints + 1) × (n ≤ maxVariables) ⌝ }
+    requires { ⌜ Sensible d × (listEnd ≤ length (now work)) × (c ≤ maxPoints + 1) × (n ≤ maxVariables)
+        × EachCost (λ a. a < coreSumEnd) (d .objectives) (now work) c ⌝ }
     ensures { λ r. ⌜ (r ≡ false → (i : ℕ) → i < c → Untied d n (now (work .entry)) x b i) ⌝ }
 {
     let mut i: usize = 0;
@@ -103,13 +103,14 @@ pub fn is_alive(
     work: &[u32],
 ) -> bool
     requires { ⌜ Sensible d × (listEnd ≤ length (now work)) × Measured d (zonesOf (now work)) (run .zones)
-        × (run .points ≤ maxPoints + 1) × (n ≤ maxVariables) ⌝ }
+        × (run .points ≤ maxPoints + 1) × (n ≤ maxVariables)
+        × EachCost (λ a. a < coreSumEnd) (d .objectives) (now work) (run .points) ⌝ }
     ensures { λ r. ⌜ (r ≡ false → Dead d n (now (work .entry)) run x b) ⌝ }
 {
     if directions::lead_of(b, d) >= run.limit {
         return false;
     }
-    if zones::is_reached(b, run.zones, d, &work[..ZONES_END]) {
+    if zones::is_reached(b, run.zones, d, &work[..layout::ZONES_END]) {
         return true;
     }
     is_tied(x, b, run.points, n, d, work)

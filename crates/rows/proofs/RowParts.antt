@@ -4,14 +4,11 @@ use mathlib.Core.List.{List, [], _∷_, _++_}
 use Prim.Native.Nat.{ℕ, zero, suc, _+_, _≤_, _<_}
 use native.Mathlib.Omega.{arith}
 use native.Mathlib.Nat.{add-zero}
-use lib.ListN.{length, drop, length-drop}
-use lib.Seq.{length-take-le}
+use lib.ListN.{length}
 use Rattle.model.specs.Basics.{All}
-use Rattle.model.specs.Limits.{maxObjectives, maxVariables}
 use Rattle.model.specs.Frontiers.{Point}
 use Rattle.model.specs.Calls.{flatCosts, flatChoices}
-use Rattle.groups.specs.Layout.{rowWidth}
-use Rattle.rows.specs.Rows.{rowAt, costsIn, valuesIn, pointIn, listIn}
+use Rattle.rows.specs.Rows.{costsIn, valuesIn, pointIn, listIn}
 use Rattle.rows.proofs.RowsOut.{joined}
 
 module _ (p n : ℕ) (work : List ℕ) where
@@ -46,11 +43,3 @@ module _ (p n : ℕ) (work : List ℕ) where
   row-has P i (suc k) h (suc row) l =
       let e : i + 1 + row ≡ i + suc row = omega arith in
       rw e at (row-has P (i + 1) k (h .1) row (omega arith))
-
--- a row inside memory has all its costs and values
-module _ (work : List ℕ) (row : ℕ) (inside : rowAt row + rowWidth ≤ length work) where
-  pub costs-long : (p : ℕ) → p ≤ maxObjectives → length (costsIn p work row) ≡ p
-  costs-long p h = length-take-le p (drop (rowAt row) work) (omega (arith, length-drop (rowAt row) work))
-
-  pub values-long : (n : ℕ) → n ≤ maxVariables → length (valuesIn n work row) ≡ n
-  values-long n h = length-take-le n (drop (rowAt row + 4) work) (omega (arith, length-drop (rowAt row + 4) work))

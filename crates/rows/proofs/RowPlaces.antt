@@ -6,16 +6,16 @@ use Prim.Native.Nat.{ℕ, zero, suc, _+_, _≤_, _<_}
 use native.Mathlib.Omega.{arith}
 use native.Mathlib.Nat.{add-zero, zero-add, eq-or-lt-of-le}
 use lib.Dec.{eqb, ltb}
-use lib.ListN.{getD, take, drop}
-use lib.Seq.{take-take}
+use lib.ListN.{getD, take}
 use borrow.Author.Tests.{eqb-true, eqb-false, ltb-true, ltb-false}
 use Rattle.model.specs.Limits.{maxObjectives, maxVariables}
 use Rattle.model.specs.Frontiers.{Point, point}
 use Rattle.model.proofs.Bits.{test}
 use Rattle.model.proofs.Elements.{at-in, in-at}
 use Rattle.model.proofs.Points.{point-eq}
-use Rattle.rows.specs.Rows.{rowAt, costsIn, pointIn, listIn, rowIn}
+use Rattle.rows.specs.Rows.{costsIn, pointIn, listIn, rowIn}
 use Rattle.rows.proofs.RowParts.{rows-length}
+use Rattle.rows.proofs.RowNumbers.{costs-front, values-front}
 
 -- two rows are the same or one comes first
 pub equal-or : (a b : ℕ) → (a ≡ b) ⊎ (a ≡ b → ⊥)
@@ -45,10 +45,12 @@ module _ (p n : ℕ) (work : List ℕ) where
 -- equal rows have equal costs and equal points
 module _ (work work′ : List ℕ) (i j : ℕ) (same : rowIn work′ j ≡ rowIn work i) where
   pub same-costs : (p : ℕ) → p ≤ maxObjectives → costsIn p work′ j ≡ costsIn p work i
-  same-costs p few = sym (take-take p maxObjectives (drop (rowAt j) work′) few) ∙ ap (λ (t : Point). take p (t .costs)) same ∙ take-take p maxObjectives (drop (rowAt i) work) few
+  same-costs p few =
+      sym (costs-front work′ j p maxObjectives few) ∙ ap (λ (t : Point). take p (t .costs)) same
+      ∙ costs-front work i p maxObjectives few
 
   pub same-point : (p n : ℕ) → p ≤ maxObjectives → n ≤ maxVariables → pointIn p n work′ j ≡ pointIn p n work i
   same-point p n few small =
-      point-eq
-      (same-costs p few)
-      (sym (take-take n maxVariables (drop (rowAt j + 4) work′) small) ∙ ap (λ (t : Point). take n (t .choice)) same ∙ take-take n maxVariables (drop (rowAt i + 4) work) small)
+      point-eq (same-costs p few)
+      (sym (values-front work′ j n maxVariables small) ∙ ap (λ (t : Point). take n (t .choice)) same
+      ∙ values-front work i n maxVariables small)

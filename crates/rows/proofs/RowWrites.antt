@@ -1,103 +1,109 @@
 -- A row written over work memory: it has the new costs and values, the other rows and all outside the list are kept.
-use mathlib.Core.Path.{_≡_, sym, ap, _∙_, subst}
-use mathlib.Core.Logic.{⊎-elim}
-use mathlib.Core.List.{List, _++_, append-assoc}
-use Prim.Native.Nat.{ℕ, _+_, _≤_, _<_}
+use mathlib.Core.Path.{_≡_, sym, ap, ap₂, _∙_}
+use mathlib.Core.Logic.{inl, inr, ⊎-elim}
+use mathlib.Core.List.{List, _++_}
+use Prim.Native.Nat.{ℕ, _+_, _*_, _≤_, _<_}
 use native.Mathlib.Omega.{arith}
-use lib.ListN.{length, take, drop, length-append}
-use lib.Seq.{length-take-le, take-at, drop-at, take-append-le, take-add, take-take, drop-drop}
-use Rattle.model.specs.Limits.{maxObjectives, maxVariables, maxPoints}
+use lib.ListN.{length, getD, take, drop, length-drop}
+use lib.Seq.{length-take-le, getD-take, getD-drop}
+use Rattle.model.specs.Limits.{maxObjectives, maxVariables, maxPoints, wordEnd}
 use Rattle.model.specs.Frontiers.{Point, point}
 use Rattle.model.specs.Calls.{padded}
 use Rattle.model.proofs.Points.{point-eq}
 use Rattle.problem.proofs.Filled.{take-padded}
-use Rattle.groups.specs.Layout.{listAt, listEnd, rowWidth}
-use Rattle.groups.proofs.Overwritten.{over, over-length, over-behind, over-front, over-part}
-use Rattle.rows.specs.Rows.{rowAt, costsIn, valuesIn, pointIn, rowIn, Framed, RowWritten}
-use Rattle.rows.proofs.PaddedParts.{padded-long}
-use Rattle.rows.proofs.RowParts.{costs-long, values-long}
-use Rattle.rows.proofs.RowPlaces.{one-first}
+use Rattle.layout.specs.Layout.{listEnd, rowWidth}
+use Rattle.groups.proofs.Overwritten.{over, over-length, over-behind, over-before, over-here}
+use Rattle.rows.specs.Rows.{rowAt, costAt, valueAt, costsIn, valuesIn, pointIn, rowIn, Changed, Framed, RowWritten}
+use Rattle.rows.specs.Rows.{CostsWritten, ValuesWritten}
+use Rattle.rows.proofs.Tabulated.{tabulated-is}
+use Rattle.rows.proofs.RowNumbers.{costs-front, values-front, equal-points}
+use Rattle.rows.proofs.Changing.{changed-wider, changed-then, changed-row, changed-others}
 
-module _ (work costs choice : List ℕ) (k : ℕ) (wide : length costs ≡ maxObjectives) (full : length choice ≡ maxVariables) (few : k ≤ maxPoints) (long : listEnd ≤ length work) where
-  abbrev row : List ℕ
-  row = costs ++ choice
+-- only numbers of row k have changed, and the row is known
+written-row : {k : ℕ} {work work′ : List ℕ} → Changed (rowAt k) rowWidth work work′ → k ≤ maxPoints → listEnd ≤ length work
+    → (row : Point) → rowIn work′ k ≡ row → RowWritten work k row work′
+written-row u few long row is =
+    record { frame = changed-row u few long; written = is; others = λ j l apart. changed-others u j apart }
 
-  row-end : rowAt k + rowWidth ≡ rowAt k + length row
-  row-end = omega (arith, length-append costs choice)
+-- costs are written to row k, and then values behind them
+module _ (k : ℕ) {costs choice work one two : List ℕ} (c : CostsWritten (rowAt k) costs work one)
+    (v : ValuesWritten (rowAt k + 8) choice one two)
+    (wide : length costs ≡ maxObjectives) (full : length choice ≡ maxVariables) where
+  changed : Changed (rowAt k) rowWidth work two
+  changed =
+      changed-then (changed-wider (c .changed) (rowAt k) rowWidth (omega arith) (omega arith)) two
+      (changed-wider (v .changed) (rowAt k) rowWidth (omega arith) (omega arith))
+
+  here-costs : costsIn maxObjectives two k ≡ costs
+  unfolding costsIn costAt
+  here-costs =
+      tabulated-is (λ j. costAt two (rowAt k + 2 * j)) costs maxObjectives wide (λ j l.
+      ap₂ (λ (a b : ℕ). a + wordEnd * b) (v .changed .others (rowAt k + 2 * j) (inl (omega arith)))
+      (v .changed .others (rowAt k + 2 * j + 1) (inl (omega arith)))
+      ∙ c .written j l)
+
+  here-values : valuesIn maxVariables two k ≡ choice
+  unfolding valuesIn
+  here-values = tabulated-is (valueAt two (rowAt k + 8)) choice maxVariables full (v .written)
+
+  pub row-stored : k ≤ maxPoints → listEnd ≤ length work → RowWritten work k (point costs choice) two
+  row-stored few long = written-row changed few long (point costs choice) (point-eq here-costs here-values)
+
+-- the numbers of row j are copied to row k
+module _ (work work′ : List ℕ) (j k : ℕ) (l : j ≤ maxPoints) (few : k ≤ maxPoints) (long : listEnd ≤ length work)
+    (is : work′ ≡ take (rowAt k) work ++ take rowWidth (drop (rowAt j) work) ++ drop (rowAt k + rowWidth) work) where
+  abbrev numbers : List ℕ
+  numbers = take rowWidth (drop (rowAt j) work)
+
+  ends : rowAt k + rowWidth ≡ rowAt k + length numbers
+  ends = omega (arith, length-take-le rowWidth (drop (rowAt j) work) (omega (arith, length-drop (rowAt j) work)))
 
   inside : rowAt k + rowWidth ≤ length work
   inside = omega arith
 
-  abbrev pub rowOver : List ℕ
-  rowOver = over work (rowAt k) row (rowAt k + rowWidth)
+  here : (m : ℕ) → m < rowWidth → getD work′ (rowAt k + m) 0 ≡ getD work (rowAt j + m) 0
+  here m h =
+      let count : length numbers ≡ rowWidth = omega (arith, ends) in
+      let part : take rowWidth (drop (rowAt k) work′) ≡ numbers =
+      rw is (rw count at (over-here work (rowAt k) numbers (rowAt k + rowWidth) ends inside)) in
+      sym (getD-take rowWidth (drop (rowAt k) work′) m 0 h ∙ getD-drop (rowAt k) work′ m 0)
+      ∙ ap (λ (xs : List ℕ). getD xs m 0) part
+      ∙ getD-take rowWidth (drop (rowAt j) work) m 0 h
+      ∙ getD-drop (rowAt j) work m 0
 
-  abbrev rest : List ℕ
-  rest = drop (rowAt k + rowWidth) work
-
-  front : length (take (rowAt k) work) ≡ rowAt k
-  front = length-take-le (rowAt k) work (omega arith)
-
-  here-costs : costsIn maxObjectives rowOver k ≡ costs
-  here-costs =
-      rw (append-assoc (take (rowAt k) work) row rest, drop-at (take (rowAt k) work) (row ++ rest) (rowAt k) front)
-      (take-append-le maxObjectives row rest (omega (arith, row-end)) ∙ take-at costs choice maxObjectives wide)
-
-  here-values : valuesIn maxVariables rowOver k ≡ choice
-  here-values =
-      let head : length (take (rowAt k) work ++ costs) ≡ rowAt k + 4 = omega (arith, length-append (take (rowAt k) work) costs, front) in
-      rw (← append-assoc (take (rowAt k) work) costs choice, append-assoc (take (rowAt k) work ++ costs) choice rest, drop-at (take (rowAt k) work ++ costs) (choice ++ rest) (rowAt k + 4) head)
-      (take-at choice rest maxVariables full)
-
-  other : (j : ℕ) → j ≤ maxPoints → (j ≡ k → ⊥) → rowIn rowOver j ≡ rowIn work j
-  other j l n = ⊎-elim before after (one-first j k n)
-    where
-      before : j < k → rowIn rowOver j ≡ rowIn work j
-      before h =
-          let part = over-part work (rowAt k) row (rowAt k + rowWidth) row-end inside in
-          point-eq (part maxObjectives (rowAt j) (omega arith)) (part maxVariables (rowAt j + 4) (omega arith))
-
-      after : k < j → rowIn rowOver j ≡ rowIn work j
-      after h =
-          let kept = over-behind work (rowAt k) row (rowAt k + rowWidth) row-end inside in
-          point-eq (ap (take maxObjectives) (kept (rowAt j) (omega arith))) (ap (take maxVariables) (kept (rowAt j + 4) (omega arith)))
-
-  pub row-written : RowWritten work k (point costs choice) rowOver
-  row-written =
+  copied : Changed (rowAt k) rowWidth work work′
+  copied =
       record {
-        frame = record {
-          long = over-length work (rowAt k) row (rowAt k + rowWidth) row-end inside;
-          before = over-front work (rowAt k) row (rowAt k + rowWidth) row-end inside listAt (omega arith);
-          behind = over-behind work (rowAt k) row (rowAt k + rowWidth) row-end inside listEnd (omega arith);
-        };
-        written = point-eq here-costs here-values;
-        others = other;
+        long = rw is (over-length work (rowAt k) numbers (rowAt k + rowWidth) ends inside);
+        others = λ m o. ⊎-elim
+        (λ h. rw is (over-before work (rowAt k) numbers (rowAt k + rowWidth) ends inside m h))
+        (λ h. behind m h)
+        o;
       }
+    where
+      behind : (m : ℕ) → rowAt k + rowWidth ≤ m → getD work′ m 0 ≡ getD work m 0
+      behind m h =
+          let rest : drop m work′ ≡ drop m work =
+          rw is (over-behind work (rowAt k) numbers (rowAt k + rowWidth) ends inside m h) in
+          sym (first work′ m) ∙ ap (λ (xs : List ℕ). getD xs 0 0) rest ∙ first work m
+        where
+          first : (xs : List ℕ) (i : ℕ) → getD (drop i xs) 0 0 ≡ getD xs i 0
+          first xs i = getD-drop i xs 0 0 ∙ ap (λ (m : ℕ). getD xs m 0) (omega arith)
 
--- a row is its costs and its values
-row-parts : (work : List ℕ) (j : ℕ) → take rowWidth (drop (rowAt j) work) ≡ costsIn maxObjectives work j ++ valuesIn maxVariables work j
-row-parts work j = take-add maxObjectives maxVariables (drop (rowAt j) work) ∙ rw (drop-drop maxObjectives (rowAt j) work)
-
--- the row that `copy_numbers` writes, and the one that `store_point` writes
-pub row-copied : (work work′ : List ℕ) (j k : ℕ) → j ≤ maxPoints → k ≤ maxPoints → listEnd ≤ length work → work′ ≡ take (rowAt k) work ++ take rowWidth (drop (rowAt j) work) ++ drop (rowAt k + rowWidth) work → RowWritten work k (rowIn work j) work′
-row-copied work work′ j k l few long e =
-    let wide = costs-long work j (omega arith) maxObjectives (omega arith) in
-    let full = values-long work j (omega arith) maxVariables (omega arith) in
-    subst (RowWritten work k (rowIn work j)) (sym (e ∙ rw (row-parts work j))) (row-written work (costsIn maxObjectives work j) (valuesIn maxVariables work j) k wide full few long)
-
-module _ (work costs choice work′ : List ℕ) (p k : ℕ) (objectives : p ≤ maxObjectives) (wide : length costs ≡ maxObjectives) (full : length choice ≡ maxVariables) (few : k ≤ maxPoints) (long : listEnd ≤ length work) where
-  pub row-stored : work′ ≡ take (rowAt k) work ++ padded maxObjectives (take p costs) ++ choice ++ drop (rowAt k + rowWidth) work → RowWritten work k (point (padded maxObjectives (take p costs)) choice) work′
-  row-stored e =
-      subst
-      (RowWritten work k (point (padded maxObjectives (take p costs)) choice))
-      (sym (e ∙ rw (append-assoc (take (rowAt k) work) (padded maxObjectives (take p costs)) choice)))
-      (row-written work (padded maxObjectives (take p costs)) choice k (padded-long maxObjectives p costs objectives (omega arith)) full few long)
+  pub row-copied : RowWritten work k (rowIn work j) work′
+  row-copied =
+      written-row copied few long (rowIn work j)
+      (equal-points work′ work k j rowWidth here maxObjectives maxVariables (omega arith) (omega arith))
 
 -- the point that stands in a written row
-pub written-point : (work costs choice work′ : List ℕ) (p n k : ℕ) → p ≤ maxObjectives → n ≤ maxVariables → length (take p costs) ≡ p → RowWritten work k (point (padded maxObjectives (take p costs)) choice) work′ → pointIn p n work′ k ≡ point (take p costs) (take n choice)
+pub written-point : (work costs choice work′ : List ℕ) (p n k : ℕ) → p ≤ maxObjectives → n ≤ maxVariables
+    → length (take p costs) ≡ p → RowWritten work k (point (padded maxObjectives (take p costs)) choice) work′
+    → pointIn p n work′ k ≡ point (take p costs) (take n choice)
 written-point work costs choice work′ p n k few small wide w =
     point-eq
-    (sym (take-take p maxObjectives (drop (rowAt k) work′) few) ∙ ap (λ (t : Point). take p (t .costs)) (w .written) ∙ take-padded maxObjectives p (take p costs) wide)
-    (sym (take-take n maxVariables (drop (rowAt k + 4) work′) small) ∙ ap (λ (t : Point). take n (t .choice)) (w .written))
+    (sym (costs-front work′ k p maxObjectives few) ∙ ap (λ (t : Point). take p (t .costs)) (w .written)
+    ∙ take-padded maxObjectives p (take p costs) wide)
+    (sym (values-front work′ k n maxVariables small) ∙ ap (λ (t : Point). take n (t .choice)) (w .written))
 
 -- two changes that keep what is outside the list
 pub framed-trans : {one two three : List ℕ} → Framed one two → Framed two three → Framed one three

@@ -4,12 +4,12 @@ use mathlib.Core.Bool.{Bool, false, _||_}
 use mathlib.Core.List.{List}
 use Prim.Native.Nat.{ℕ, suc, _+_, _-_, _≤_, _<_}
 use native.Mathlib.Omega.{arith}
-use lib.ListN.{take, drop}
-use lib.Seq.{take-take}
+use lib.ListN.{take}
 use Rattle.model.specs.Limits.{maxObjectives}
 use Rattle.model.specs.Vectors.{atMost}
 use Rattle.model.specs.Search.{matched}
-use Rattle.rows.specs.Rows.{rowAt, listIn}
+use Rattle.rows.specs.Rows.{costsIn, listIn}
+use Rattle.rows.proofs.RowNumbers.{costs-front}
 
 module _ (c : List ℕ) (n : ℕ) (work : List ℕ) (k p i : ℕ) where
   -- whether a row from i on matches
@@ -23,9 +23,10 @@ module _ (c : List ℕ) (n : ℕ) (work : List ℕ) (k p i : ℕ) where
       rw (none, listIn, matched)
 
   -- `row` and `met` are what the code reads of row i and its test
-  module _ (l : i < k) (few : p ≤ maxObjectives) (row : List ℕ) (read : row ≡ take maxObjectives (drop (rowAt i) work)) (met : Bool) (tested : met ≡ atMost (take p row) (take p c)) where
+  module _ (l : i < k) (few : p ≤ maxObjectives) (row : List ℕ) (read : row ≡ costsIn maxObjectives work i) (met : Bool)
+      (tested : met ≡ atMost (take p row) (take p c)) where
     pub matched-step : matchedFrom ≡ (met || matched (take p c) (listIn p n work (i + 1) (k - (i + 1))))
     unfolding matched listIn
     matched-step =
         let one : k - i ≡ suc (k - (i + 1)) = omega arith in
-        rw (one, tested, read, take-take p maxObjectives (drop (rowAt i) work) few, listIn, matched)
+        rw (one, tested, read, costs-front work i p maxObjectives few, listIn, matched)

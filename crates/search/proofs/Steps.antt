@@ -15,7 +15,7 @@ use Rattle.model.specs.Bounds.{leastOf, boundOf}
 use Rattle.model.specs.Frontiers.{Point, point}
 use Rattle.model.specs.Search.{Held, just, dead}
 use Rattle.model.specs.Suffixes.{sharper}
-use Rattle.groups.specs.Layout.{gainsAt}
+use Rattle.layout.specs.Layout.{gainsAt}
 use Rattle.rows.specs.Rows.{listIn}
 use Rattle.search.specs.States.{heldOf, tablesIn, problemIn, prefixOf, deadIn, gainsIn, ruleOf, Setting, opensFrom, triesFrom}
 use Rattle.search.specs.declared.Partial as DP

@@ -13,7 +13,7 @@ use Rattle.model.specs.Frontiers.{Point, point}
 use Rattle.model.specs.Bounds.{prefixOk, leastOf}
 use Rattle.model.specs.Search.{Held, nothing, just, matched, late, dead, tries, opens}
 use Rattle.model.specs.Suffixes.{sharper}
-use Rattle.groups.specs.Layout.{gainsAt}
+use Rattle.layout.specs.Layout.{gainsAt}
 use Rattle.groups.specs.Groups.{hasVariable, tablesOver, placesIn, Grouped}
 use Rattle.rows.specs.Rows.{listIn}
 use Rattle.search.specs.declared.Partial as DP

@@ -8,7 +8,7 @@ ghost use Rattle.model.specs.Limits.{maxObjectives, maxVariables, maxPoints};
 ghost use Rattle.model.specs.Core.{coreSumEnd};
 ghost use Rattle.model.specs.Vectors.{added};
 ghost use Rattle.model.specs.Search.{matched, pass};
-ghost use Rattle.groups.specs.Layout.{listEnd, searchEnd};
+ghost use Rattle.layout.specs.Layout.{listEnd, searchEnd};
 ghost use Rattle.groups.specs.Groups.{Placed, Grouped};
 ghost use Rattle.rows.specs.Rows.{listIn};
 ghost use Rattle.search.specs.States.{heldOf, problemIn, prefixOf, deadIn, gainsIn, ruleOf};
@@ -35,11 +35,7 @@ pub fn is_matched(c: [u64; 4], n: usize, work: &[u32], k: usize, p: usize) -> bo
 {
     let mut i: usize = 0;
     while i < k {
-        if vectors::is_at_most(
-            rows::costs_at(work, rows::LIST_AT + rows::ROW_WIDTH * i),
-            c,
-            p,
-        ) {
+        if vectors::is_at_most(rows::row_costs(i, work), c, p) {
             return true;
         }
         i += 1;
@@ -81,7 +77,7 @@ fn sharper_bound(x: Partial, work: &[u32]) -> [u64; 4]
 {
     let len = x.len;
     let bound = x.bound;
-    let gains = rows::costs_at(work, groups::GAINS_AT + 4 * len);
+    let gains = vectors::numbers_at(work, layout::GAINS_AT + 4 * len);
     vectors::sum(bound, gains)
 }
 
@@ -213,8 +209,8 @@ pub fn root_of(s: &[u8], sizes: &[u8], r: usize, work: &[u32]) -> Partial
     let bound = groups::bounds_over(
         s,
         sizes,
-        groups::RECORDS_AT,
-        groups::RECORDS_AT + r,
+        layout::RECORDS_AT,
+        layout::RECORDS_AT + r,
         &sizes[..0],
         work,
     );

@@ -13,7 +13,7 @@ use Rattle.model.specs.Encoding.{Byte}
 use Rattle.model.specs.Reading.{problemOf}
 use Rattle.model.specs.Frontiers.{frontier}
 use Rattle.model.specs.Calls.{over, divided, roomOf, flatCosts, flatChoices, solveOutcome}
-use Rattle.groups.specs.Layout.{listEnd}
+use Rattle.layout.specs.Layout.{listEnd}
 use Rattle.rows.specs.Rows.{listIn}
 use Rattle.problem.specs.declared.Reading as DG
 use Rattle.problem.proofs.Accepted.{AcceptedReading}

@@ -8,7 +8,7 @@ use lib.Seq.{drop-set-lt}
 use Rattle.model.specs.Limits.{maxObjectives}
 use Rattle.model.specs.Problems.{Problem}
 use Rattle.model.specs.Suffixes.{Gain, Gains}
-use Rattle.groups.specs.Layout.{gainsAt, sourceAt, searchEnd}
+use Rattle.layout.specs.Layout.{gainsAt, sourceAt, searchEnd}
 use Rattle.groups.proofs.Overwritten.{over}
 use Rattle.search.specs.States.{gainsIn}
 use Rattle.groups.specs.Sources.{sourceProblem, Source}

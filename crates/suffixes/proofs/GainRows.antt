@@ -15,7 +15,7 @@ use Rattle.model.specs.Problems.{Problem}
 use Rattle.model.specs.Suffixes.{Gain, Gains}
 use Rattle.model.proofs.Bits.{test}
 use Rattle.model.proofs.Suffixes.{gain-none}
-use Rattle.groups.specs.Layout.{gainsAt, sourceAt, searchEnd}
+use Rattle.layout.specs.Layout.{gainsAt, sourceAt, searchEnd}
 use Rattle.groups.proofs.Overwritten.{over, over-length, over-behind, over-here}
 use Rattle.search.specs.States.{gainsIn}
 use Rattle.suffixes.specs.Gained.{gainIn, Found-from, Left}

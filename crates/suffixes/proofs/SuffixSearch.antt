@@ -20,7 +20,7 @@ use Rattle.model.proofs.Elements.{all-map}
 use Rattle.model.proofs.Search.{Sound}
 use Rattle.model.proofs.Suffixes.{sides-length, gains-sound, gain-less}
 use Rattle.model.proofs.SuffixProblems.{suffix-gains, suffix-gain}
-use Rattle.groups.specs.Layout.{recordsAt, gainsAt, sourceAt, searchEnd}
+use Rattle.layout.specs.Layout.{recordsAt, gainsAt, sourceAt, searchEnd}
 use Rattle.groups.specs.Groups.{tablesOver, placesIn, Placed, Grouped}
 use Rattle.groups.proofs.Overwritten.{over, over-length, over-behind, over-here}
 use Rattle.rows.specs.Rows.{listIn}

@@ -7,7 +7,7 @@ use lib.ListN.{length, getD, drop}
 use Rattle.model.specs.Limits.{maxObjectives}
 use Rattle.model.specs.Problems.{Problem}
 use Rattle.model.specs.Suffixes.{Gain}
-use Rattle.groups.specs.Layout.{gainsAt, sourceAt}
+use Rattle.layout.specs.Layout.{gainsAt, sourceAt}
 
 -- the gain of objective o and the variables from k on, as a row of work memory has it
 abbrev pub gainIn : List ℕ → ℕ → ℕ → ℕ

@@ -7,7 +7,7 @@ ghost use lib.ListN.{length, getD, take, drop, replicate};
 ghost use Rattle.model.specs.Basics.{pick};
 ghost use Rattle.model.specs.Limits.{maxObjectives, maxVariables};
 ghost use Rattle.model.specs.Suffixes.{suffixSides, Gain, Gains};
-ghost use Rattle.groups.specs.Layout.{gainsAt, sourceAt};
+ghost use Rattle.layout.specs.Layout.{gainsAt, sourceAt};
 ghost use Rattle.search.specs.States.{gainsIn};
 ghost use Rattle.groups.specs.Sources.{sourceProblem, Source};
 ghost use Rattle.suffixes.specs.Gained.{Found-from, Left};
@@ -87,8 +87,8 @@ pub fn suffix_gain(
         o as u8,
         (o as u8) + 1,
         r,
-        groups::SOURCE_AT,
-        groups::RECORDS_AT,
+        layout::SOURCE_AT,
+        layout::RECORDS_AT,
         work,
     );
     groups::group_records(s, &narrow[..n], count, work);
@@ -129,7 +129,7 @@ fn objective_gains(
     while k > 1 {
         k -= 1;
         let gain = suffix_gain(s, sizes, r, p, ceilings, o, k, work);
-        work[groups::GAINS_AT + 4 * k + o] = gain;
+        work[layout::GAINS_AT + 4 * k + o] = gain;
     }
 }
 
@@ -155,8 +155,8 @@ fn clear_gains(work: &mut [u32])
     ensures { λ _. ⌜ now (work .exit)
         ≡ take gainsAt (now (work .entry)) ++ replicate (sourceAt - gainsAt) 0 ++ drop sourceAt (now (work .entry)) ⌝ }
 {
-    let mut at = groups::GAINS_AT;
-    while at < groups::SOURCE_AT {
+    let mut at = layout::GAINS_AT;
+    while at < layout::SOURCE_AT {
         work[at] = 0;
         at += 1;
     }

@@ -4,28 +4,23 @@ use mathlib.Core.Bool.{true, false}
 use mathlib.Core.List.{List, [], _∷_, _++_, List·Memᴰ as In, List·Memᴰ·head as here, Memᴰ·append-right as in-right}
 use Prim.Native.Nat.{ℕ, _+_, _≤_, _<_}
 use native.Mathlib.Omega.{arith}
-use lib.ListN.{length, take, drop}
-use lib.Seq.{length-take-le}
-use Rattle.model.specs.Basics.{All}
+use lib.ListN.{length, take}
 use Rattle.model.specs.Limits.{maxObjectives, maxPoints}
-use Rattle.model.specs.Problems.{Word}
-use Rattle.model.specs.Core.{Ceiling}
-use Rattle.model.specs.Vectors.{under}
-use Rattle.model.specs.Frontiers.{Point, best}
+use Rattle.model.specs.Frontiers.{Point, point, best}
 use Rattle.model.specs.Search.{nothing}
 use Rattle.model.specs.Merging.{leastLeft}
 use Rattle.model.specs.Calls.{padded}
 use Rattle.model.proofs.Best.{Pool}
 use Rattle.model.proofs.Passes.{Prefix}
-use Rattle.model.proofs.Core.{under-ceilings}
-use Rattle.model.proofs.Sorting.{Sized, AllSized}
+use Rattle.model.proofs.Sorting.{AllSized}
 use Rattle.model.proofs.Merging.{merge-some, merge-none, merge-count}
-use Rattle.rows.specs.Rows.{rowAt, listIn}
+use Rattle.rows.specs.Rows.{listIn, RowWritten}
 use Rattle.search.specs.States.{heldOf}
 use Rattle.search.specs.declared.Best as DB
 use Rattle.passes.specs.Says.{FoundSays}
 use Rattle.passes.proofs.Made.{Made, made-done, made-full, made-next}
-use Rattle.sums.specs.Sums.{firstRow, secondRow, sumsIn, pointOf, Halved}
+use Rattle.layout.specs.Layout.{firstRow, secondRow}
+use Rattle.sums.specs.Sums.{firstIn, secondIn, sumsIn, pointOf, Halved}
 use Rattle.sums.proofs.Sums.{sums-good, rows-kept, sums-kept}
 
 -- the sums, as the points that are listed
@@ -40,7 +35,13 @@ module _ {p n a b : ℕ} {was : List ℕ} (halved : Halved p n 0 a b was) (ceili
   sums = sumsIn p n ceilings was a b
 
   sized : AllSized p n sums
-  sized r m = sums-good halved ceilings r m .0
+  sized r m = sums-good p n a b was ceilings r m .0
+
+  first-kept : firstIn p n work a ≡ firstIn p n was a
+  first-kept = rows-kept p n was work (u .behind) firstRow a (omega arith)
+
+  second-kept : secondIn p n work b ≡ secondIn p n was b
+  second-kept = rows-kept p n was work (u .behind) secondRow b (omega arith)
 
   pub merging-halved : k ≤ maxPoints → Halved p n k a b work
   merging-halved h =
@@ -51,7 +52,9 @@ module _ {p n a b : ℕ} {was : List ℕ} (halved : Halved p n 0 a b was) (ceili
         count = h;
         first-count = halved .first-count;
         second-count = halved .second-count;
-        values = rw (rows-kept p n was work (u .behind) firstRow a (omega arith), rows-kept p n was work (u .behind) secondRow b (omega arith)) (halved .values);
+        first-words = rw first-kept (halved .first-words);
+        second-words = rw second-kept (halved .second-words);
+        values = rw (first-kept, second-kept) (halved .values);
       }
 
   -- what a pass gives
@@ -74,11 +77,11 @@ module _ {p n a b : ℕ} {was : List ℕ} (halved : Halved p n 0 a b was) (ceili
       pub merging-full : (room : ℕ) → room ≤ k → FoundSays p n (best sums) room was work (record { full = true; count = 0 })
       merging-full = made-full u (best sums) x (merge-count p n sums sized (ps ++ (x ∷ [])) longer)
 
-      good : Sized p n x × (under (x .costs) (take p ceilings) ≡ true)
-      good = sums-good halved ceilings x (longer .listed .sound x (in-right ps (here refl)))
+      wide : length (x .costs) ≡ p
+      wide = sums-good p n a b was ceilings x (longer .listed .sound x (in-right ps (here refl))) .0 .0
 
-      pub sum-words : length ceilings ≡ maxObjectives → All Ceiling (take p ceilings) → All Word (take p (next .costs))
-      sum-words long words = under-ceilings (x .costs) (take p ceilings) (good .0 .0 ∙ sym (length-take-le p ceilings (omega (arith, halved .objectives)))) (good .1) words
-
-      pub merging-next : k < maxPoints → (stored : List ℕ) → length stored ≡ length work → stored ≡ take (rowAt k) work ++ padded maxObjectives (take p (next .costs)) ++ next .choice ++ drop (rowAt k + 28) work → Made (Summed p n ceilings was a b) p n was stored (k + 1)
-      merging-next h stored size is = made-next u (halved .objectives) (halved .variables) (omega arith) (omega (arith, u .same, halved .long)) (take p (next .costs)) (next .choice) stored (good .0 .0) size is longer
+      pub merging-next : k < maxPoints → (stored : List ℕ)
+          → RowWritten work k (point (padded maxObjectives (take p (next .costs))) (next .choice)) stored
+          → Made (Summed p n ceilings was a b) p n was stored (k + 1)
+      merging-next h stored w =
+          made-next u (halved .objectives) (halved .variables) (omega arith) (next .costs) (next .choice) stored wide w longer

@@ -6,18 +6,17 @@ use mathlib.Core.List.{List, [], _∷_, List·Memᴰ as In, List·Memᴰ·head a
 use Prim.Native.Nat.{ℕ, zero, suc, _+_, _-_, _≤_}
 use native.Mathlib.Omega.{arith}
 use lib.ListN.{length, take, drop}
-use Rattle.model.specs.Limits.{maxObjectives, maxVariables}
 use Rattle.model.specs.Vectors.{under, added}
 use Rattle.model.specs.Frontiers.{Point}
 use Rattle.model.specs.Merging.{sumOf, sumsWith, allSums}
 use Rattle.model.proofs.Bits.{kept-cases}
 use Rattle.model.proofs.Sorting.{Sized, AllSized}
 use Rattle.model.proofs.Sums.{added-length}
-use Rattle.groups.specs.Layout.{listEnd}
-use Rattle.rows.specs.Rows.{rowAt, pointIn, listIn}
-use Rattle.rows.proofs.RowParts.{costs-long, values-long}
-use Rattle.passes.proofs.Since.{drop-more}
-use Rattle.sums.specs.Sums.{firstRow, secondRow, firstIn, secondIn, sumsIn, Halved}
+use Rattle.layout.specs.Layout.{listEnd, firstRow, secondRow}
+use Rattle.rows.specs.Rows.{pointIn, listIn}
+use Rattle.rows.proofs.RowNumbers.{costs-long, values-long}
+use Rattle.rows.proofs.RowsKept.{behind-rows}
+use Rattle.sums.specs.Sums.{firstIn, secondIn, sumsIn}
 
 -- what the sums of all pairs under the ceilings have
 module _ (P : Point → Type 0) (ceilings : List ℕ) where
@@ -42,34 +41,36 @@ module _ (P : Point → Type 0) (ceilings : List ℕ) where
       (λ k. sums-have xs ys (λ z y i. h z y (there i)) r k)
       (in-append (sumsWith ceilings x ys) m)
 
-module _ (p n : ℕ) (few : p ≤ maxObjectives) (values : n ≤ maxVariables) where
-  -- rows inside memory have p costs and n values
-  rows-sized : (work : List ℕ) (i k : ℕ) → rowAt (i + k) ≤ length work → AllSized p n (listIn p n work i k)
+module _ (p n : ℕ) where
+  -- rows have p costs and n values
+  rows-sized : (work : List ℕ) (i k : ℕ) → AllSized p n (listIn p n work i k)
   unfolding listIn
-  rows-sized work i zero l r m = absurd (in-none m)
-  rows-sized work i (suc k) l r m =
+  rows-sized work i zero r m = absurd (in-none m)
+  rows-sized work i (suc k) r m =
       ⊎-elim
-      (λ (e : r ≡ pointIn p n work i). subst (Sized p n) (sym e) (costs-long work i (omega arith) p few, values-long work i (omega arith) n values))
-      (λ t. rows-sized work (i + 1) k (omega arith) r t)
+      (λ (e : r ≡ pointIn p n work i). subst (Sized p n) (sym e) (costs-long work i p, values-long work i n))
+      (λ t. rows-sized work (i + 1) k r t)
       (in-cases m)
 
   sum-sized : (x y : Point) → Sized p n x → Sized p n y → Sized p n (sumOf x y)
-  sum-sized x y a b = (added-length (x .costs) (y .costs) (a .0 ∙ sym (b .0)) ∙ a .0, added-length (x .choice) (y .choice) (a .1 ∙ sym (b .1)) ∙ a .1)
+  sum-sized x y a b =
+      (added-length (x .costs) (y .costs) (a .0 ∙ sym (b .0)) ∙ a .0,
+      added-length (x .choice) (y .choice) (a .1 ∙ sym (b .1)) ∙ a .1)
 
 -- a sum has p costs, under the ceilings, and n values
-pub sums-good : {p n k a b : ℕ} {work : List ℕ} → Halved p n k a b work → (ceilings : List ℕ) (r : Point) → In r (sumsIn p n ceilings work a b) → Sized p n r × (under (r .costs) (take p ceilings) ≡ true)
-sums-good {p} {n} {k} {a} {b} {work} h ceilings =
-    let first = rows-sized p n (h .objectives) (h .variables) work firstRow a (omega (arith, h .long, h .first-count)) in
-    let second = rows-sized p n (h .objectives) (h .variables) work secondRow b (omega (arith, h .long, h .second-count)) in
-    sums-have (λ r. Sized p n r × (under (r .costs) (take p ceilings) ≡ true)) (take p ceilings) (firstIn p n work a) (secondIn p n work b)
-    (λ x y i j u. (sum-sized p n (h .objectives) (h .variables) x y (first x i) (second y j), u))
+pub sums-good : (p n a b : ℕ) (work ceilings : List ℕ) (r : Point) → In r (sumsIn p n ceilings work a b)
+    → Sized p n r × (under (r .costs) (take p ceilings) ≡ true)
+sums-good p n a b work ceilings =
+    let first = rows-sized p n work firstRow a in
+    let second = rows-sized p n work secondRow b in
+    sums-have (λ r. Sized p n r × (under (r .costs) (take p ceilings) ≡ true)) (take p ceilings) (firstIn p n work a)
+    (secondIn p n work b)
+    (λ x y i j u. (sum-sized p n x y (first x i) (second y j), u))
 
 -- rows behind the listed points
 module _ (p n : ℕ) (was work : List ℕ) (behind : drop listEnd work ≡ drop listEnd was) where
   pub rows-kept : (i k : ℕ) → secondRow ≤ i → listIn p n work i k ≡ listIn p n was i k
-  unfolding listIn
-  rows-kept i zero l = refl
-  rows-kept i (suc k) l = rw (drop-more listEnd (rowAt i) work was (omega arith) behind, drop-more listEnd (rowAt i + 4) work was (omega arith) behind, rows-kept (i + 1) k (omega arith))
+  rows-kept i k l = behind-rows listEnd work was behind p n i k (omega arith)
 
   pub sums-kept : (ceilings : List ℕ) (a b : ℕ) → sumsIn p n ceilings work a b ≡ sumsIn p n ceilings was a b
   sums-kept ceilings a b = ap₂ (allSums (take p ceilings)) (rows-kept firstRow a (omega arith)) (rows-kept secondRow b (omega arith))

@@ -7,20 +7,9 @@ use Rattle.model.specs.Limits.{maxObjectives, maxVariables, maxPoints, maxDomai
 use Rattle.model.specs.Vectors.{added}
 use Rattle.model.specs.Frontiers.{Point, point}
 use Rattle.model.specs.Merging.{allSums}
-use Rattle.rows.specs.Rows.{pointIn, listIn}
+use Rattle.layout.specs.Layout.{firstRow, secondRow, halvesEnd}
+use Rattle.rows.specs.Rows.{pointIn, listIn, WordCosts}
 use Rattle.search.specs.declared.Best as DB
-
--- the rows where the two halves' lists start: the first behind all that a search may change,
--- the second behind the list that is made
-abbrev pub firstRow : ℕ
-firstRow = 177
-
-abbrev pub secondRow : ℕ
-secondRow = 65
-
--- and where the first one ends
-abbrev pub halvesEnd : ℕ
-halvesEnd = 8181
 
 -- the halves' lists, of a and b points, and their sums under the ceilings
 abbrev pub firstIn : ℕ → ℕ → List ℕ → ℕ → List Point
@@ -41,7 +30,7 @@ abbrev pub Values : List ℕ → Type 0
 Values xs = All (λ v. v < maxDomain) xs
 
 -- memory in which the point in row i may be added to each of the second half's: k listed points,
--- and added choices that are values of domains
+-- costs that are words, and added choices that are values of domains
 pub record Paired (p n k i b : ℕ) (work : List ℕ) : Type 0 where
   pub long : halvesEnd ≤ length work
   pub objectives : p ≤ maxObjectives
@@ -49,9 +38,12 @@ pub record Paired (p n k i b : ℕ) (work : List ℕ) : Type 0 where
   pub count : k ≤ maxPoints
   pub row : i < firstRow + maxPoints
   pub second-count : b ≤ maxPoints
+  pub words : WordCosts (pointIn p n work i)
+  pub second-words : All WordCosts (secondIn p n work b)
   pub values : (y : Point) → In y (secondIn p n work b) → Values (added (pointIn p n work i .choice) (y .choice))
 
--- memory in which a merge may run: k listed points, and two lists whose added choices are values of domains
+-- memory in which a merge may run: k listed points, and two lists whose costs are words and whose added choices are
+-- values of domains
 pub record Halved (p n k a b : ℕ) (work : List ℕ) : Type 0 where
   pub long : halvesEnd ≤ length work
   pub objectives : p ≤ maxObjectives
@@ -59,5 +51,7 @@ pub record Halved (p n k a b : ℕ) (work : List ℕ) : Type 0 where
   pub count : k ≤ maxPoints
   pub first-count : a ≤ maxPoints
   pub second-count : b ≤ maxPoints
+  pub first-words : All WordCosts (firstIn p n work a)
+  pub second-words : All WordCosts (secondIn p n work b)
   pub values : (x y : Point) → In x (firstIn p n work a) → In y (secondIn p n work b)
       → Values (added (x .choice) (y .choice))

@@ -4,52 +4,43 @@ ghost use mathlib.Core.Path.{_≡_};
 ghost use mathlib.Core.Bool.{true};
 ghost use mathlib.Core.List.{[]};
 ghost use Prim.Native.Nat.{_+_, _≤_};
-ghost use lib.ListN.{length, take, drop};
+ghost use lib.ListN.{length, take};
 ghost use Rattle.model.specs.Basics.{All, keepIf};
 ghost use Rattle.model.specs.Limits.{maxObjectives, maxVariables, maxPoints};
 ghost use Rattle.model.specs.Problems.{Word};
-ghost use Rattle.model.specs.Vectors.{under, earlier, added};
+ghost use Rattle.model.specs.Vectors.{under, added};
 ghost use Rattle.model.specs.Frontiers.{best};
 ghost use Rattle.model.specs.Search.{nothing, just};
 ghost use Rattle.model.specs.Merging.{ahead, sumOf, sumsWith, leastLeft};
-ghost use Rattle.groups.specs.Layout.{listEnd, rowWidth};
-ghost use Rattle.rows.specs.Rows.{rowAt, pointIn, listIn};
+ghost use Rattle.layout.specs.Layout.{listEnd, rowWidth};
+ghost use Rattle.rows.specs.Rows.{rowAt, pointIn, listIn, WordCosts};
 ghost use Rattle.search.specs.States.{heldOf};
 ghost use Rattle.passes.specs.Says.{FoundSays};
 ghost use Rattle.sums.specs.Sums.{pointOf, secondIn, sumsIn, Values, Paired, Halved};
 
-pub const FIRST_ROW: usize = 177;
-
-pub const SECOND_ROW: usize = 65;
-
-// Whether the first of two choices is earlier in its first `n` values.
-fn is_earlier_choice(x: [u8; 24], y: [u8; 24], n: usize) -> bool
-    requires { ⌜ n ≤ maxVariables ⌝ }
-    ensures { λ r. ⌜ r ≡ earlier (take n x) (take n y) ⌝ }
-{
-    let mut i: usize = 0;
-    while i < n {
-        if x[i] < y[i] {
-            return true;
-        }
-        if y[i] < x[i] {
-            return false;
-        }
-        i += 1;
-    }
-    false
-}
-
-// The first `n` values of two rows added, from `a` and `b` on; zeros behind them.
-fn choice_sum(work: &[u32], a: usize, b: usize, n: usize) -> [u8; 24]
-    requires { ⌜ (n ≤ maxVariables) × (a + n ≤ length (now work)) × (b + n ≤ length (now work))
-        × Values (added (take n (drop a (now work))) (take n (drop b (now work)))) ⌝ }
-    ensures { λ r. ⌜ take n r ≡ added (take n (drop a (now (work .entry)))) (take n (drop b (now (work .entry)))) ⌝ }
+// The first `n` values of two choices added; zeros behind them.
+fn choice_sum(x: [u8; 24], y: [u8; 24], n: usize) -> [u8; 24]
+    requires { ⌜ (n ≤ maxVariables) × Values (added (take n x) (take n y)) ⌝ }
+    ensures { λ r. ⌜ take n r ≡ added (take n x) (take n y) ⌝ }
 {
     let mut sum = [0u8; 24];
     let mut i: usize = 0;
     while i < n {
-        sum[i] = (work[a + i] + work[b + i]) as u8;
+        sum[i] = x[i] + y[i];
+        i += 1;
+    }
+    sum
+}
+
+// The first `p` costs of two vectors added, which are words; zeros behind them.
+fn costs_sum(x: [u64; 4], y: [u64; 4], p: usize) -> [u64; 4]
+    requires { ⌜ (p ≤ maxObjectives) × All Word (take p x) × All Word (take p y) ⌝ }
+    ensures { λ r. ⌜ take p r ≡ added (take p x) (take p y) ⌝ }
+{
+    let mut sum = [0u64; 4];
+    let mut i: usize = 0;
+    while i < p {
+        sum[i] = x[i] + y[i];
         i += 1;
     }
     sum
@@ -59,18 +50,16 @@ fn choice_sum(work: &[u32], a: usize, b: usize, n: usize) -> [u8; 24]
 fn sum_of(work: &[u32], i: usize, j: usize, p: usize, n: usize) -> search::Best
     requires { ⌜ (p ≤ maxObjectives) × (n ≤ maxVariables) × (rowAt i + rowWidth ≤ length (now work))
         × (rowAt j + rowWidth ≤ length (now work))
+        × WordCosts (pointIn p n (now work) i) × WordCosts (pointIn p n (now work) j)
         × Values (added (pointIn p n (now work) i .choice) (pointIn p n (now work) j .choice)) ⌝ }
     ensures { λ h. ⌜ heldOf p n h
         ≡ just (sumOf (pointIn p n (now (work .entry)) i) (pointIn p n (now (work .entry)) j)) ⌝ }
 {
-    let a = rows::LIST_AT + rows::ROW_WIDTH * i;
-    let b = rows::LIST_AT + rows::ROW_WIDTH * j;
-    let x = rows::costs_at(work, a);
-    let y = rows::costs_at(work, b);
-    let choice = choice_sum(work, a + 4, b + 4, n);
+    let costs = costs_sum(rows::row_costs(i, work), rows::row_costs(j, work), p);
+    let choice = choice_sum(rows::row_choice(i, work), rows::row_choice(j, work), n);
     search::Best {
         found: true,
-        costs: vectors::sum(x, y),
+        costs,
         choice,
     }
 }
@@ -90,7 +79,7 @@ fn is_ahead(sum: search::Best, held: search::Best, p: usize, n: usize) -> bool
     }
     let choice = sum.choice;
     let other = held.choice;
-    is_earlier_choice(choice, other, n)
+    rows::is_earlier_choice(choice, other, n)
 }
 
 // What is held once a sum is met: the nearer of the two,
@@ -146,7 +135,7 @@ fn meet_row(
     let mut best = held;
     let mut j: usize = 0;
     while j < b {
-        let sum = sum_of(work, i, SECOND_ROW + j, p, n);
+        let sum = sum_of(work, i, layout::SECOND_ROW + j, p, n);
         best = take_sum(best, sum, n, work, k, p, ceilings);
         j += 1;
     }
@@ -174,7 +163,7 @@ pub fn next_sum(
     };
     let mut i: usize = 0;
     while i < a {
-        best = meet_row(best, FIRST_ROW + i, b, n, work, k, p, ceilings);
+        best = meet_row(best, layout::FIRST_ROW + i, b, n, work, k, p, ceilings);
         i += 1;
     }
     best
@@ -190,7 +179,7 @@ pub fn merge_points(
     room: usize,
     work: &mut [u32],
 ) -> passes::Found
-    requires { ⌜ Halved p n 0 a b (now work) × All Word (take p ceilings) × (room ≤ maxPoints) ⌝ }
+    requires { ⌜ Halved p n 0 a b (now work) × (room ≤ maxPoints) ⌝ }
     ensures { λ f. ⌜ FoundSays p n (best (sumsIn p n ceilings (now (work .entry)) a b)) room
         (now (work .entry)) (now (work .exit)) f ⌝ }
 {

@@ -1,6 +1,8 @@
-// Cost vectors: under the ceilings, at most, earlier, sum. One function each for every number of objectives.
+// Cost vectors: under the ceilings, at most, earlier, sum; four numbers of memory as a vector.
+// One function each for every number of objectives.
 ghost use mathlib.Core.Path.{_≡_};
-ghost use Prim.Native.Nat.{_≤_};
+ghost use Prim.Native.Nat.{_+_, _≤_};
+ghost use lib.ListN.{length, take, drop};
 ghost use Rattle.model.specs.Basics.{All};
 ghost use Rattle.model.specs.Limits.{maxObjectives};
 ghost use Rattle.model.specs.Vectors.{added};
@@ -60,4 +62,17 @@ pub fn sum(a: [u64; 4], b: [u64; 4]) -> [u64; 4]
     ensures { λ r. ⌜ r ≡ added a b ⌝ }
 {
     [a[0] + b[0], a[1] + b[1], a[2] + b[2], a[3] + b[3]]
+}
+
+// The four numbers of memory that stand from `at` on.
+pub fn numbers_at(work: &[u32], at: usize) -> [u64; 4]
+    requires { ⌜ at + 4 ≤ length (now work) ⌝ }
+    ensures { λ c. ⌜ c ≡ take maxObjectives (drop at (now (work .entry))) ⌝ }
+{
+    [
+        work[at] as u64,
+        work[at + 1] as u64,
+        work[at + 2] as u64,
+        work[at + 3] as u64,
+    ]
 }

@@ -15,7 +15,8 @@ use Rattle.rows.proofs.RowPlaces.{equal-or}
 use Rattle.directions.proofs.AtMostAt.{at-most-each, at-most-at}
 use Rattle.directions.specs.Directions.{Sensible}
 use Rattle.directions.specs.declared.Directions as DD
-use Rattle.zones.specs.Zones.{maxZones, zonesEnd, cornerIn, cornersIn, Measured, SplitAt}
+use Rattle.layout.specs.Layout.{zonesEnd}
+use Rattle.zones.specs.Zones.{maxZones, cornerIn, cornersIn, Measured, SplitAt}
 use Rattle.zones.specs.Steps.{Held, SplitRows, ZonesSplit}
 use Rattle.zones.proofs.ZoneRows.{corner-long, corner-listed, listed-corner}
 

@@ -16,7 +16,8 @@ use Rattle.rows.proofs.RowPlaces.{equal-or, one-first}
 use Rattle.directions.specs.Directions.{maxDirections, directionsOf, widthOf, Sensible}
 use Rattle.directions.specs.declared.Directions as DD
 use Rattle.directions.proofs.DirectionLaws.{directions-length, directions-costs}
-use Rattle.zones.specs.Zones.{maxZones, zoneWidth, zonesEnd, cornerIn, clamped, Measured}
+use Rattle.layout.specs.Layout.{zonesEnd}
+use Rattle.zones.specs.Zones.{maxZones, zoneWidth, cornerIn, clamped, Measured}
 use Rattle.zones.specs.Steps.{rowIn, Written}
 use Rattle.zones.proofs.Clamping.{clamped-small}
 use Rattle.zones.proofs.ZoneRows.{corner-long, front-number, same-corner, same-number}

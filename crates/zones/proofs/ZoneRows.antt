@@ -12,7 +12,8 @@ use Rattle.model.specs.Problems.{Word}
 use Rattle.model.proofs.Elements.{all-in, all-drop, all-take, at-in, in-at}
 use Rattle.directions.specs.Directions.{Sensible}
 use Rattle.directions.specs.declared.Directions as DD
-use Rattle.zones.specs.Zones.{maxZones, zoneWidth, zonesEnd, cornerIn, cornersIn, Measured}
+use Rattle.layout.specs.Layout.{zonesEnd}
+use Rattle.zones.specs.Zones.{maxZones, zoneWidth, cornerIn, cornersIn, Measured}
 use Rattle.zones.specs.Steps.{rowIn}
 
 pub corner-long : (p : ℕ) (zones : List ℕ) (i : ℕ) → p ≤ maxObjectives → zonesEnd ≤ length zones → i < maxZones → length (cornerIn p zones i) ≡ p

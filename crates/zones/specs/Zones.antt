@@ -11,6 +11,7 @@ use Rattle.model.specs.Basics.{pick}
 use Rattle.model.specs.Limits.{wordEnd}
 use Rattle.model.specs.Vectors.{atMost}
 use Rattle.model.specs.Archive.{below, lowered}
+use Rattle.layout.specs.Layout.{zonesEnd}
 use Rattle.directions.specs.Directions.{directionsOf, widthOf}
 use Rattle.directions.specs.declared.Directions as DD
 
@@ -19,9 +20,6 @@ maxZones = 128
 
 abbrev pub zoneWidth : ℕ
 zoneWidth = 8
-
-abbrev pub zonesEnd : ℕ
-zonesEnd = 1024
 
 -- the corner of zone i, with p costs
 abbrev pub cornerIn : ℕ → List ℕ → ℕ → List ℕ

@@ -11,7 +11,8 @@ ghost use Rattle.model.specs.Core.{WordCeiling};
 ghost use Rattle.model.specs.Vectors.{atMost};
 ghost use Rattle.model.specs.Archive.{lowered};
 ghost use Rattle.directions.specs.Directions.{maxDirections, directionsOf, widthOf, Sensible};
-ghost use Rattle.zones.specs.Zones.{maxZones, zoneWidth, zonesEnd, cornerIn, cornersIn, clamped};
+ghost use Rattle.layout.specs.Layout.{zonesEnd};
+ghost use Rattle.zones.specs.Zones.{maxZones, zoneWidth, cornerIn, cornersIn, clamped};
 ghost use Rattle.zones.specs.Zones.{Measured, SplitAt, FirstZone};
 ghost use Rattle.zones.specs.Steps.{Written, Held, PartAdded, Closed, ZonesSplit};
 
@@ -91,7 +92,7 @@ fn corner_at(i: usize, zones: &[u32]) -> [u64; 4]
     requires { ⌜ (zonesEnd ≤ length (now zones)) × (i < maxZones) ⌝ }
     ensures { λ c. ⌜ (c ≡ cornerIn maxObjectives (now (zones .entry)) i) × All Word c ⌝ }
 {
-    rows::costs_at(zones, ZONE_WIDTH * i)
+    vectors::numbers_at(zones, ZONE_WIDTH * i)
 }
 
 // Writes the first costs of `corner`, in every direction, to row `i`.

@@ -1,12 +1,15 @@
 -- `exploring::run_pass` meets its contract: the pass begins at the empty choice.
 use mathlib.Core.List.{List}
-use Prim.Native.Nat.{ℕ, _<_}
+use Prim.Native.Nat.{ℕ, _≤_, _<_}
 use native.Mathlib.Omega.{arith}
-use lib.ListN.{getD, length-drop}
+use lib.ListN.{length, getD, length-drop}
+use mir.Syntax.{w64}
 use denote.Ref.{now}
-use Rattle.model.specs.Limits.{byteEnd}
-use Rattle.groups.specs.Layout.{listEnd}
-use Rattle.exploring.specs.States.{Ready, Still}
+use Rattle.model.specs.Limits.{maxObjectives, byteEnd}
+use Rattle.layout.specs.Layout.{listEnd}
+use Rattle.rows.proofs.Arrays.{array-length}
+use Rattle.exploring.specs.States.{noLimit, Ready, Still}
+use Rattle.exploring.proofs.ArchivedWords.{archived-words}
 use Rattle.exploring.proofs.Memory.{ready-still, zones-still, lent-plan}
 use Rattle.exploring.proofs.Passes.{root-standing, root-passed}
 use borrow.Author.Needs.{needs}
@@ -42,8 +45,15 @@ start-zones-requires : tie.Need-start-zones-requires
 start-zones-requires c κs =
     let read : tie.After-slice-known = c .before .before in
     let s : tie.Start = read .before .before .before in
+    let a = s .args in
     let h = s .pre .0 in
-    (h .planned .sensible, omega (arith, h .long), omega (arith, s .pre .1 .few, h .room-small), h .limited)
+    let b = s .pre .1 in
+    let four = ceilings-long (a .task) _ (s .good .1 .1 .1 .0) in
+    let wide : a .d .objectives ≤ length (a .task .ceilings) = omega (arith, four, h .planned .sensible .few) in
+    let words =
+    archived-words (a .d) (a .task) (now (a .sizes)) (now (a .s)) (now (a .work)) wide (h .limited)
+    (length (now (a .sizes))) (a .points) noLimit (now (a .work)) (b .archived) in
+    (h .planned .sensible, omega (arith, h .long), omega (arith, b .few, h .room-small), h .limited, words)
 
 sub-root-bound : tie.Need-sub-root-bound
 sub-root-bound c = search needs

@@ -4,13 +4,10 @@ use mathlib.Core.Path.{refl, sym}
 use mathlib.Core.List.{List, _++_}
 use Prim.Native.Nat.{ℕ, _≤_, _<_, _-_}
 use native.Mathlib.Omega.{arith}
-use lib.ListN.{length, getD, drop}
 use lib.Seq.{length-take-le}
 use borrow.Author.Needs.{needs}
 use denote.Ref.{now}
-use Rattle.model.specs.Limits.{wordEnd}
-use Rattle.groups.specs.Layout.{listEnd}
-use Rattle.zones.specs.Zones.{zonesEnd}
+use Rattle.layout.specs.Layout.{zonesEnd}
 use Rattle.exploring.specs.Passes.{ZonesWritten, ZonesHold}
 use Rattle.exploring.proofs.Zoning.{split-words, split-written, split-hold}
 use Rattle.exploring.proofs.split_all.Statement.{statement}
@@ -80,13 +77,11 @@ split-zones-requires c κs =
     let read : Read = c .before in
     let w = looping read in
     let s = start w in
-    let word = w .before .slice-known .given in
-    let words : (k : ℕ) → getD (now (s .args .work)) k 0 < wordEnd = λ k. omega (arith, word k) in (
-      s .pre .0,
-      w .loop .inv .1 .measured,
-      split-words (s .args .d) (now (s .args .work)) (w .loop .work) _ (w .loop .i) (w .loop .zones) (s .pre .0)
-          (w .loop .inv .1) (read .row-costs .ensures) words,
-    )
+    let inside : w .loop .i < s .args .c = read .before .before .loop-test .taken in
+    let words =
+    split-words (s .args .d) (s .args .c) (now (s .args .work)) (w .loop .work) _ (w .loop .i) (w .loop .zones)
+    (s .pre .0) (w .loop .inv .1) (read .row-costs .ensures) (s .pre .4) inside in
+    (s .pre .0, w .loop .inv .1 .measured, words)
 
 add-i : tie.Need-add-i Inv-loop μ-loop
 add-i c = search needs

@@ -1,5 +1,5 @@
 -- `exploring::start_zones` meets its contract.
-use mathlib.Core.Path.{_≡_, sym}
+use mathlib.Core.Path.{_≡_, sym, subst}
 use mathlib.Core.List.{List, _++_}
 use Prim.Native.Nat.{ℕ, _≤_}
 use native.Mathlib.Omega.{arith}
@@ -7,14 +7,18 @@ use lib.ListN.{length, drop}
 use lib.Seq.{length-take-le}
 use mir.Syntax.{w64}
 use denote.Ref.{now}
+use Rattle.model.specs.Basics.{All}
 use Rattle.model.specs.Limits.{maxObjectives}
+use Rattle.model.specs.Problems.{Word}
 use Rattle.model.specs.Core.{WordCeiling}
 use Rattle.model.proofs.Elements.{all-take}
+use Rattle.rows.specs.Rows.{EachCost}
 use Rattle.rows.proofs.Arrays.{array-length}
-use Rattle.groups.specs.Layout.{listEnd}
-use Rattle.zones.specs.Zones.{zonesEnd, Measured}
+use Rattle.layout.specs.Layout.{zonesEnd, listEnd}
+use Rattle.zones.specs.Zones.{Measured}
 use Rattle.pruning.specs.Tests.{zonesOf}
 use Rattle.exploring.specs.Passes.{ZonesWritten}
+use Rattle.exploring.proofs.Memory.{zones-costs}
 use Rattle.exploring.proofs.Zoning.{lent-same, lent-measured, lent-written, first-hold}
 use Rattle.exploring.proofs.Zoning.{hold-rows, written-trans}
 use borrow.Author.Needs.{needs}
@@ -78,7 +82,11 @@ split-all-requires : tie.Need-split-all-requires
 split-all-requires c κs =
     let f = first (c .before) in
     let s = begun f in
-    (s .pre .0, omega (arith, s .pre .1, same f), s .pre .2, measured f)
+    let after = zone f ++ drop zonesEnd (work f) in
+    let same-costs = zones-costs (work f) after (written f .long) (written f .behind) (s .args .d .objectives) in
+    let words : EachCost Word (s .args .d .objectives) after (s .args .c) =
+    λ i l. subst (All Word) (sym (same-costs i)) (s .pre .4 i l) in
+    (s .pre .0, omega (arith, s .pre .1, same f), s .pre .2, measured f, words)
 
 same-length : tie.Need-same-length
 same-length c = search needs

@@ -8,19 +8,21 @@ use lib.ListN.{length, getD, take, drop}
 use lib.Seq.{length-take-le, take-take}
 use borrow.Author.Tests.{not-true, not-false}
 use mir.Syntax.{w64}
+use denote.Ref.{now}
 use Rattle.model.specs.Basics.{All}
 use Rattle.model.specs.Limits.{maxObjectives}
 use Rattle.model.specs.Problems.{Word}
 use Rattle.model.specs.Vectors.{under}
-use Rattle.model.proofs.Elements.{all-take}
-use Rattle.model.specs.Core.{WordCeiling}
+use Rattle.model.proofs.Elements.{all-map, all-take}
+use Rattle.model.specs.Core.{WordCeiling, coreSumEnd}
 use Rattle.model.proofs.Core.{under-ceilings}
+use Rattle.rows.specs.Rows.{EachCost}
 use Rattle.rows.proofs.Arrays.{array-length}
 use Rattle.archive.specs.Changes.{maxWeight}
 use Rattle.directions.specs.Directions.{maxDirections, leadAt}
-use Rattle.groups.specs.Layout.{listEnd}
+use Rattle.layout.specs.Layout.{zonesEnd, listEnd}
 use Rattle.groups.proofs.Tasks.{ceilings-long}
-use Rattle.zones.specs.Zones.{zonesEnd}
+use Rattle.exploring.proofs.ArchivedWords.{archived-small}
 use Rattle.exploring.proofs.Memory.{framed-zones, lent-front, lent-behind}
 use Rattle.exploring.proofs.Zoning.{lent-long, lent-same, lent-measured}
 use Rattle.exploring.proofs.Leaving.{opened-same, late-covers}
@@ -49,6 +51,16 @@ module _ (s : tie.Start) where
   long-ceilings =
       let four = ceilings-long (s .args .task) _ (s .good .1 .1 .1 .1 .1 .0) in
       length-take-le p ceilings (omega (arith, few, four))
+
+  -- what the archive has may be summed
+  small : EachCost (λ a. a < coreSumEnd) p (now (s .args .work)) (s .args .run .points)
+  small =
+      let a = s .args in
+      let h = s .pre in
+      let four = ceilings-long (a .task) _ (s .good .1 .1 .1 .1 .1 .0) in
+      archived-small (a .d) (a .task) (now (a .sizes)) (now (a .s)) (now (a .work)) (omega (arith, few, four))
+      (h .ready .limited) (length (now (a .sizes))) (a .run .points) (a .run .limit) (now (a .work))
+      (h .running .archived)
 
 -- the costs, which are the first numbers of the bound, were held to the ceilings
 module _ (c : tie.After-is-under) where
@@ -142,9 +154,10 @@ take-point-requires c κs =
       h .ready .room-small,
       few s,
       h .ready .planned .variables,
-      words (w .before),
+      all-map Word (λ a. a < coreSumEnd) (λ a l. omega arith) _ (words (w .before)),
       all-take (λ u. u ≤ maxWeight) (p s) _ (w .lead-weights .ensures .1),
       h .running .distinct,
+      small s,
     )
 
 same-length : tie.Need-same-length

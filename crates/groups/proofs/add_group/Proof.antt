@@ -6,7 +6,7 @@ use native.Mathlib.Omega.{arith}
 use lib.ListN.{length}
 use denote.Ref.{now}
 use Rattle.problem.specs.Records.{Whole}
-use Rattle.groups.specs.Layout.{recordsAt}
+use Rattle.layout.specs.Layout.{recordsAt}
 use Rattle.groups.specs.Groups.{groupOf}
 use Rattle.groups.proofs.ScopeSteps.{whole-inside}
 use Rattle.groups.proofs.Keeping.{touches, group-keeps}

@@ -4,7 +4,7 @@ use native.Mathlib.Omega.{arith}
 use lib.Seq.{length-take-le}
 use denote.Ref.{now}
 use borrow.Author.Needs.{needs}
-use Rattle.groups.specs.Layout.{searchEnd}
+use Rattle.layout.specs.Layout.{searchEnd}
 use Rattle.merge.proofs.Keeping.{copied-count, copied-asked, copied-says}
 use Rattle.merge.proofs.Cutting.{half-accepted}
 use Rattle.merge.proofs.keep_half.Statement.{statement}

@@ -3,10 +3,7 @@ use Prim.Native.Nat.{_-_, _≤_}
 use native.Mathlib.Omega.{arith}
 use borrow.Author.Tests.{not-true, not-false}
 use denote.Ref.{now}
-use mir.Syntax.{w64}
-use Rattle.model.specs.Limits.{maxObjectives}
-use Rattle.rows.proofs.Arrays.{array-length}
-use Rattle.passes.proofs.Passing.{Passing, passing-start, passing-setting, passing-stands, says-done, says-full, costs-words, passing-next}
+use Rattle.passes.proofs.Passing.{Passing, passing-start, passing-setting, passing-stands, says-done, says-full, passing-next}
 use Rattle.passes.proofs.find_points.Statement.{statement}
 use Rattle.passes.proofs.find_points.Tie as tie
 
@@ -27,7 +24,7 @@ next-point-requires c κs =
     let s = c .before .before .before .before .before .before in
     let a = s .args in
     let w = c .before .before .loop in
-    (passing-setting (a .p) (a .r) (a .ceilings) (now (a .sizes)) (now (a .s)) (now (a .work)) (s .pre .0) (s .pre .5) (w .work) (w .k) (w .inv .1) (omega arith), passing-stands (a .p) (a .r) (a .ceilings) (now (a .sizes)) (now (a .s)) (now (a .work)) (s .pre .0) (s .pre .5) (w .work) (w .k) (w .inv .1) (a .root) (s .pre .1), s .pre .2)
+    (passing-setting (a .p) (a .r) (a .ceilings) (now (a .sizes)) (now (a .s)) (now (a .work)) (s .pre .0) (s .pre .4) (w .work) (w .k) (w .inv .1) (omega arith), passing-stands (a .p) (a .r) (a .ceilings) (now (a .sizes)) (now (a .s)) (now (a .work)) (s .pre .0) (s .pre .4) (w .work) (w .k) (w .inv .1) (a .root) (s .pre .1), s .pre .2)
 
 same-length : tie.Need-same-length Inv-loop μ-loop
 same-length c = c .before .before .before .before .before .loop .inv .1 .made .same
@@ -37,14 +34,13 @@ returns c =
     let s = c .before .before .before .before .before .before .before .before .before in
     let a = s .args in
     let w = c .before .before .before .before .before .loop in
-    says-done (a .p) (a .r) (a .ceilings) (now (a .sizes)) (now (a .s)) (now (a .work)) (s .pre .0) (s .pre .5) (w .work) (w .k) (w .inv .1) (c .before .before .next-point .result) (c .before .before .next-point .ensures) (not-true _ (c .if1 .taken)) (a .room) (w .inv .0)
+    says-done (a .p) (a .r) (a .ceilings) (now (a .sizes)) (now (a .s)) (now (a .work)) (s .pre .0) (s .pre .4) (w .work) (w .k) (w .inv .1) (c .before .before .next-point .result) (c .before .before .next-point .ensures) (not-true _ (c .if1 .taken)) (a .room) (w .inv .0)
 
 store-point-requires : tie.Need-store-point-requires Inv-loop μ-loop
 store-point-requires c κs =
     let s = c .before .before .before .before .before .before .before .before .before .before .before .before in
-    let a = s .args in
     let w = c .before .before .before .before .before .before .before .before .loop in
-    (omega (arith, w .inv .1 .grouped .placed .long), omega arith, s .pre .0 .objectives, costs-words (a .p) (a .r) (a .ceilings) (now (a .sizes)) (now (a .s)) (now (a .work)) (s .pre .0) (s .pre .5) (w .work) (w .k) (w .inv .1) (c .before .before .before .before .before .next-point .result) (c .before .before .before .before .before .next-point .ensures) (not-false _ (c .before .before .before .if1 .left)) (array-length w64 maxObjectives (a .ceilings) _ (s .good .1 .1 .1 .1 .1 .0)) (s .pre .3))
+    (omega (arith, w .inv .1 .grouped .placed .long), omega arith, s .pre .0 .objectives)
 
 add-k : tie.Need-add-k Inv-loop μ-loop
 add-k c = omega arith
@@ -57,14 +53,14 @@ loop-again c =
     let s = c .before .before .before .before .before .before .before .before .before .before .before .before .before .before .before in
     let a = s .args in
     let w = c .before .before .before .before .before .before .before .before .before .before .before .loop in
-    (omega arith, passing-next (a .p) (a .r) (a .ceilings) (now (a .sizes)) (now (a .s)) (now (a .work)) (s .pre .0) (s .pre .5) (w .work) (w .k) (w .inv .1) (c .before .before .before .before .before .before .before .before .next-point .result) (c .before .before .before .before .before .before .before .before .next-point .ensures) (not-false _ (c .before .before .before .before .before .before .if1 .left)) (omega arith) _ (c .before .work .given) (c .before .before .store-point .ensures))
+    (omega arith, passing-next (a .p) (a .r) (a .ceilings) (now (a .sizes)) (now (a .s)) (now (a .work)) (s .pre .0) (s .pre .4) (w .work) (w .k) (w .inv .1) (c .before .before .before .before .before .before .before .before .next-point .result) (c .before .before .before .before .before .before .before .before .next-point .ensures) (not-false _ (c .before .before .before .before .before .before .if1 .left)) (omega arith) _ (c .before .before .store-point .ensures))
 
 next-point-requires-2 : tie.Need-next-point-requires-2 Inv-loop μ-loop
 next-point-requires-2 c κs =
     let s = c .before .before .before .before .before .before in
     let a = s .args in
     let w = c .before .before .loop in
-    (passing-setting (a .p) (a .r) (a .ceilings) (now (a .sizes)) (now (a .s)) (now (a .work)) (s .pre .0) (s .pre .5) (w .work) (w .k) (w .inv .1) (omega arith), passing-stands (a .p) (a .r) (a .ceilings) (now (a .sizes)) (now (a .s)) (now (a .work)) (s .pre .0) (s .pre .5) (w .work) (w .k) (w .inv .1) (a .root) (s .pre .1), s .pre .2)
+    (passing-setting (a .p) (a .r) (a .ceilings) (now (a .sizes)) (now (a .s)) (now (a .work)) (s .pre .0) (s .pre .4) (w .work) (w .k) (w .inv .1) (omega arith), passing-stands (a .p) (a .r) (a .ceilings) (now (a .sizes)) (now (a .s)) (now (a .work)) (s .pre .0) (s .pre .4) (w .work) (w .k) (w .inv .1) (a .root) (s .pre .1), s .pre .2)
 
 same-length-2 : tie.Need-same-length-2 Inv-loop μ-loop
 same-length-2 c = c .before .before .before .before .loop .inv .1 .made .same
@@ -74,7 +70,7 @@ returns-2 c =
     let s = c .before .before .before .before .before .before .before .before in
     let a = s .args in
     let w = c .before .before .before .before .loop in
-    says-full (a .p) (a .r) (a .ceilings) (now (a .sizes)) (now (a .s)) (now (a .work)) (s .pre .0) (s .pre .5) (w .work) (w .k) (w .inv .1) (c .before .next-point2 .result) (c .before .next-point2 .ensures) (c .if2 .taken) (a .room) (omega arith)
+    says-full (a .p) (a .r) (a .ceilings) (now (a .sizes)) (now (a .s)) (now (a .work)) (s .pre .0) (s .pre .4) (w .work) (w .k) (w .inv .1) (c .before .next-point2 .result) (c .before .next-point2 .ensures) (c .if2 .taken) (a .room) (omega arith)
 
 same-length-3 : tie.Need-same-length-3 Inv-loop μ-loop
 same-length-3 c = c .before .before .before .before .loop .inv .1 .made .same
@@ -84,7 +80,7 @@ returns-3 c =
     let s = c .before .before .before .before .before .before .before .before in
     let a = s .args in
     let w = c .before .before .before .before .loop in
-    says-done (a .p) (a .r) (a .ceilings) (now (a .sizes)) (now (a .s)) (now (a .work)) (s .pre .0) (s .pre .5) (w .work) (w .k) (w .inv .1) (c .before .next-point2 .result) (c .before .next-point2 .ensures) (c .if2 .left) (a .room) (w .inv .0)
+    says-done (a .p) (a .r) (a .ceilings) (now (a .sizes)) (now (a .s)) (now (a .work)) (s .pre .0) (s .pre .4) (w .work) (w .k) (w .inv .1) (c .before .next-point2 .result) (c .before .next-point2 .ensures) (c .if2 .left) (a .room) (w .inv .0)
 
 pub find-points-spec : {M : Type 1} → statement M
 find-points-spec =

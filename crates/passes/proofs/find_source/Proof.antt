@@ -1,8 +1,6 @@
 -- `passes::find_source` meets its contract: the records that are grouped are those of the problem, and the gains are known.
 use denote.Ref.{now}
 use borrow.Author.Needs.{needs}
-use Rattle.model.specs.Core.{Ceiling}
-use Rattle.model.proofs.Elements.{all-take}
 use Rattle.passes.proofs.Sourced.{Gained, source-apart, copied-placed, grouped-setting, grouped-known, grouped-says}
 use Rattle.passes.proofs.find_source.Statement.{statement}
 use Rattle.passes.proofs.find_source.Tie as tie
@@ -32,7 +30,7 @@ find-points-requires c κs =
     let x = c .before .root-of in
     let u = gained (c .before .before .before .before .before .before .before .before .before .before .before .before .before) in
     let copied = c .before .before .before .before .before .before .before .before .before .copy-numbers .ensures in
-    (grouped-setting u _ copied _ (g .ensures), x .ensures .1, x .ensures .0, all-take Ceiling (s .args .p) (s .args .ceilings) (s .pre .0 .limited), s .pre .1, grouped-known u _ copied _ (g .ensures))
+    (grouped-setting u _ copied _ (g .ensures), x .ensures .1, x .ensures .0, s .pre .1, grouped-known u _ copied _ (g .ensures))
 
 same-length : tie.Need-same-length
 same-length c = search needs

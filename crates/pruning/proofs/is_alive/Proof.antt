@@ -6,7 +6,7 @@ use lib.Seq.{length-take-le}
 use denote.Ref.{now}
 use Rattle.model.proofs.Bits.{true-false}
 use borrow.Author.Needs.{needs}
-use Rattle.zones.specs.Zones.{zonesEnd}
+use Rattle.layout.specs.Layout.{zonesEnd}
 use Rattle.pruning.proofs.is_alive.Statement.{statement}
 use Rattle.pruning.proofs.is_alive.Tie as tie
 
@@ -28,7 +28,10 @@ returns-2 : tie.Need-returns-2
 returns-2 c = λ e. absurd (true-false refl e)
 
 is-tied-requires : tie.Need-is-tied-requires
-is-tied-requires c κs = search needs
+is-tied-requires c κs =
+    let reached = c .before .before in
+    let s = reached .before .before .before .before in
+    (s .pre .0, s .pre .1, s .pre .3, s .pre .4, s .pre .5)
 
 returns-3 : tie.Need-returns-3
 returns-3 c = λ e. inr (c .before .before .is-reached .ensures (c .before .if2 .left), c .is-tied .ensures e)

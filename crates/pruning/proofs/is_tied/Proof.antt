@@ -19,7 +19,10 @@ loop-holds : tie.Need-loop-holds Inv-loop μ-loop
 loop-holds c = (omega arith, λ j l. absurd (omega arith))
 
 is-tied-at-requires : tie.Need-is-tied-at-requires Inv-loop μ-loop
-is-tied-at-requires c κs = search needs
+is-tied-at-requires c κs =
+    let w = c .before .loop in
+    let s = c .before .before .before in
+    (s .pre .0, s .pre .1, omega arith, s .pre .3, s .pre .4 (w .i) (omega arith))
 
 returns : tie.Need-returns Inv-loop μ-loop
 returns c = λ e. absurd (true-false refl e)

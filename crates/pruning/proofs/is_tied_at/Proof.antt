@@ -2,17 +2,13 @@
 use mathlib.Core.Path.{sym, _∙_, subst}
 use mathlib.Core.List.{List}
 use Prim.Native.Nat.{ℕ, _+_, _<_}
-use native.Mathlib.Omega.{arith}
 use lib.ListN.{getD, take}
 use borrow.Author.Tests.{not-true}
 use mir.Syntax.{w64}
-use Rattle.model.specs.Basics.{All}
-use Rattle.model.specs.Limits.{wordEnd}
-use Rattle.model.specs.Core.{coreSumEnd}
 use Rattle.model.specs.Vectors.{atMost}
 use Rattle.model.specs.Archive.{weighted}
 use Rattle.rows.proofs.Arrays.{array-length}
-use Rattle.archive.proofs.RowReads.{front-costs, row-test, costs-small}
+use Rattle.archive.proofs.RowReads.{front-costs, row-test}
 use Rattle.directions.specs.Directions.{maxDirections, weightsOf}
 use denote.Ref.{now}
 use Rattle.pruning.proofs.Ties.{untied-costs, untied-sums}
@@ -44,10 +40,12 @@ returns-2 c = λ e t. sym (c .before .is-earlier-at .ensures) ∙ not-true _ (c 
 
 is-within-requires : tie.Need-is-within-requires
 is-within-requires c κs =
-    let s = c .before .before .before .before .before .before .before in
+    let if1 = c .before .before in
+    let read = if1 .before .before .before in
+    let s = read .before .before in
     let a = s .args in
-    let words : (k : ℕ) → getD (now (a .work)) k 0 < wordEnd = λ k. omega (arith, c .before .before .before .before .before .before .shared-slice-known .given k) in
-    (s .pre .0, subst (All (λ v. v < coreSumEnd)) (sym (front-costs (a .d .objectives) (now (a .work)) _ (a .i) (s .pre .0 .few) (c .before .before .before .before .before .row-costs .ensures))) (costs-small (a .d .objectives) (now (a .work)) (a .i) words))
+    let front = front-costs (a .d .objectives) (now (a .work)) _ (a .i) (s .pre .0 .few) (read .row-costs .ensures) in
+    (s .pre .0, rw front (s .pre .4))
 
 returns-3 : tie.Need-returns-3
 returns-3 c =

@@ -2,14 +2,13 @@
 use mathlib.Core.Path.{_≡_}
 use Prim.Native.Nat.{_-_, _≤_}
 use native.Mathlib.Omega.{arith}
-use native.Mathlib.Nat.{zero-add}
-use lib.ListN.{length}
+use lib.ListN.{length, take}
 use denote.Ref.{now}
-use Rattle.model.specs.Basics.{All}
-use Rattle.model.specs.Encoding.{Byte}
+use Rattle.model.specs.Limits.{maxVariables}
 use Rattle.rows.specs.Rows.{valuesIn}
 use Rattle.rows.proofs.RowsOut.{Out, row-room, out-start, out-length, out-next}
-use Rattle.rows.proofs.RowParts.{flat-choices, row-has, values-long}
+use Rattle.rows.proofs.RowParts.{flat-choices}
+use Rattle.rows.proofs.RowNumbers.{values-long, values-front}
 use Rattle.rows.proofs.copy_choices.Statement.{statement}
 use Rattle.rows.proofs.copy_choices.Tie as tie
 
@@ -24,26 +23,19 @@ loop-holds c =
     let a = c .before .before .args in
     (omega arith, out-start (valuesIn (a .n) (now (a .work))) (a .n) (now (a .choices)))
 
-mul-copy-values : tie.Need-mul-copy-values Inv-loop μ-loop
-mul-copy-values c = omega arith
+row-choice-requires : tie.Need-row-choice-requires Inv-loop μ-loop
+row-choice-requires c κs = omega arith
 
-add-copy-values : tie.Need-add-copy-values Inv-loop μ-loop
-add-copy-values c = omega arith
+mul-put-choice : tie.Need-mul-put-choice Inv-loop μ-loop
+mul-put-choice c = omega arith
 
-add-copy-values-2 : tie.Need-add-copy-values-2 Inv-loop μ-loop
-add-copy-values-2 c = omega arith
-
-mul-copy-values-2 : tie.Need-mul-copy-values-2 Inv-loop μ-loop
-mul-copy-values-2 c = omega arith
-
-copy-values-requires : tie.Need-copy-values-requires Inv-loop μ-loop
-copy-values-requires c κs =
-    let s = c .before .before .before .before .before in
+put-choice-requires : tie.Need-put-choice-requires Inv-loop μ-loop
+put-choice-requires c κs =
+    let w = c .before .before .before .loop in
+    let s = c .before .before .before .before .before .before in
     let a = s .args in
-    let w = c .before .before .loop in
     let room = row-room (a .n) (a .k) (w .row) (length (now (a .choices))) (s .pre .3) (omega arith) in
-    let bytes = row-has (a .p) (a .n) (now (a .work)) (λ t. All Byte (t .choice)) 0 (a .k) (s .pre .4) (w .row) (omega arith) in
-    (omega arith, omega (arith, room, out-length (w .inv .1)), rw zero-add at bytes)
+    (s .pre .2, omega (arith, room, out-length (w .inv .1)))
 
 add-row : tie.Need-add-row Inv-loop μ-loop
 add-row c = omega arith
@@ -53,20 +45,24 @@ loop-less c = omega arith
 
 loop-again : tie.Need-loop-again Inv-loop μ-loop
 loop-again c =
-    let s = c .before .before .before .before .before .before .before .before in
+    let put = c .before .before in
+    let read = put .before .before in
+    let w = read .before .before .loop in
+    let s = read .before .before .before .before .before in
     let a = s .args in
-    let w = c .before .before .before .before .before .loop in
+    let work = now (a .work) in
     let room = row-room (a .n) (a .k) (w .row) (length (now (a .choices))) (s .pre .3) (omega arith) in
-    let long = values-long (now (a .work)) (w .row) (omega arith) (a .n) (s .pre .2) in
-    (omega arith, out-next (w .inv .1) room long _ (c .before .before .copy-values .ensures))
+    let row : take (a .n) (read .row-choice .result) ≡ valuesIn (a .n) work (w .row) =
+    rw (read .row-choice .ensures) (values-front work (w .row) (a .n) maxVariables (s .pre .2)) in
+    (omega arith, out-next (w .inv .1) room (values-long work (w .row) (a .n)) _ (rw row at (put .put-choice .ensures)))
 
 same-length : tie.Need-same-length Inv-loop μ-loop
 same-length c = out-length (c .before .loop .inv .1)
 
 returns : tie.Need-returns Inv-loop μ-loop
 returns c =
-    let a = c .before .before .before .before .args in
     let w = c .before .loop in
+    let a = c .before .before .before .before .args in
     let last : w .row ≡ a .k = omega arith in
     rw (flat-choices (a .p) (a .n) (now (a .work)) 0 (a .k)) (rw last at (w .inv .1 .holds))
 
@@ -77,11 +73,9 @@ copy-choices-spec =
     Inv-loop
     μ-loop
     loop-holds
-    mul-copy-values
-    add-copy-values
-    add-copy-values-2
-    mul-copy-values-2
-    copy-values-requires
+    row-choice-requires
+    mul-put-choice
+    put-choice-requires
     add-row
     loop-less
     loop-again

@@ -2,11 +2,14 @@
 use mathlib.Core.Path.{_≡_}
 use Prim.Native.Nat.{_-_, _≤_}
 use native.Mathlib.Omega.{arith}
-use lib.ListN.{length}
+use native.Mathlib.Nat.{zero-add}
+use lib.ListN.{length, take}
 use denote.Ref.{now}
-use Rattle.rows.specs.Rows.{costsIn}
+use Rattle.model.specs.Limits.{maxObjectives}
+use Rattle.rows.specs.Rows.{costsIn, WordCosts}
 use Rattle.rows.proofs.RowsOut.{Out, row-room, out-start, out-length, out-next}
-use Rattle.rows.proofs.RowParts.{flat-costs, costs-long}
+use Rattle.rows.proofs.RowParts.{flat-costs, row-has}
+use Rattle.rows.proofs.RowNumbers.{costs-long, costs-front}
 use Rattle.rows.proofs.copy_costs.Statement.{statement}
 use Rattle.rows.proofs.copy_costs.Tie as tie
 
@@ -21,20 +24,23 @@ loop-holds c =
     let a = c .before .before .args in
     (omega arith, out-start (costsIn (a .p) (now (a .work))) (a .p) (now (a .costs)))
 
-mul-copy-numbers : tie.Need-mul-copy-numbers Inv-loop μ-loop
-mul-copy-numbers c = omega arith
+row-costs-requires : tie.Need-row-costs-requires Inv-loop μ-loop
+row-costs-requires c κs = omega arith
 
-add-copy-numbers : tie.Need-add-copy-numbers Inv-loop μ-loop
-add-copy-numbers c = omega arith
+mul-put-costs : tie.Need-mul-put-costs Inv-loop μ-loop
+mul-put-costs c = omega arith
 
-mul-copy-numbers-2 : tie.Need-mul-copy-numbers-2 Inv-loop μ-loop
-mul-copy-numbers-2 c = omega arith
-
-copy-numbers-requires : tie.Need-copy-numbers-requires Inv-loop μ-loop
-copy-numbers-requires c κs =
-    let s = c .before .before .before .before .before in
-    let w = c .before .before .loop in
-    (omega arith, omega (arith, row-room (s .args .p) (s .args .k) (w .row) (length (now (s .args .costs))) (s .pre .3) (omega arith), out-length (w .inv .1)))
+put-costs-requires : tie.Need-put-costs-requires Inv-loop μ-loop
+put-costs-requires c κs =
+    let read = c .before in
+    let w = read .before .before .loop in
+    let s = read .before .before .before .before .before in
+    let a = s .args in
+    let work = now (a .work) in
+    let room = row-room (a .p) (a .k) (w .row) (length (now (a .costs))) (s .pre .3) (omega arith) in
+    let words = row-has (a .p) (a .n) work WordCosts 0 (a .k) (s .pre .4) (w .row) (omega arith) in
+    let front = costs-front work (w .row) (a .p) maxObjectives (s .pre .2) in
+    (s .pre .2, omega (arith, room, out-length (w .inv .1)), rw (read .row-costs .ensures, front) (rw zero-add at words))
 
 add-row : tie.Need-add-row Inv-loop μ-loop
 add-row c = omega arith
@@ -44,20 +50,24 @@ loop-less c = omega arith
 
 loop-again : tie.Need-loop-again Inv-loop μ-loop
 loop-again c =
-    let s = c .before .before .before .before .before .before .before .before in
+    let put = c .before .before in
+    let read = put .before .before in
+    let w = read .before .before .loop in
+    let s = read .before .before .before .before .before in
     let a = s .args in
-    let w = c .before .before .before .before .before .loop in
+    let work = now (a .work) in
     let room = row-room (a .p) (a .k) (w .row) (length (now (a .costs))) (s .pre .3) (omega arith) in
-    let long = costs-long (now (a .work)) (w .row) (omega arith) (a .p) (s .pre .2) in
-    (omega arith, out-next (w .inv .1) room long _ (c .before .before .copy-numbers .ensures))
+    let row : take (a .p) (read .row-costs .result) ≡ costsIn (a .p) work (w .row) =
+    rw (read .row-costs .ensures) (costs-front work (w .row) (a .p) maxObjectives (s .pre .2)) in
+    (omega arith, out-next (w .inv .1) room (costs-long work (w .row) (a .p)) _ (rw row at (put .put-costs .ensures)))
 
 same-length : tie.Need-same-length Inv-loop μ-loop
 same-length c = out-length (c .before .loop .inv .1)
 
 returns : tie.Need-returns Inv-loop μ-loop
 returns c =
-    let a = c .before .before .before .before .args in
     let w = c .before .loop in
+    let a = c .before .before .before .before .args in
     let last : w .row ≡ a .k = omega arith in
     rw (flat-costs (a .p) (a .n) (now (a .work)) 0 (a .k)) (rw last at (w .inv .1 .holds))
 
@@ -68,10 +78,9 @@ copy-costs-spec =
     Inv-loop
     μ-loop
     loop-holds
-    mul-copy-numbers
-    add-copy-numbers
-    mul-copy-numbers-2
-    copy-numbers-requires
+    row-costs-requires
+    mul-put-costs
+    put-costs-requires
     add-row
     loop-less
     loop-again

@@ -49,15 +49,13 @@ use denote.Triple.Table.{entered, cited}
 use denote.Triple.Walked.{says, needs, Stays, stay-slice, stay-none-slice, stay-none, walkOf, goes-slice, goes-none-slice, goes-none, ends-at, walked, walk-meets}
 use denote.Exit.{yes}
 use denote.Signature.{plain, namedLft}
-use Rattle.model.specs.Basics.{All}
 use Rattle.model.specs.Limits.{maxObjectives, maxVariables, maxPoints}
-use Rattle.model.specs.Encoding.{Byte}
 use Rattle.model.specs.declared.Point.{Point}
 use Rattle.model.proofs.Point as P
 use Rattle.model.proofs.Point.Laws as P′
 use Rattle.problem.proofs.Walks.{sliceOf, OwnedSlice, number, twice}
-use Rattle.groups.specs.Layout.{listEnd}
-use Rattle.rows.specs.Rows.{pointIn, recordOf, RowsHold}
+use Rattle.layout.specs.Layout.{listEnd}
+use Rattle.rows.specs.Rows.{pointIn, recordOf, WordCosts, RowsHold}
 use Rattle.rows.proofs.RowParts.{row-has}
 use Rattle.rows.proofs.RecordsOut.{written, written-none, written-length, written-next}
 use Rattle.rows.proofs.point_at as callee
@@ -148,8 +146,8 @@ module _ {M : Type 1} (𝓤 : URA M) (H : Heap 𝓤) (A : Atoms 𝓤) (W : Given
       abbrev to : ℕ → PointAt .Ghost
       to i = (((κ, tt), (q, tt), tt, (w, (i, (n, (p, tt)))), (sliceOf w ∷ [], (vint w64 i ∷ [], (vint w64 n ∷ [], (vint w64 p ∷ [], tt))))), tt)
 
-      asked : (i : ℕ) → i < k → (listEnd ≤ length (now w)) × (i < maxPoints) × (n ≤ maxVariables) × (p ≤ maxObjectives) × All Byte (pointIn p n (now w) i .choice)
-      asked i less = (hold .memory (omega arith), omega (arith, hold .few), hold .variables, hold .objectives, rw zero-add at (row-has p n (now w) (λ t. All Byte (t .choice)) 0 k (hold .bytes) i less))
+      asked : (i : ℕ) → i < k → (listEnd ≤ length (now w)) × (i < maxPoints) × (n ≤ maxVariables) × (p ≤ maxObjectives) × WordCosts (pointIn p n (now w) i)
+      asked i less = (hold .memory (omega arith), omega (arith, hold .few), hold .variables, hold .objectives, rw zero-add at (row-has p n (now w) WordCosts 0 k (hold .words) i less))
 
       goes : (i : ℕ) → i < k → ent 𝓤 (⋆ 𝓤 H A (Token ∷ ‵ Work ∷ [])) (PointAt .pre (to i))
       goes i less =

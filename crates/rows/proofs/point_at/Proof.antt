@@ -1,54 +1,70 @@
--- `rows::point_at` meets its contract: costs and values are copied over zeros.
-use Prim.Native.Nat.{_+_}
+-- `rows::point_at` meets its contract: costs and values are written over zeros.
+use mathlib.Core.Path.{_≡_}
 use native.Mathlib.Omega.{arith}
-use lib.ListN.{drop, length-drop}
+use lib.ListN.{take}
 use denote.Ref.{now}
 use borrow.Author.Needs.{needs}
 use Rattle.model.specs.Limits.{maxObjectives, maxVariables}
-use Rattle.rows.specs.Rows.{rowAt}
+use Rattle.rows.specs.Rows.{costsIn, valuesIn}
 use Rattle.rows.proofs.PaddedParts.{front-over-zeros}
+use Rattle.rows.proofs.RowNumbers.{costs-long, costs-front, values-long, values-front}
 use Rattle.rows.proofs.point_at.Statement.{statement}
 use Rattle.rows.proofs.point_at.Tie as tie
 
-mul-at : tie.Need-mul-at
-mul-at c = search needs
+row-costs-requires : tie.Need-row-costs-requires
+row-costs-requires c κs = search needs
 
-add-at : tie.Need-add-at
-add-at c = search needs
+slice-aggregate-put-costs : tie.Need-slice-aggregate-put-costs
+slice-aggregate-put-costs c = search needs
 
-slice-aggregate-copy-numbers : tie.Need-slice-aggregate-copy-numbers
-slice-aggregate-copy-numbers c = search needs
+put-costs-requires : tie.Need-put-costs-requires
+put-costs-requires c κs =
+    let read = c .before in
+    let s = read .before .before in
+    let front = costs-front (now (s .args .work)) (s .args .row) (s .args .p) maxObjectives (s .pre .3) in
+    (s .pre .3, omega arith, rw (read .row-costs .ensures, front) (s .pre .4))
 
-copy-numbers-requires : tie.Need-copy-numbers-requires
-copy-numbers-requires c κs = search needs
+row-choice-requires : tie.Need-row-choice-requires
+row-choice-requires c κs = search needs
 
-add-copy-values : tie.Need-add-copy-values
-add-copy-values c = search needs
+slice-aggregate-put-choice : tie.Need-slice-aggregate-put-choice
+slice-aggregate-put-choice c = search needs
 
-slice-aggregate-copy-values : tie.Need-slice-aggregate-copy-values
-slice-aggregate-copy-values c = search needs
-
-copy-values-requires : tie.Need-copy-values-requires
-copy-values-requires c κs = search needs
+put-choice-requires : tie.Need-put-choice-requires
+put-choice-requires c κs = search needs
 
 returns : tie.Need-returns
 returns c =
-    let s = c .before .before .before .before .before .before .before in
-    let row = rowAt (s .args .row) in
-    let work = now (s .args .work) in
-    let costs = front-over-zeros maxObjectives (s .args .p) (drop row work) (s .pre .3) (omega (arith, s .pre, length-drop row work)) _ (c .before .before .before .before .copy-numbers .ensures) in
-    let choice = front-over-zeros maxVariables (s .args .n) (drop (row + 4) work) (s .pre .2) (omega (arith, s .pre, length-drop (row + 4) work)) _ (c .before .copy-values .ensures) in
-    λ i. record { costs = costs i; choice = choice i }
+    let values = c .before .before .before in
+    let costs-put = values .before .before in
+    let costs = costs-put .before .before in
+    let s = costs .before .before in
+    let a = s .args in
+    let work = now (a .work) in
+    let row-costs : take (a .p) (costs .row-costs .result) ≡ costsIn (a .p) work (a .row) =
+    rw (costs .row-costs .ensures) (costs-front work (a .row) (a .p) maxObjectives (s .pre .3)) in
+    let row-values : take (a .n) (values .row-choice .result) ≡ valuesIn (a .n) work (a .row) =
+    rw (values .row-choice .ensures) (values-front work (a .row) (a .n) maxVariables (s .pre .2)) in
+    let four = costs-long work (a .row) maxObjectives in
+    let all = values-long work (a .row) maxVariables in
+    let padded-costs =
+    front-over-zeros maxObjectives (a .p) (costs .row-costs .result) (s .pre .3)
+    (rw (costs .row-costs .ensures) (omega (arith, four))) _ (costs-put .put-costs .ensures) in
+    let padded-choice =
+    front-over-zeros maxVariables (a .n) (values .row-choice .result) (s .pre .2)
+    (rw (values .row-choice .ensures) (omega (arith, all))) _ (c .before .put-choice .ensures) in
+    let costs-are = rw row-costs at padded-costs in
+    let choice-is = rw row-values at padded-choice in
+    λ i. record { costs = costs-are i; choice = choice-is i }
 
 pub point-at-spec : {M : Type 1} → statement M
 point-at-spec =
     tie.close
     (tie.spec
-    mul-at
-    add-at
-    slice-aggregate-copy-numbers
-    copy-numbers-requires
-    add-copy-values
-    slice-aggregate-copy-values
-    copy-values-requires
+    row-costs-requires
+    slice-aggregate-put-costs
+    put-costs-requires
+    row-choice-requires
+    slice-aggregate-put-choice
+    put-choice-requires
     returns)

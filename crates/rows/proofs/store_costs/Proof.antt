@@ -1,21 +1,21 @@
--- `rows::store_costs` meets its contract. The invariant: the costs passed are written, and zeros behind the first `p`.
+-- `rows::store_costs` meets its contract. The invariant: the costs passed are written.
+use mathlib.Core.Path.{_≡_, sym, _∙_}
 use mathlib.Core.Logic.{⊎-elim}
 use Prim.Native.Nat.{_-_, _≤_}
 use native.Mathlib.Omega.{arith}
-use lib.ListN.{length, take}
-use lib.Seq.{take-all}
+use lib.ListN.{length, getD, take, length-set}
 use mir.Syntax.{w64}
 use denote.Ref.{now}
 use Rattle.model.specs.Limits.{maxObjectives}
 use Rattle.model.specs.Calls.{padded}
 use Rattle.rows.proofs.Arrays.{array-length}
-use Rattle.rows.proofs.Copied.{Copied, copied-start, copied-length, copied-next, copied-end}
-use Rattle.rows.proofs.PaddedParts.{padded-long, padded-front, padded-rest, front-word}
+use Rattle.rows.proofs.PaddedParts.{padded-front, padded-rest}
+use Rattle.rows.proofs.Packing.{CostsTo, costs-none, costs-more}
 use Rattle.rows.proofs.store_costs.Statement.{statement}
 use Rattle.rows.proofs.store_costs.Tie as tie
 
 abbrev Inv-loop : tie.InvT-loop
-Inv-loop p at work₀ costs i₀ work i = Copied work₀ at (padded maxObjectives (take p costs)) maxObjectives work i
+Inv-loop p at work₀ costs i₀ work i = (i ≤ maxObjectives) × CostsTo at (padded maxObjectives (take p costs)) work₀ work i
 
 abbrev μ-loop : tie.MeasureT-loop
 μ-loop p at work₀ costs i₀ work i = maxObjectives - i
@@ -23,36 +23,48 @@ abbrev μ-loop : tie.MeasureT-loop
 loop-holds : tie.Need-loop-holds Inv-loop μ-loop
 loop-holds c =
     let a = c .args in
-    copied-start (now (a .work)) (a .at) (padded maxObjectives (take (a .p) (a .t1))) maxObjectives (c .pre .0) (omega (arith, padded-long maxObjectives (a .p) (a .t1) (c .pre .1) (omega (arith, array-length w64 maxObjectives (a .t1) _ (c .good .0)))))
+    (omega arith, costs-none (a .at) (padded maxObjectives (take (a .p) (a .t1))) (now (a .work)))
+
+mul-cost : tie.Need-mul-cost Inv-loop μ-loop
+mul-cost c = omega arith
+
+array-read-cost : tie.Need-array-read-cost Inv-loop μ-loop
+array-read-cost c = omega arith
+
+cast-work : tie.Need-cast-work Inv-loop μ-loop
+cast-work c = omega arith
 
 mul-work : tie.Need-mul-work Inv-loop μ-loop
 mul-work c = omega arith
-
-array-read-work : tie.Need-array-read-work Inv-loop μ-loop
-array-read-work c = omega arith
-
-cast-work : tie.Need-cast-work Inv-loop μ-loop
-cast-work c =
-    let s = c .before .before .before in
-    omega (arith, front-word maxObjectives (s .args .p) (s .args .t1) (s .pre .1) (omega (arith, array-length w64 maxObjectives (s .args .t1) _ (s .good .0))) (s .pre .2) (c .before .before .loop .i) (omega arith))
 
 add-work : tie.Need-add-work Inv-loop μ-loop
 add-work c = omega arith
 
 mul-work-2 : tie.Need-mul-work-2 Inv-loop μ-loop
-mul-work-2 c = omega arith
+mul-work-2 c = omega (arith, c .before .before .before .loop .inv .1 .changed .long)
 
 slice-write-work : tie.Need-slice-write-work Inv-loop μ-loop
-slice-write-work c = omega (arith, copied-length (c .before .before .loop .inv))
+slice-write-work c = omega (arith, c .before .before .before .loop .inv .1 .changed .long)
 
-add-work-2 : tie.Need-add-work-2 Inv-loop μ-loop
-add-work-2 c = omega arith
+cast-work-2 : tie.Need-cast-work-2 Inv-loop μ-loop
+cast-work-2 c = omega arith
 
 mul-work-3 : tie.Need-mul-work-3 Inv-loop μ-loop
 mul-work-3 c = omega arith
 
+add-work-2 : tie.Need-add-work-2 Inv-loop μ-loop
+add-work-2 c = omega arith
+
+add-work-3 : tie.Need-add-work-3 Inv-loop μ-loop
+add-work-3 c = omega arith
+
+mul-work-4 : tie.Need-mul-work-4 Inv-loop μ-loop
+mul-work-4 c = omega (arith, c .before .before .before .loop .inv .1 .changed .long)
+
 slice-write-work-2 : tie.Need-slice-write-work-2 Inv-loop μ-loop
-slice-write-work-2 c = omega (arith, copied-length (c .before .before .loop .inv))
+slice-write-work-2 c =
+    let w = c .before .before .before .loop in
+    simp length-set (omega (arith, w .inv .1 .changed .long))
 
 add-i : tie.Need-add-i Inv-loop μ-loop
 add-i c = omega arith
@@ -62,22 +74,25 @@ loop-less c = omega arith
 
 loop-again : tie.Need-loop-again Inv-loop μ-loop
 loop-again c =
-    let s = c .before .before .before in
-    let w = c .before .before .loop in
-    let long : maxObjectives ≤ length (s .args .t1) = omega (arith, array-length w64 maxObjectives (s .args .t1) _ (s .good .0)) in
+    let branch = c .before in
+    let w = branch .before .before .loop in
+    let s = branch .before .before .before in
+    let a = s .args in
+    let long : maxObjectives ≤ length (a .t1) = omega (arith, array-length w64 maxObjectives (a .t1) _ (s .good .0)) in
+    let is : branch .if1 .cost ≡ getD (padded maxObjectives (take (a .p) (a .t1))) (w .i) 0 =
     ⊎-elim
-    (λ t. rw (t .1) (copied-next (w .inv) (omega arith) _ (padded-front maxObjectives (s .args .p) (s .args .t1) (s .pre .1) long (w .i) (omega (arith, t .0)))))
-    (λ t. rw (t .1) (copied-next (w .inv) (omega arith) _ (padded-rest maxObjectives (s .args .p) (s .args .t1) (s .pre .1) long (w .i) (omega (arith, t .0)) (omega arith))))
-    (c .if1 .came)
+    (λ t. t .1 ∙ padded-front maxObjectives (a .p) (a .t1) (s .pre .1) long (w .i) (omega (arith, t .0)))
+    (λ t. t .1 ∙ padded-rest maxObjectives (a .p) (a .t1) (s .pre .1) long (w .i) (omega (arith, t .0)) (omega arith))
+    (branch .if1 .came) in
+    (omega arith, costs-more (w .inv .1) (omega arith) (s .pre .0) (branch .if1 .cost) is)
 
 same-length : tie.Need-same-length Inv-loop μ-loop
-same-length c = copied-length (c .before .loop .inv)
+same-length c = c .before .loop .inv .1 .changed .long
 
 returns : tie.Need-returns Inv-loop μ-loop
 returns c =
-    let s = c .before .before in
-    let all = padded-long maxObjectives (s .args .p) (s .args .t1) (s .pre .1) (omega (arith, array-length w64 maxObjectives (s .args .t1) _ (s .good .0))) in
-    rw (take-all maxObjectives (padded maxObjectives (take (s .args .p) (s .args .t1))) (omega (arith, all))) at (copied-end (c .before .loop .inv) (omega arith))
+    let w = c .before .loop in
+    record { changed = w .inv .1 .changed; written = λ j l. w .inv .1 .written j (omega arith) }
 
 pub store-costs-spec : {M : Type 1} → statement M
 store-costs-spec =
@@ -86,14 +101,18 @@ store-costs-spec =
     Inv-loop
     μ-loop
     loop-holds
-    mul-work
-    array-read-work
+    mul-cost
+    array-read-cost
     cast-work
+    mul-work
     add-work
     mul-work-2
     slice-write-work
-    add-work-2
+    cast-work-2
     mul-work-3
+    add-work-2
+    add-work-3
+    mul-work-4
     slice-write-work-2
     add-i
     loop-less

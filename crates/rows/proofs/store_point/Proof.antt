@@ -1,15 +1,11 @@
 -- `rows::store_point` meets its contract: the values are written behind the costs.
 use native.Mathlib.Omega.{arith}
+use mir.Syntax.{w8, w64}
 use borrow.Author.Needs.{needs}
-use lib.ListN.{take}
-use mir.Syntax.{w64}
-use denote.Ref.{now}
 use Rattle.model.specs.Limits.{maxObjectives, maxVariables}
-use Rattle.model.specs.Calls.{padded}
-use Rattle.rows.specs.Rows.{rowAt}
 use Rattle.rows.proofs.Arrays.{array-length}
-use Rattle.rows.proofs.Copied.{written-twice}
 use Rattle.rows.proofs.PaddedParts.{padded-long}
+use Rattle.rows.proofs.RowWrites.{row-stored}
 use Rattle.rows.proofs.store_point.Statement.{statement}
 use Rattle.rows.proofs.store_point.Tie as tie
 
@@ -33,11 +29,14 @@ same-length c = search needs
 
 returns : tie.Need-returns
 returns c =
-    let s = c .before .before .before .before .before .before .before .before .before in
+    let values = c .before .before in
+    let costs = values .before .before .before .before in
+    let s = costs .before .before .before in
     let a = s .args in
-    let costs = c .before .before .before .before .before .before .store-costs .ensures in
-    let all = padded-long maxObjectives (a .p) (a .costs) (s .pre .2) (omega (arith, array-length w64 maxObjectives (a .costs) _ (s .good .0))) in
-    written-twice (now (a .work)) (padded maxObjectives (take (a .p) (a .costs))) (a .choice) _ _ (rowAt (a .k)) maxObjectives maxVariables (omega (arith, s .pre)) all costs (c .before .before .store-choice .ensures)
+    let four = array-length w64 maxObjectives (a .costs) _ (s .good .0) in
+    let wide = padded-long maxObjectives (a .p) (a .costs) (s .pre .2) (omega (arith, four)) in
+    let full = array-length w8 maxVariables (a .choice) _ (s .good .1 .0) in
+    row-stored (a .k) (costs .store-costs .ensures) (values .store-choice .ensures) wide full (s .pre .1) (s .pre .0)
 
 pub store-point-spec : {M : Type 1} → statement M
 store-point-spec =

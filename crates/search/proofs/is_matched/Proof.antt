@@ -5,13 +5,13 @@ use mathlib.Core.List.{List}
 use Prim.Native.Nat.{ℕ, _+_, _≤_, _<_, _-_}
 use native.Mathlib.Omega.{arith}
 use native.Mathlib.Nat.{sub-zero}
-use lib.ListN.{take, drop}
+use lib.ListN.{take}
 use denote.Ref.{now}
 use borrow.Author.Needs.{needs}
 use Rattle.model.specs.Limits.{maxObjectives}
 use Rattle.model.specs.Search.{matched}
 use Rattle.vectors.specs.Fronts.{frontAtMost}
-use Rattle.rows.specs.Rows.{rowAt, listIn}
+use Rattle.rows.specs.Rows.{costsIn, listIn}
 use Rattle.search.proofs.Matching.{matchedFrom, matched-end, matched-step}
 use Rattle.search.proofs.is_matched.Statement.{statement}
 use Rattle.search.proofs.is_matched.Tie as tie
@@ -23,20 +23,18 @@ abbrev μ-loop : tie.MeasureT-loop
 μ-loop c n work k p i₀ i = k - i
 
 -- the rows from i on, by what is read and tested of row i
-step : (s : tie.Start Inv-loop μ-loop) (i : ℕ) → i < s .args .k → (row : List ℕ) → row ≡ take maxObjectives (drop (rowAt i) (now (s .args .work))) → (met : Bool) → met ≡ frontAtMost (s .args .p) row (s .args .c) → matchedFrom (s .args .c) (s .args .n) (now (s .args .work)) (s .args .k) (s .args .p) i ≡ (met || matchedFrom (s .args .c) (s .args .n) (now (s .args .work)) (s .args .k) (s .args .p) (i + 1))
+step : (s : tie.Start Inv-loop μ-loop) (i : ℕ) → i < s .args .k → (row : List ℕ)
+    → row ≡ costsIn maxObjectives (now (s .args .work)) i → (met : Bool)
+    → met ≡ frontAtMost (s .args .p) row (s .args .c)
+    → matchedFrom (s .args .c) (s .args .n) (now (s .args .work)) (s .args .k) (s .args .p) i
+    ≡ (met || matchedFrom (s .args .c) (s .args .n) (now (s .args .work)) (s .args .k) (s .args .p) (i + 1))
 step s i l = matched-step (s .args .c) (s .args .n) (now (s .args .work)) (s .args .k) (s .args .p) i l (s .pre .2)
 
 loop-holds : tie.Need-loop-holds Inv-loop μ-loop
 loop-holds c = (omega arith, rw sub-zero refl)
 
-mul-costs-at : tie.Need-mul-costs-at Inv-loop μ-loop
-mul-costs-at c = search needs
-
-add-costs-at : tie.Need-add-costs-at Inv-loop μ-loop
-add-costs-at c = search needs
-
-costs-at-requires : tie.Need-costs-at-requires Inv-loop μ-loop
-costs-at-requires c κs = search needs
+row-costs-requires : tie.Need-row-costs-requires Inv-loop μ-loop
+row-costs-requires c κs = search needs
 
 is-at-most-requires : tie.Need-is-at-most-requires Inv-loop μ-loop
 is-at-most-requires c κs = search needs
@@ -45,7 +43,7 @@ returns : tie.Need-returns Inv-loop μ-loop
 returns c =
     let s = c .before .before .before .before .before .before in
     let w = c .before .before .before .before .loop in
-    sym (sym (w .inv .1) ∙ step s (w .i) (c .before .before .before .loop-test .taken) (c .before .before .costs-at .result) (c .before .before .costs-at .ensures) true (sym (c .if1 .taken) ∙ c .before .is-at-most .ensures))
+    sym (sym (w .inv .1) ∙ step s (w .i) (c .before .before .before .loop-test .taken) (c .before .before .row-costs .result) (c .before .before .row-costs .ensures) true (sym (c .if1 .taken) ∙ c .before .is-at-most .ensures))
 
 add-i : tie.Need-add-i Inv-loop μ-loop
 add-i c = search needs
@@ -57,7 +55,7 @@ loop-again : tie.Need-loop-again Inv-loop μ-loop
 loop-again c =
     let s = c .before .before .before .before .before .before in
     let w = c .before .before .before .before .loop in
-    (omega arith, sym (step s (w .i) (c .before .before .before .loop-test .taken) (c .before .before .costs-at .result) (c .before .before .costs-at .ensures) false (sym (c .if1 .left) ∙ c .before .is-at-most .ensures)) ∙ w .inv .1)
+    (omega arith, sym (step s (w .i) (c .before .before .before .loop-test .taken) (c .before .before .row-costs .result) (c .before .before .row-costs .ensures) false (sym (c .if1 .left) ∙ c .before .is-at-most .ensures)) ∙ w .inv .1)
 
 returns-2 : tie.Need-returns-2 Inv-loop μ-loop
 returns-2 c =
@@ -72,9 +70,7 @@ is-matched-spec =
     Inv-loop
     μ-loop
     loop-holds
-    mul-costs-at
-    add-costs-at
-    costs-at-requires
+    row-costs-requires
     is-at-most-requires
     returns
     add-i

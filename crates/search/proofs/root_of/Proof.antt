@@ -4,7 +4,7 @@ use Prim.Native.Nat.{ℕ, _+_, _-_}
 use native.Mathlib.Omega.{arith}
 use borrow.Author.Needs.{needs}
 use Rattle.model.specs.Bounds.{prefixOk}
-use Rattle.groups.specs.Layout.{recordsAt}
+use Rattle.layout.specs.Layout.{recordsAt}
 use Rattle.search.proofs.root_of.Statement.{statement}
 use Rattle.search.proofs.root_of.Tie as tie
 

@@ -7,25 +7,25 @@ use Rattle.model.specs.Core.{coreSumEnd}
 use Rattle.model.proofs.Elements.{all-map}
 use Rattle.vectors.specs.Fronts.{Half}
 use Rattle.vectors.proofs.Fours.{four-half}
-use Rattle.groups.specs.Layout.{gainsAt}
+use Rattle.layout.specs.Layout.{gainsAt}
 use borrow.Author.Needs.{needs}
 use Rattle.search.proofs.sharper_bound.Statement.{statement}
 use Rattle.search.proofs.sharper_bound.Tie as tie
 
-mul-costs-at : tie.Need-mul-costs-at
-mul-costs-at c = search needs
+mul-numbers-at : tie.Need-mul-numbers-at
+mul-numbers-at c = search needs
 
-add-costs-at : tie.Need-add-costs-at
-add-costs-at c = search needs
+add-numbers-at : tie.Need-add-numbers-at
+add-numbers-at c = search needs
 
-costs-at-requires : tie.Need-costs-at-requires
-costs-at-requires c κs = search needs
+numbers-at-requires : tie.Need-numbers-at-requires
+numbers-at-requires c κs = search needs
 
 -- a gain is a number of work memory
-gains-small : (c : tie.After-costs-at) → All Half (c .costs-at .result)
+gains-small : (c : tie.After-numbers-at) → All Half (c .numbers-at .result)
 gains-small c =
     let s = c .before .before .before in
-    rw (c .costs-at .ensures) (four-half (now (s .args .work)) (gainsAt + 4 * s .args .x .len) (omega (arith, s .pre .0, s .pre .1)) (λ i. omega (arith, c .before .before .shared-slice-known .given i)))
+    rw (c .numbers-at .ensures) (four-half (now (s .args .work)) (gainsAt + 4 * s .args .x .len) (omega (arith, s .pre .0, s .pre .1)) (λ i. omega (arith, c .before .before .shared-slice-known .given i)))
 
 sum-requires : tie.Need-sum-requires
 sum-requires c κs =
@@ -33,8 +33,8 @@ sum-requires c κs =
     (all-map (λ b. b ≤ coreSumEnd) Half (λ b l. omega arith) (s .args .x .bound) (s .pre .2), gains-small c)
 
 returns : tie.Need-returns
-returns c = rw (c .before .costs-at .ensures) at (c .sum .ensures)
+returns c = rw (c .before .numbers-at .ensures) at (c .sum .ensures)
 
 pub sharper-bound-spec : {M : Type 1} → statement M
 sharper-bound-spec =
-    tie.close (tie.spec mul-costs-at add-costs-at costs-at-requires sum-requires returns)
+    tie.close (tie.spec mul-numbers-at add-numbers-at numbers-at-requires sum-requires returns)

@@ -2,7 +2,7 @@
 use Prim.Native.Nat.{_-_}
 use native.Mathlib.Omega.{arith}
 use denote.Ref.{now}
-use Rattle.groups.specs.Layout.{gainsAt, sourceAt}
+use Rattle.layout.specs.Layout.{gainsAt, sourceAt}
 use Rattle.suffixes.proofs.Filling.{Filling, filling-start, filling-length, filling-next, filling-end}
 use Rattle.suffixes.proofs.clear_gains.Statement.{statement}
 use Rattle.suffixes.proofs.clear_gains.Tie as tie

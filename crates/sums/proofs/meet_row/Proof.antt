@@ -8,7 +8,8 @@ use Rattle.model.specs.Frontiers.{Point}
 use Rattle.model.specs.Merging.{sumOf}
 use Rattle.rows.specs.Rows.{pointIn}
 use Rattle.search.specs.States.{heldOf}
-use Rattle.sums.specs.Sums.{secondRow, pointOf}
+use Rattle.layout.specs.Layout.{secondRow}
+use Rattle.sums.specs.Sums.{pointOf}
 use Rattle.sums.proofs.Meeting.{held-some, meetsFrom, meets-start, meets-end, meets-next, paired-values}
 use Rattle.sums.proofs.meet_row.Statement.{statement}
 use Rattle.sums.proofs.meet_row.Tie as tie
@@ -39,7 +40,18 @@ add-sum-of c = omega arith
 sum-of-requires : tie.Need-sum-of-requires Inv-loop μ-loop
 sum-of-requires c κs =
     let s = c .before .before .before in
-    (s .pre .objectives, s .pre .variables, omega (arith, s .pre .long, s .pre .row), omega (arith, s .pre .long, s .pre .second-count), paired-values (s .pre) (c .before .loop .j) (omega arith))
+    let j = c .before .loop .j in
+    let a = s .args in
+    let h = s .pre in
+    let words = row-has (a .p) (a .n) (now (a .work)) WordCosts secondRow (a .b) (h .second-words) j (omega arith) in (
+      h .objectives,
+      h .variables,
+      omega (arith, h .long, h .row),
+      omega (arith, h .long, h .second-count),
+      h .words,
+      words,
+      paired-values h j (omega arith),
+    )
 
 take-sum-requires : tie.Need-take-sum-requires Inv-loop μ-loop
 take-sum-requires c κs =

@@ -3,11 +3,8 @@ use Prim.Native.Nat.{_-_, _≤_}
 use native.Mathlib.Omega.{arith}
 use borrow.Author.Tests.{not-true, not-false}
 use denote.Ref.{now}
-use mir.Syntax.{w64}
-use Rattle.model.specs.Limits.{maxObjectives}
-use Rattle.rows.proofs.Arrays.{array-length}
 use Rattle.passes.proofs.Made.{Made, made-start}
-use Rattle.sums.proofs.Merging.{Summed, merging-halved, merging-done, merging-full, sum-words, merging-next}
+use Rattle.sums.proofs.Merging.{Summed, merging-halved, merging-done, merging-full, merging-next}
 use Rattle.sums.proofs.merge_points.Statement.{statement}
 use Rattle.sums.proofs.merge_points.Tie as tie
 
@@ -41,8 +38,7 @@ store-point-requires : tie.Need-store-point-requires Inv-loop μ-loop
 store-point-requires c κs =
     let s = c .before .before .before .before .before .before .before .before .before .before in
     let w = c .before .before .before .before .before .before .before .before .loop in
-    let met = c .before .before .before .before .before .next-sum in
-    (omega (arith, s .pre .0 .long, w .inv .1 .same), omega arith, s .pre .0 .objectives, sum-words (s .pre .0) (s .args .ceilings) (w .work) (w .k) (w .inv .1) (met .result) (met .ensures) (not-false _ (c .before .before .before .if1 .left)) (array-length w64 maxObjectives (s .args .ceilings) _ (s .good .1 .1 .1 .1 .0)) (s .pre .1))
+    (omega (arith, s .pre .0 .long, w .inv .1 .same), omega arith, s .pre .0 .objectives)
 
 add-k : tie.Need-add-k Inv-loop μ-loop
 add-k c = omega arith
@@ -55,7 +51,7 @@ loop-again c =
     let s = c .before .before .before .before .before .before .before .before .before .before .before .before .before in
     let w = c .before .before .before .before .before .before .before .before .before .before .before .loop in
     let met = c .before .before .before .before .before .before .before .before .next-sum in
-    (omega arith, merging-next (s .pre .0) (s .args .ceilings) (w .work) (w .k) (w .inv .1) (met .result) (met .ensures) (not-false _ (c .before .before .before .before .before .before .if1 .left)) (omega arith) _ (c .before .work .given) (c .before .before .store-point .ensures))
+    (omega arith, merging-next (s .pre .0) (s .args .ceilings) (w .work) (w .k) (w .inv .1) (met .result) (met .ensures) (not-false _ (c .before .before .before .before .before .before .if1 .left)) (omega arith) _ (c .before .before .store-point .ensures))
 
 next-sum-requires-2 : tie.Need-next-sum-requires-2 Inv-loop μ-loop
 next-sum-requires-2 c κs =

@@ -10,17 +10,17 @@ use Rattle.zones.proofs.ZoneRows.{corner-words}
 use Rattle.zones.proofs.corner_at.Statement.{statement}
 use Rattle.zones.proofs.corner_at.Tie as tie
 
-mul-costs-at : tie.Need-mul-costs-at
-mul-costs-at c = search needs
+mul-numbers-at : tie.Need-mul-numbers-at
+mul-numbers-at c = search needs
 
-costs-at-requires : tie.Need-costs-at-requires
-costs-at-requires c κs = search needs
+numbers-at-requires : tie.Need-numbers-at-requires
+numbers-at-requires c κs = search needs
 
 returns : tie.Need-returns
 returns c =
     let s = c .before .before in
-    let read = c .costs-at .ensures in
+    let read = c .numbers-at .ensures in
     (read, subst (All Word) (sym read) (corner-words maxObjectives (now (s .args .zones)) (s .args .i) (λ k. omega (arith, c .before .shared-slice-known .given k))))
 
 pub corner-at-spec : {M : Type 1} → statement M
-corner-at-spec = tie.close (tie.spec mul-costs-at costs-at-requires returns)
+corner-at-spec = tie.close (tie.spec mul-numbers-at numbers-at-requires returns)

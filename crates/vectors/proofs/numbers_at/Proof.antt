@@ -1,11 +1,11 @@
--- `rows::costs_at` meets its contract.
+-- `vectors::numbers_at` meets its contract.
 use Prim.Native.Nat.{_+_}
 use native.Mathlib.Omega.{arith}
 use denote.Ref.{now}
 use Rattle.vectors.proofs.Fours.{four-from}
 use borrow.Author.Needs.{needs}
-use Rattle.rows.proofs.costs_at.Statement.{statement}
-use Rattle.rows.proofs.costs_at.Tie as tie
+use Rattle.vectors.proofs.numbers_at.Statement.{statement}
+use Rattle.vectors.proofs.numbers_at.Tie as tie
 
 mul-t3 : tie.Need-mul-t3
 mul-t3 c = search needs
@@ -57,8 +57,8 @@ returns c =
     let s = c .before .before .before .before in
     four-from (now (s .args .work)) (s .args .at) (s .pre)
 
-pub costs-at-spec : {M : Type 1} → statement M
-costs-at-spec =
+pub numbers-at-spec : {M : Type 1} → statement M
+numbers-at-spec =
     tie.close
     (tie.spec
     mul-t3

@@ -1,4 +1,4 @@
--- `sums::is_earlier_choice` meets its contract. The invariant, `Comparing`: the first i values are equal.
+-- `rows::is_earlier_choice` meets its contract. The invariant, `Comparing`: the first i values are equal.
 use Prim.Native.Nat.{_-_, _≤_}
 use native.Mathlib.Omega.{arith}
 use lib.ListN.{length}
@@ -7,8 +7,8 @@ use borrow.Author.Needs.{needs}
 use Rattle.model.specs.Limits.{maxVariables}
 use Rattle.vectors.proofs.Fronts.{array-front}
 use Rattle.vectors.proofs.Comparing.{Comparing, comparing-start, comparing-less, comparing-more, comparing-next, comparing-end}
-use Rattle.sums.proofs.is_earlier_choice.Statement.{statement}
-use Rattle.sums.proofs.is_earlier_choice.Tie as tie
+use Rattle.rows.proofs.is_earlier_choice.Statement.{statement}
+use Rattle.rows.proofs.is_earlier_choice.Tie as tie
 
 abbrev Inv-loop : tie.InvT-loop
 Inv-loop n x y i₀ i = Comparing n x y i

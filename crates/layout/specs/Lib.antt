@@ -1,0 +1,2 @@
+-- Work memory: where everything stands in it.
+pub mod Layout

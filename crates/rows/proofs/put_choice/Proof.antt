@@ -1,0 +1,64 @@
+-- `rows::put_choice` meets its contract. The invariant: the values passed are written.
+use mathlib.Core.Path.{refl}
+use Prim.Native.Nat.{_-_, _≤_}
+use native.Mathlib.Omega.{arith}
+use lib.ListN.{length}
+use mir.Syntax.{w8}
+use denote.Ref.{now}
+use Rattle.model.specs.Limits.{maxVariables}
+use Rattle.rows.proofs.Arrays.{array-length}
+use Rattle.rows.proofs.Copied.{Copied, copied-start, copied-length, copied-next, copied-end}
+use Rattle.rows.proofs.put_choice.Statement.{statement}
+use Rattle.rows.proofs.put_choice.Tie as tie
+
+abbrev Inv-loop : tie.InvT-loop
+Inv-loop count choices₀ to row i₀ choices i = Copied choices₀ to row count choices i
+
+abbrev μ-loop : tie.MeasureT-loop
+μ-loop count choices₀ to row i₀ choices i = count - i
+
+loop-holds : tie.Need-loop-holds Inv-loop μ-loop
+loop-holds c =
+    let a = c .args in
+    let long = array-length w8 maxVariables (a .t1) _ (c .good .0) in
+    copied-start (now (a .choices)) (a .to) (a .t1) (a .count) (c .pre .1) (omega (arith, c .pre, long))
+
+array-read-choices : tie.Need-array-read-choices Inv-loop μ-loop
+array-read-choices c = omega arith
+
+add-choices : tie.Need-add-choices Inv-loop μ-loop
+add-choices c = omega arith
+
+slice-write-choices : tie.Need-slice-write-choices Inv-loop μ-loop
+slice-write-choices c = omega (arith, copied-length (c .before .loop .inv))
+
+add-i : tie.Need-add-i Inv-loop μ-loop
+add-i c = omega arith
+
+loop-less : tie.Need-loop-less Inv-loop μ-loop
+loop-less c = omega arith
+
+loop-again : tie.Need-loop-again Inv-loop μ-loop
+loop-again c = copied-next (c .before .loop .inv) (omega arith) _ refl
+
+same-length : tie.Need-same-length Inv-loop μ-loop
+same-length c = copied-length (c .before .loop .inv)
+
+returns : tie.Need-returns Inv-loop μ-loop
+returns c = copied-end (c .before .loop .inv) (omega arith)
+
+pub put-choice-spec : {M : Type 1} → statement M
+put-choice-spec =
+    tie.close
+    (tie.spec
+    Inv-loop
+    μ-loop
+    loop-holds
+    array-read-choices
+    add-choices
+    slice-write-choices
+    add-i
+    loop-less
+    loop-again
+    same-length
+    returns)
