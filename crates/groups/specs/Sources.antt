@@ -5,7 +5,6 @@ use lib.ListN.{length, take, drop}
 use Rattle.model.specs.Basics.{All}
 use Rattle.model.specs.Limits.{maxObjectives, maxTables, maxVariables}
 use Rattle.model.specs.Problems.{Problem, DomainSize}
-use Rattle.model.specs.Core.{Ceiling}
 use Rattle.problem.specs.Records.{Whole}
 use Rattle.layout.specs.Layout.{sourceAt, searchEnd}
 use Rattle.groups.specs.Groups.{tablesOver}
@@ -25,5 +24,4 @@ pub record Source (p r : ℕ) (ceilings ds s work : List ℕ) : Type 0 where
   pub small : All DomainSize ds
   pub variables : length ds ≤ maxVariables
   pub objectives : p ≤ maxObjectives
-  pub limited : All Ceiling ceilings
   pub long : searchEnd ≤ length work

@@ -54,7 +54,6 @@ module _ {p r : ℕ} {ceilings ds s work : List ℕ} (source : Source p r ceilin
           small = source .small;
           variables = source .variables;
           objectives = source .objectives;
-          limited = source .limited;
           long = omega (arith, kept .long, source .long);
         }
 

@@ -92,7 +92,6 @@ module _ (p r at side : ℕ) (ceilings ds ss s work : List ℕ) (a : Accepted p 
               small = rw sizes (narrowed-small side ss ds (a .small));
               variables = omega (arith, narrow-length, a .variables);
               objectives = a .objectives;
-              limited = a .limited;
               long = omega (arith, after-length, a .memory);
             }
 

@@ -88,7 +88,6 @@ module _ (p r at room : ℕ) (ceilings ds s work : List ℕ) (a : Accepted p r a
         small = a .small;
         variables = a .variables;
         objectives = a .objectives;
-        limited = rw same (a .limited);
         long = omega (arith, written-length r at ds s work sourceAt inside kept says, a .memory);
       }
 

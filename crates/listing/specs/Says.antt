@@ -8,7 +8,7 @@ use lib.ListN.{length, take}
 use Rattle.model.specs.Basics.{All, when}
 use Rattle.model.specs.Limits.{maxBytes, maxObjectives, maxTables, maxVariables, maxPoints}
 use Rattle.model.specs.Problems.{Problem, DomainSize}
-use Rattle.model.specs.Core.{Ceiling, coreTables}
+use Rattle.model.specs.Core.{coreTables}
 use Rattle.model.specs.Reading.{tablesAt}
 use Rattle.model.specs.Frontiers.{Point}
 use Rattle.problem.specs.Records.{Whole, AllWhole}
@@ -31,7 +31,7 @@ abbrev pub coreAt : ℕ → List ℕ → List ℕ → List ℕ → ℕ → ℕ �
 coreAt p ceilings ds s at r =
     record { objectives = p; ceilings = take p ceilings; domains = ds; tables = coreTables (tablesAt r ds s at) }
 
--- what is asked for: accepted records, ceilings of the core, and work memory
+-- what is asked for: accepted records, and work memory
 pub record Accepted (p r at room : ℕ) (ceilings ds s work : List ℕ) : Type 0 where
   pub whole : AllWhole r ds s at
   pub small : All DomainSize ds
@@ -39,7 +39,6 @@ pub record Accepted (p r at room : ℕ) (ceilings ds s work : List ℕ) : Type 0
   pub objectives : p ≤ maxObjectives
   pub tables : r ≤ maxTables
   pub bytes : length s ≤ maxBytes
-  pub limited : All Ceiling ceilings
   pub room-small : room ≤ maxPoints
   pub memory : searchEnd ≤ length work
 

@@ -10,7 +10,7 @@ use Rattle.model.specs.Basics.{All}
 use Rattle.model.specs.Limits.{maxPoints, workNeed}
 use Rattle.model.specs.Problems.{Problem}
 use Rattle.model.specs.Frontiers.{Point, best}
-use Rattle.model.specs.Core.{Ceiling, coreCeilings, coreOf, withCeilings, coreFrontier}
+use Rattle.model.specs.Core.{coreCeilings, coreOf, withCeilings, coreFrontier}
 use Rattle.model.specs.Cuts.{sidesOk, uncrossed}
 use Rattle.model.specs.Views.{view}
 use Rattle.layout.specs.Layout.{searchEnd, firstRow, secondRow}
@@ -38,7 +38,6 @@ half-accepted a work′ long =
       objectives = a .objectives;
       tables = a .tables;
       bytes = a .bytes;
-      limited = a .limited;
       room-small = omega arith;
       memory = long;
     }
@@ -125,9 +124,6 @@ module _
             }
 
         module _ {wide : List ℕ} (same : wide ≡ coreCeilings ceilings) where
-          pub cut-limited : All Ceiling (take p wide)
-          cut-limited = rw same (all-take Ceiling p (coreCeilings ceilings) (a .limited))
-
           module _
               {three : List ℕ} {m : DF.Found}
               (merged : FoundSays p (length ds) (best (sumsIn p (length ds) wide two (f .count) (g .count)))

@@ -16,7 +16,7 @@ use Rattle.model.specs.Frontiers.{consistent, Point, frontier}
 use Rattle.model.specs.Bounds.{leastTo, leastFrom, leastOf}
 use Rattle.model.specs.Cuts.{sidesOk, crosses, uncrossed, inHalf, halfTable, halfTables, half}
 use Rattle.model.specs.Cuts.{pairOf, pairsWith, allPairs}
-use Rattle.model.specs.Core.{entryEnd, coreSumEnd, Ceiling, WordCeiling, entry, plain, weighed, coreTable, coreTables}
+use Rattle.model.specs.Core.{entryEnd, coreSumEnd, WordCeiling, entry, plain, weighed, coreTable, coreTables}
 use Rattle.model.specs.Core.{coreCeiling, coreCeilings, coreOf, coreConsistent, coreFrontier, CoreReached}
 use Rattle.model.proofs.Bits.{and-left, and-right}
 use Rattle.model.proofs.Elements.{all-at}
@@ -40,10 +40,6 @@ entry-limit x h = omega arith
 pub plain-entry : (x : ℕ) → x < wordEnd → plain (entry x) ≡ x
 unfolding entry plain
 plain-entry x h = refl
-
-pub core-ceiling : (c : ℕ) → c < wordEnd → Ceiling (coreCeiling c)
-unfolding coreCeiling
-core-ceiling c h = omega arith
 
 same-entries : (xs : List ℕ) → weighed xs ≡ xs
 unfolding weighed entry
@@ -144,11 +140,6 @@ pub core-sum : (o : ℕ) (f : Table → ℕ) (ts : List Table) → length ts ≤
 core-sum o f ts few each = omega (arith, total-limit o entryEnd f ts each)
 
 -- ## ceilings
-
-pub core-ceilings : (cs : List ℕ) → All Word cs → All Ceiling (coreCeilings cs)
-unfolding coreCeilings
-core-ceilings [] h = tt
-core-ceilings (c ∷ cs) h = (core-ceiling c (h .0), core-ceilings cs (h .1))
 
 pub take-ceilings : (p : ℕ) (cs : List ℕ) → take p (coreCeilings cs) ≡ coreCeilings (take p cs)
 unfolding coreCeilings

@@ -17,11 +17,8 @@ entryEnd = 1099511627776
 abbrev pub coreSumEnd : ℕ
 coreSumEnd = 281474976710656
 
--- a ceiling of the core: listed costs, which are below it, have four bytes each
-abbrev pub Ceiling : ℕ → Type 0
-Ceiling c = c ≤ wordEnd
-
--- a ceiling that is at most one more than a number of four bytes, as the corners of zones have
+-- a ceiling is any number of eight bytes; the second form of the search asks that the numbers below it have four, as the
+-- corners of its zones have
 abbrev pub WordCeiling : ℕ → Type 0
 WordCeiling c = c ≤ wordEnd
 

@@ -21,7 +21,7 @@ use Rattle.model.proofs.Bits.{and-left, and-right}
 use Rattle.model.proofs.Elements.{all-each, all-in, all-append, all-drop}
 use Rattle.model.proofs.Words.{length-wordsIn, words-below}
 use Rattle.model.proofs.Frontier.{frontier-best}
-use Rattle.model.proofs.Core.{core-frontier, core-ceilings}
+use Rattle.model.proofs.Core.{core-frontier}
 use Rattle.problem.specs.declared.Reading as DG
 use Rattle.problem.proofs.Accepted.{AcceptedReading}
 use Rattle.passes.specs.declared.Found as DF
@@ -94,7 +94,6 @@ module _ (s : List ℕ) (r : DG.Reading) (a : AcceptedReading s r) where
         objectives = a .few-objectives .1;
         tables = a .few-tables;
         bytes = a .short;
-        limited = core-ceilings (r .head .ceilings) (rw (a .ceilings) (all-append Word (wordsIn (headObjectives s) (drop 6 s)) (replicate (maxObjectives - length (wordsIn (headObjectives s) (drop 6 s))) 0) (words-below (headObjectives s) (drop 6 s) (all-drop Byte 6 s (all-each Byte 0 s bytes))) (all-zeros (maxObjectives - length (wordsIn (headObjectives s) (drop 6 s))))));
         room-small = small;
         memory = omega arith;
       }

@@ -35,7 +35,6 @@ module _ {p r : ℕ} {ceilings ds s was : List ℕ} (source : Source p r ceiling
           small = source .small;
           variables = source .variables;
           objectives = source .objectives;
-          limited = source .limited;
           long = omega (arith, left .1, source .long);
         }
 
