@@ -91,7 +91,7 @@ module _ {d : DD.Directions} {task : DT.Task} {ds s work : List ℕ} (h : Ready 
         unset = λ v l p. zeros-at (length ds) v;
         exact = is;
         small = λ j l.
-            let zeros = replicate (length ds) 0 in
+            let zeros : List ℕ = replicate (length ds) 0 in
             let limit = bound-limit (h .sound) zeros choice j l (h .planned) bytes 0 (omega arith) in
             omega (arith, is j l, limit);
       }
