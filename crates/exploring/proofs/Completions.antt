@@ -17,6 +17,7 @@ use Rattle.model.proofs.Choices.{choice-length}
 use Rattle.model.proofs.Totals.{totals-from-length}
 use Rattle.groups.specs.Groups.{tablesOver}
 use Rattle.groups.specs.Sources.{sourceIn}
+use Rattle.groups.specs.declared.Task as DT
 use Rattle.directions.specs.Directions.{directionsOf, widthOf}
 use Rattle.directions.specs.declared.Directions as DD
 use Rattle.directions.proofs.AtMostAt.{at-most-each}
@@ -28,9 +29,11 @@ use Rattle.buckets.proofs.Bounds.{bound-local, bound-below}
 use Rattle.exploring.specs.States.{problemOf, Partial}
 
 -- the costs of the searched problem's choices, by its records' places
-pub costs-over : (d : DD.Directions) (r : ℕ) (ceilings ds s work y : List ℕ) → costsOf (problemOf d r ceilings ds s work) y ≡ costsOver d ds s (sourceIn work r) y
+pub costs-over :
+    (d : DD.Directions) (task : DT.Task) (ds s work y : List ℕ) →
+    costsOf (problemOf d task ds s work) y ≡ costsOver d ds s (sourceIn work (task .records)) y
 unfolding costsOf totals
-costs-over d r ceilings ds s work y = refl
+costs-over d task ds s work y = refl
 
 pub costs-over-wide : (d : DD.Directions) (ds s places y : List ℕ) → length (directionsOf d (costsOver d ds s places y)) ≡ widthOf d
 costs-over-wide d ds s places y = directions-length d (costsOver d ds s places y) (totals-from-length (d .objectives) 0 (costOf ds y) (tablesOver ds s places))

@@ -21,7 +21,8 @@ use Rattle.model.proofs.Totals.{totals-from-length}
 use Rattle.groups.specs.Groups.{tablesOver}
 use Rattle.rows.specs.Rows.{listIn}
 use Rattle.groups.specs.Sources.{sourceIn}
-use Rattle.archive.specs.declared.Taken as DT
+use Rattle.groups.specs.declared.Task as DT
+use Rattle.archive.specs.declared.Taken as DA
 use Rattle.archive.specs.Says.{Meets, Takes}
 use Rattle.directions.specs.Directions.{maxDirections, directionsOf, widthOf, leadWeights, leadAt, Sensible}
 use Rattle.directions.specs.declared.Directions as DD
@@ -30,7 +31,7 @@ use Rattle.zones.specs.Zones.{zonesEnd, cornersIn, Measured, SplitAt}
 use Rattle.zones.proofs.ZoneRows.{corners-wide}
 use Rattle.buckets.specs.Bounds.{costsOver}
 use Rattle.buckets.proofs.Bounds.{bound-exact}
-use Rattle.pruning.specs.declared.Run as DR
+use Rattle.pruning.specs.declared.Progress as DP
 use Rattle.pruning.specs.Tests.{zonesOf}
 use Rattle.exploring.specs.declared.Node as DN
 use Rattle.exploring.specs.States.{planIn, archiveIn, problemOf, leaf, Completes, AllCovered}
@@ -42,30 +43,36 @@ use Rattle.exploring.proofs.Completions.{costs-over, costs-over-wide}
 use Rattle.exploring.proofs.Zoning.{zoned-split}
 
 -- with the leading weights by another name
-pub weighed : {p n room : ℕ} {ws us v x : List ℕ} {points limit : ℕ} {work : List ℕ} {t : DT.Taken} {work′ : List ℕ} → us ≡ ws → Takes p n room us v x points limit work t work′ → Takes p n room ws v x points limit work t work′
-weighed {p} {n} {room} {ws} {us} {v} {x} {points} {limit} {work} {t} {work′} e h = subst (λ (u : List ℕ). Takes p n room u v x points limit work t work′) e h
+pub weighed :
+    {p n room : ℕ} {ws us v x : List ℕ} {points limit : ℕ} {work : List ℕ} {t : DA.Taken} {work′ : List ℕ} →
+    us ≡ ws → Takes p n room us v x points limit work t work′ → Takes p n room ws v x points limit work t work′
+weighed {p} {n} {room} {ws} {us} {v} {x} {points} {limit} {work} {t} {work′} e h =
+    subst (λ (u : List ℕ). Takes p n room u v x points limit work t work′) e h
 
 -- a partial choice with no variable left
 pub leaf-standing :
-    {d : DD.Directions} {r room : ℕ} {ceilings ds s work : List ℕ} {run : DR.Run} {node : DN.Node} →
-    Standing d r room ceilings ds s work run node → node .depth ≡ length ds →
-    Standing d r room ceilings ds s work run (leaf ds (node .choice) (node .bound))
+    {d : DD.Directions} {task : DT.Task} {ds s work : List ℕ} {run : DP.Progress} {node : DN.Node} →
+    Standing d task ds s work run node → node .depth ≡ length ds →
+    Standing d task ds s work run (leaf ds (node .choice) (node .bound))
 leaf-standing {ds = ds} {node = node} h e = rw (is-leaf ds node e) at h
 
 module _
-    {d : DD.Directions} {r room : ℕ} {ceilings ds s work : List ℕ} {run : DR.Run} {values acc : List ℕ}
-    (h : Standing d r room ceilings ds s work run (leaf ds values acc)) (wide : maxDirections ≡ length acc) where
+    {d : DD.Directions} {task : DT.Task} {ds s work : List ℕ} {run : DP.Progress} {values acc : List ℕ}
+    (h : Standing d task ds s work run (leaf ds values acc)) (wide : maxDirections ≡ length acc) where
   abbrev problem : Problem
-  problem = problemOf d r ceilings ds s work
+  problem = problemOf d task ds s work
 
   abbrev x : List ℕ
   x = take (length ds) values
+
+  abbrev ceilings : List ℕ
+  ceilings = take (d .objectives) (task .ceilings)
 
   abbrev costs : List ℕ
   costs = take (d .objectives) acc
 
   abbrev source-costs : List ℕ
-  source-costs = costsOver d ds s (sourceIn work r) x
+  source-costs = costsOver d ds s (sourceIn work (task .records)) x
 
   sensible : Sensible d
   sensible = h .ready .planned .sensible
@@ -76,16 +83,18 @@ module _
   whole : take (widthOf d) acc ≡ directionsOf d source-costs
   whole =
       let long : length (take (widthOf d) acc) ≡ widthOf d = length-take-le (widthOf d) acc (omega (arith, width-few d sensible)) in
-      ext-getD 0 _ _ (long ∙ sym (costs-over-wide d ds s (sourceIn work r) x)) (λ j l. let m : j < widthOf d = omega arith in getD-take (widthOf d) acc j 0 m ∙ exact-at j m)
+      ext-getD 0 _ _ (long ∙ sym (costs-over-wide d ds s (sourceIn work (task .records)) x))
+      (λ j l.
+      let m : j < widthOf d = omega arith in getD-take (widthOf d) acc j 0 m ∙ exact-at j m)
 
   source-wide : length source-costs ≡ d .objectives
-  source-wide = totals-from-length (d .objectives) 0 (costOf ds x) (tablesOver ds s (sourceIn work r))
+  source-wide = totals-from-length (d .objectives) 0 (costOf ds x) (tablesOver ds s (sourceIn work (task .records)))
 
   in-front : costs ≡ source-costs
   in-front = sym (take-take (d .objectives) (widthOf d) acc (omega arith)) ∙ ap (λ (u : List ℕ). take (d .objectives) u) whole ∙ directions-costs d source-costs source-wide
 
   leaf-costs : costs ≡ costsOf problem x
-  leaf-costs = in-front ∙ sym (costs-over d r ceilings ds s work x)
+  leaf-costs = in-front ∙ sym (costs-over d task ds s work x)
 
   pub leaf-wide : length (take (d .objectives) acc) ≡ d .objectives
   leaf-wide = ap length in-front ∙ source-wide
@@ -119,27 +128,27 @@ module _
 
   -- over a ceiling
   pub over-covers :
-      under (take (d .objectives) acc) (take (d .objectives) ceilings) ≡ false →
+      under (take (d .objectives) acc) ceilings ≡ false →
       AllCovered problem d (Completes (planIn work) (length ds) (leaf ds values acc)) (archiveIn d (length ds) work run)
       (run .limit)
   over-covers o = leaf-covers _ _ (λ m. absurd (true-false (reached-under problem (point costs x) m) o))
 
-  leaf-reached : under costs (take (d .objectives) ceilings) ≡ true → Reached problem (point costs x)
+  leaf-reached : under costs ceilings ≡ true → Reached problem (point costs x)
   unfolding consistent
   leaf-reached u = record { complete = h .partial .choice; allowed = rw (← leaf-costs) u; exact = leaf-costs }
 
   -- taken in
   module _
-      (allowed : under (take (d .objectives) acc) (take (d .objectives) ceilings) ≡ true)
+      (allowed : under (take (d .objectives) acc) ceilings ≡ true)
       (early : getD acc (leadAt d) 0 < run .limit)
-      (v : List ℕ) (front : take (d .objectives) v ≡ take (d .objectives) acc) (t : DT.Taken) (work′ : List ℕ)
+      (v : List ℕ) (front : take (d .objectives) v ≡ take (d .objectives) acc) (t : DA.Taken) (work′ : List ℕ)
       (takes :
-      Takes (d .objectives) (length ds) room (leadWeights d) v values (run .points) (run .limit) work t
+      Takes (d .objectives) (length ds) (task .room) (leadWeights d) v values (run .points) (run .limit) work t
       work′) where
     abbrev taken : List Point
     taken = listIn (d .objectives) (length ds) work′ 0 (t .points)
 
-    abbrev run-after : ℕ → DR.Run
+    abbrev run-after : ℕ → DP.Progress
     run-after m = record { points = t .points; zones = m; limit = t .limit }
 
     same-point : point (take (d .objectives) v) x ≡ point costs x
@@ -150,18 +159,24 @@ module _
         let meets = subst (λ (y : Point). Meets (leadWeights d) (archiveIn d (length ds) work run) (run .limit) y taken (t .limit)) same-point (takes .meets) in
         meets problem (h .running .archived) (leaf-reached allowed) (omega (arith, leaf-lead))
 
-    zoned : Zoned (d .objectives) (take (d .objectives) ceilings) (leadWeights d) taken (t .limit) (cornersIn (d .objectives) (zonesOf work′) 0 (run .zones))
-    zoned = rw (framed-zones (takes .frame)) (zones-follow (d .objectives) (take (d .objectives) ceilings) (cornersIn (d .objectives) (zonesOf work) 0 (run .zones)) (met .1) (archived-wide (h .running .archived)) (archived-wide (met .0)) (h .running .zoned))
+    zoned :
+        Zoned (d .objectives) ceilings (leadWeights d) taken (t .limit)
+        (cornersIn (d .objectives) (zonesOf work′) 0 (run .zones))
+    zoned =
+        let corners = cornersIn (d .objectives) (zonesOf work) 0 (run .zones) in
+        rw (framed-zones (takes .frame))
+        (zones-follow (d .objectives) ceilings corners (met .1) (archived-wide (h .running .archived))
+        (archived-wide (met .0)) (h .running .zoned))
 
     measured : Measured d (zonesOf work′) (run .zones)
     measured = rw (framed-zones (takes .frame)) (h .running .measured)
 
     pub leaf-kept :
-        OpenedFrom d r room ceilings ds s (leaf ds values acc) work run work′
+        OpenedFrom d task ds s (leaf ds values acc) work run work′
         (record { points = t .points; zones = run .zones; limit = t .limit })
     leaf-kept =
         record {
-          still = framed-still (takes .frame) r (h .ready .planned .few);
+          still = framed-still (takes .frame) task (h .ready .planned .few);
           running = record { few = takes .few; archived = met .0; distinct = takes .distinct; measured = measured; zoned = zoned };
           follows = met .1;
           covered = leaf-covers taken (t .limit) (λ m. met .2);
@@ -175,15 +190,22 @@ module _
       inside : In (point costs x) taken
       inside = subst (λ (y : Point). In y taken) same-point (takes .stored added)
 
-      zoned-after : Zoned (d .objectives) (take (d .objectives) ceilings) (leadWeights d) taken (t .limit) (cornersIn (d .objectives) (zonesOf work″) 0 m)
-      zoned-after = zoned-split (d .objectives) (take (d .objectives) ceilings) (leadWeights d) taken (t .limit) (cornersIn (d .objectives) (zonesOf work′) 0 (run .zones)) (cornersIn (d .objectives) (zonesOf work″) 0 m) (corners-wide sensible measured) (point costs x) inside leaf-wide (rw front at parts) zoned
+      zoned-after :
+          Zoned (d .objectives) ceilings (leadWeights d) taken (t .limit)
+          (cornersIn (d .objectives) (zonesOf work″) 0 m)
+      zoned-after =
+          zoned-split (d .objectives) ceilings (leadWeights d) taken (t .limit)
+          (cornersIn (d .objectives) (zonesOf work′) 0 (run .zones)) (cornersIn (d .objectives) (zonesOf work″) 0 m)
+          (corners-wide sensible measured) (point costs x) inside leaf-wide (rw front at parts) zoned
 
       pub leaf-split :
-          OpenedFrom d r room ceilings ds s (leaf ds values acc) work run work″
+          OpenedFrom d task ds s (leaf ds values acc) work run work″
           (record { points = t .points; zones = m; limit = t .limit })
       leaf-split =
           record {
-            still = still-trans (framed-still (takes .frame) r (h .ready .planned .few)) (zones-still work′ work″ long behind r);
+            still =
+                still-trans (framed-still (takes .frame) task (h .ready .planned .few))
+                (zones-still work′ work″ long behind task);
             running = record { few = takes .few; archived = rw same-list (met .0); distinct = rw same-list (takes .distinct); measured = measured″; zoned = rw same-list zoned-after };
             follows = rw same-list (met .1);
             covered = rw same-list (leaf-covers taken (t .limit) (λ m. met .2));

@@ -19,13 +19,14 @@ use Rattle.rows.specs.Rows.{costsIn, valuesIn}
 use Rattle.rows.proofs.RowParts.{values-long}
 use Rattle.rows.proofs.RowPlaces.{listed-row}
 use Rattle.groups.specs.Sources.{sourceIn}
+use Rattle.groups.specs.declared.Task as DT
 use Rattle.directions.specs.Directions.{maxDirections, directionsOf, widthOf, leadWeights, leadAt}
 use Rattle.directions.specs.declared.Directions as DD
 use Rattle.directions.proofs.DirectionLaws.{directions-mono, directions-lead}
 use Rattle.zones.specs.Zones.{cornersIn}
 use Rattle.zones.proofs.ZoneRows.{listed-corner, corners-wide}
 use Rattle.buckets.specs.Bounds.{costsOver}
-use Rattle.pruning.specs.declared.Run as DR
+use Rattle.pruning.specs.declared.Progress as DP
 use Rattle.exploring.specs.declared.Node as DN
 use Rattle.exploring.specs.States.{planIn, archiveIn, problemOf, Completes, AllCovered, Standing, OpenedFrom}
 use Rattle.pruning.specs.Tests.{zonesOf, Untied, Dead}
@@ -34,10 +35,10 @@ use Rattle.directions.proofs.Widths.{lead-inside, width-few}
 use Rattle.exploring.proofs.Completions.{costs-over, costs-over-wide, completion-not-later, completion-bound, completion-above}
 
 module _
-    {d : DD.Directions} {r room : ℕ} {ceilings ds s work : List ℕ} {run : DR.Run} {node : DN.Node}
-    (h : Standing d r room ceilings ds s work run node) where
+    {d : DD.Directions} {task : DT.Task} {ds s work : List ℕ} {run : DP.Progress} {node : DN.Node}
+    (h : Standing d task ds s work run node) where
   abbrev problem : Problem
-  problem = problemOf d r ceilings ds s work
+  problem = problemOf d task ds s work
 
   abbrev archive : List Point
   archive = archiveIn d (length ds) work run
@@ -48,10 +49,10 @@ module _
   -- nothing was done, and nothing had to be
   pub opened-same :
       AllCovered problem d (Completes (planIn work) (length ds) node) archive (run .limit) →
-      OpenedFrom d r room ceilings ds s node work run work run
+      OpenedFrom d task ds s node work run work run
   opened-same c =
       record {
-        still = still-refl r work;
+        still = still-refl task work;
         running = h .running;
         follows = follows-refl (leadWeights d) archive (run .limit);
         covered = c;
@@ -59,10 +60,12 @@ module _
 
   module _ (y : Point) (m : Reached problem y) where
     -- its costs, by the records' places
-    exact : y .costs ≡ costsOver d ds s (sourceIn work r) (y .choice)
-    exact = m .exact ∙ costs-over d r ceilings ds s work (y .choice)
+    exact : y .costs ≡ costsOver d ds s (sourceIn work (task .records)) (y .choice)
+    exact = m .exact ∙ costs-over d task ds s work (y .choice)
 
-    pub lead-exact : getD (directionsOf d (costsOver d ds s (sourceIn work r) (y .choice))) (leadAt d) 0 ≡ weighted (leadWeights d) (y .costs)
+    pub lead-exact :
+        getD (directionsOf d (costsOver d ds s (sourceIn work (task .records)) (y .choice))) (leadAt d) 0
+        ≡ weighted (leadWeights d) (y .costs)
     lead-exact = rw (← exact) (directions-lead d (y .costs) (h .ready .planned .sensible) (reached-width problem y m))
 
   -- by the leading sum alone
@@ -103,7 +106,7 @@ module _
         let zones = cornersIn (d .objectives) (zonesOf work) 0 (run .zones) in
         let above : AtMost b (directionsOf d (y .costs)) =
         rw (exact y m) (completion-above (h .ready .sound) (h .partial) (y .choice) (m .complete) g enough) in
-        let wide-costs = costs-over-wide d ds s (sourceIn work r) (y .choice) in
+        let wide-costs = costs-over-wide d ds s (sourceIn work (task .records)) (y .choice) in
         let long : length b ≡ length (directionsOf d (y .costs)) =
         length-take-le (widthOf d) acc enough ∙ sym (rw (← exact y m) at wide-costs) in
         dead-covered (leadWeights d) archive (run .limit) zones (directionsOf d) (directions-mono d) (h .running .zoned)

@@ -13,6 +13,7 @@ use Rattle.groups.specs.Groups.{tablesOver}
 use Rattle.groups.proofs.Overwritten.{take-drop}
 use Rattle.rows.specs.Rows.{rowAt, costsIn, pointIn, listIn, Framed}
 use Rattle.groups.specs.Sources.{sourceIn}
+use Rattle.groups.specs.declared.Task as DT
 use Rattle.directions.specs.declared.Directions as DD
 use Rattle.zones.specs.Zones.{zonesEnd}
 use Rattle.buckets.specs.Content.{Planned}
@@ -20,25 +21,39 @@ use Rattle.buckets.specs.Sound.{Sound}
 use Rattle.pruning.specs.Tests.{zonesOf}
 use Rattle.exploring.specs.States.{planIn, problemOf, Ready, Still}
 
-pub still-refl : (r : ℕ) (work : List ℕ) → Still r work work
-still-refl r work = record { long = refl; plan = refl; source = refl }
+pub still-refl : (task : DT.Task) (work : List ℕ) → Still task work work
+still-refl task work = record { long = refl; plan = refl; source = refl }
 
-pub still-trans : {r : ℕ} {one two three : List ℕ} → Still r one two → Still r two three → Still r one three
+pub still-trans :
+    {task : DT.Task} {one two three : List ℕ} → Still task one two → Still task two three → Still task one three
 still-trans f g = record { long = g .long ∙ f .long; plan = g .plan ∙ f .plan; source = g .source ∙ f .source }
 
 -- the problem and what is relied on, of the memory after
-module _ {r : ℕ} {work work′ : List ℕ} (k : Still r work work′) (d : DD.Directions) (room : ℕ) (ceilings ds s : List ℕ) where
-  abbrev problem-over : List ℕ → Problem
-  problem-over places = record { objectives = d .objectives; ceilings = take (d .objectives) ceilings; domains = ds; tables = tablesOver ds s places }
+module _
+    {task : DT.Task} {work work′ : List ℕ} (k : Still task work work′) (d : DD.Directions) (ds s : List ℕ) where
+  abbrev r : ℕ
+  r = task .records
 
-  pub problem-still : problemOf d r ceilings ds s work′ ≡ problemOf d r ceilings ds s work
+  abbrev problem-over : List ℕ → Problem
+  problem-over places =
+      record {
+        objectives = d .objectives;
+        ceilings = take (d .objectives) (task .ceilings);
+        domains = ds;
+        tables = tablesOver ds s places;
+      }
+
+  pub problem-still : problemOf d task ds s work′ ≡ problemOf d task ds s work
   problem-still = ap problem-over (k .source)
 
-  pub ready-still : Ready d r room ceilings ds s work → Ready d r room ceilings ds s work′
+  pub ready-still : Ready d task ds s work → Ready d task ds s work′
   ready-still h =
       record {
-        sound = subst (λ (l : List ℕ). Sound d r ds s l (planIn work′)) (sym (k .source)) (subst (λ (l : List ℕ). Sound d r ds s (sourceIn work r) l) (sym (k .plan)) (h .sound));
+        sound =
+            subst (λ (l : List ℕ). Sound d r ds s l (planIn work′)) (sym (k .source))
+            (subst (λ (l : List ℕ). Sound d r ds s (sourceIn work r) l) (sym (k .plan)) (h .sound));
         planned = subst (λ (l : List ℕ). Planned d r ds s l) (sym (k .plan)) (h .planned);
+        objectives = h .objectives;
         some-variable = h .some-variable;
         words = h .words;
         room-small = h .room-small;
@@ -53,12 +68,15 @@ module _ {work work′ : List ℕ} (f : Framed work work′) where
   pub framed-zones : zonesOf work′ ≡ zonesOf work
   framed-zones = front zonesEnd (omega arith)
 
-  pub framed-still : (r : ℕ) → r ≤ maxTables → Still r work work′
-  framed-still r l =
+  pub framed-still : (task : DT.Task) → task .records ≤ maxTables → Still task work work′
+  framed-still task l =
       record {
         long = f .long;
         plan = f .behind;
-        source = take-drop r sourceAt work′ ∙ ap (λ (u : List ℕ). drop sourceAt u) (front (sourceAt + r) (omega arith)) ∙ sym (take-drop r sourceAt work);
+        source =
+            take-drop (task .records) sourceAt work′
+            ∙ ap (λ (u : List ℕ). drop sourceAt u) (front (sourceAt + task .records) (omega arith))
+            ∙ sym (take-drop (task .records) sourceAt work);
       }
 
 -- zones
@@ -68,8 +86,13 @@ module _ (work work′ : List ℕ) (long : length work′ ≡ length work) (behi
       let e : zonesEnd + (k - zonesEnd) ≡ k = omega arith in
       rw e at (sym (drop-drop (k - zonesEnd) zonesEnd work′) ∙ ap (λ (u : List ℕ). drop (k - zonesEnd) u) behind ∙ drop-drop (k - zonesEnd) zonesEnd work)
 
-  pub zones-still : (r : ℕ) → Still r work work′
-  zones-still r = record { long = long; plan = same-from listEnd (omega arith); source = ap (λ (u : List ℕ). take r u) (same-from sourceAt (omega arith)) }
+  pub zones-still : (task : DT.Task) → Still task work work′
+  zones-still task =
+      record {
+        long = long;
+        plan = same-from listEnd (omega arith);
+        source = ap (λ (u : List ℕ). take (task .records) u) (same-from sourceAt (omega arith));
+      }
 
   pub zones-costs : (p i : ℕ) → costsIn p work′ i ≡ costsIn p work i
   zones-costs p i = ap (λ (u : List ℕ). take p u) (same-from (rowAt i) (omega arith))

@@ -24,6 +24,9 @@ use Rattle.model.proofs.Archive.{archive-start, archived-wide}
 use Rattle.model.proofs.ArchiveEnd.{archive-frontier, archive-full}
 use Rattle.model.proofs.Sorting.{AllSized}
 use Rattle.model.proofs.Distinct.{sorted-length}
+use Rattle.groups.specs.Groups.{tablesOver}
+use Rattle.groups.specs.Sources.{sourceIn}
+use Rattle.groups.specs.declared.Task as DT
 use Rattle.rows.specs.Rows.{listIn, Framed}
 use Rattle.rows.proofs.RowParts.{rows-length}
 use Rattle.archive.specs.Changes.{maxWeight}
@@ -32,10 +35,11 @@ use Rattle.directions.specs.declared.Directions as DD
 use Rattle.directions.proofs.Directions.{the-type}
 use Rattle.buckets.specs.Bounds.{baseAt, boundAt}
 use Rattle.buckets.proofs.Bounds.{bound-limit}
-use Rattle.pruning.specs.declared.Run as DR
+use Rattle.pruning.specs.declared.Progress as DP
 use Rattle.exploring.specs.declared.Explored as DE
 use Rattle.exploring.specs.declared.Node as DN
-use Rattle.exploring.specs.States.{noLimit, planIn, archiveIn, problemOf, Ready, Running, Partial, Still}
+use Rattle.exploring.specs.States.{noLimit, planIn, archiveIn, problemOf, taskProblem}
+use Rattle.exploring.specs.States.{Ready, Running, Partial, Still}
 use Rattle.exploring.specs.States.{Standing, OpenedFrom, Between, Passed, ExploredSays}
 use Rattle.exploring.specs.Passes.{ZonesWritten, ZonesHold}
 use Rattle.exploring.proofs.Memory.{still-trans, problem-still, ready-still, framed-still, zones-still, zones-rows}
@@ -45,21 +49,37 @@ use Rattle.model.proofs.Zeros.{zeros-at, zeros-choice, front-zeros}
 abbrev pub rootNode : List ℕ → DN.Node
 rootNode b = record { depth = 0; choice = replicate maxVariables 0; bound = b }
 
-module _ {d : DD.Directions} {r room : ℕ} {ceilings ds s work : List ℕ} (h : Ready d r room ceilings ds s work) where
+module _ {d : DD.Directions} {task : DT.Task} {ds s work : List ℕ} (h : Ready d task ds s work) where
   abbrev problem : Problem
-  problem = problemOf d r ceilings ds s work
+  problem = problemOf d task ds s work
 
   sensible : Sensible d
   sensible = h .planned .sensible
 
+  -- what holds of the problem with the directions' objectives holds of the task's
+  of-task : (P : Problem → Type 0) → P problem → P (taskProblem task ds s work)
+  of-task P held =
+      let over : ℕ → Problem = λ p.
+      record {
+        objectives = p;
+        ceilings = take p (task .ceilings);
+        domains = ds;
+        tables = tablesOver ds s (sourceIn work (task .records));
+      } in
+      subst (λ (p : ℕ). P (over p)) (h .objectives) held
+
   -- ## the start
 
   -- nothing is archived before the first pass
-  pub first-between : Between problem d room (length ds) work 0
+  pub first-between : Between problem d task (length ds) work 0
   unfolding listIn
   first-between = record { few = omega arith; archived = archive-start problem (leadWeights d) noLimit; distinct = tt }
 
-  root-partial : (bytes : (at : ℕ) → getD s at 0 < byteEnd) (b : List ℕ) → ((j : ℕ) → j < widthOf d → getD b j 0 ≡ baseAt d ds s (planIn work) r (replicate (length ds) 0) j) → Partial d r ds s (planIn work) 0 (replicate (length ds) 0) b
+  root-partial :
+      (bytes : (at : ℕ) → getD s at 0 < byteEnd) (b : List ℕ) →
+      ((j : ℕ) → j < widthOf d →
+      getD b j 0 ≡ baseAt d ds s (planIn work) (task .records) (replicate (length ds) 0) j) →
+      Partial d (task .records) ds s (planIn work) 0 (replicate (length ds) 0) b
   unfolding boundAt
   root-partial bytes b is =
       let choice = zeros-choice ds (h .planned .small) in
@@ -68,123 +88,194 @@ module _ {d : DD.Directions} {r room : ℕ} {ceilings ds s work : List ℕ} (h :
         choice = choice;
         unset = λ v l p. zeros-at (length ds) v;
         exact = is;
-        small = λ j l. omega (arith, is j l, bound-limit (h .sound) (replicate (length ds) 0) choice j l (h .planned) bytes 0 (omega arith));
+        small = λ j l.
+            let zeros : List ℕ = replicate (length ds) 0 in
+            let limit = bound-limit (h .sound) zeros choice j l (h .planned) bytes 0 (omega arith) in
+            omega (arith, is j l, limit);
       }
 
   -- the zones are those that the archive leaves
-  module _ {points : ℕ} (between : Between problem d room (length ds) work points) {work′ : List ℕ} {m : ℕ} (written : ZonesWritten d work work′ m) (hold : ZonesHold d points ceilings work work′ m) where
-    abbrev run : DR.Run
+  module _
+      {points : ℕ} (between : Between problem d task (length ds) work points) {work′ : List ℕ} {m : ℕ}
+      (written : ZonesWritten d work work′ m) (hold : ZonesHold d points (task .ceilings) work work′ m) where
+    abbrev run : DP.Progress
     run = record { points = points; zones = m; limit = noLimit }
 
-    zones-kept : Still r work work′
-    zones-kept = zones-still work work′ (written .long) (written .behind) r
+    zones-kept : Still task work work′
+    zones-kept = zones-still work work′ (written .long) (written .behind) task
 
     same-points : archiveIn d (length ds) work′ run ≡ listIn (d .objectives) (length ds) work 0 points
     same-points = zones-rows work work′ (written .long) (written .behind) (d .objectives) (length ds) 0 points
 
-    running : Running problem d room (length ds) work′ run
-    running = record { few = between .few; archived = rw same-points (between .archived); distinct = rw same-points (between .distinct); measured = written .measured; zoned = rw same-points (hold (length ds) noLimit (leadWeights d)) }
+    running : Running problem d task (length ds) work′ run
+    running =
+        record {
+          few = between .few;
+          archived = rw same-points (between .archived);
+          distinct = rw same-points (between .distinct);
+          measured = written .measured;
+          zoned = rw same-points (hold (length ds) noLimit (leadWeights d));
+        }
 
     pub root-standing :
         ((at : ℕ) → getD s at 0 < byteEnd) → (b : List ℕ) →
-        ((j : ℕ) → j < widthOf d → getD b j 0 ≡ baseAt d ds s (planIn work′) r (replicate (length ds) 0) j) →
-        Standing d r room ceilings ds s work′ (record { points = points; zones = m; limit = noLimit }) (rootNode b)
+        ((j : ℕ) → j < widthOf d →
+        getD b j 0 ≡ baseAt d ds s (planIn work′) (task .records) (replicate (length ds) 0) j) →
+        Standing d task ds s work′ (record { points = points; zones = m; limit = noLimit }) (rootNode b)
     root-standing bytes b is =
         let zeros : take {A = ℕ} (length ds) (replicate maxVariables 0) ≡ replicate (length ds) 0 =
         front-zeros (length ds) maxVariables (h .planned .variables) in
         record {
-          ready = ready-still zones-kept d room ceilings ds s h;
+          ready = ready-still zones-kept d ds s h;
           running =
-              subst (λ (q : Problem). Running q d room (length ds) work′ run)
-              (sym (problem-still zones-kept d room ceilings ds s)) running;
+              subst (λ (q : Problem). Running q d task (length ds) work′ run)
+              (sym (problem-still zones-kept d ds s)) running;
           partial = rw (zeros, zones-kept .plan) (root-partial bytes b (rw (zones-kept .plan) at is));
         }
 
     -- every choice completes the empty one
     pub root-passed :
-        (b work″ : List ℕ) (run″ : DR.Run) →
-        OpenedFrom d r room ceilings ds s (rootNode b) work′ (record { points = points; zones = m; limit = noLimit })
+        (b work″ : List ℕ) (run″ : DP.Progress) →
+        OpenedFrom d task ds s (rootNode b) work′ (record { points = points; zones = m; limit = noLimit })
         work″ run″ →
-        Passed (problemOf d r ceilings ds s work) d r room (length ds) work work″ run″
+        Passed (problemOf d task ds s work) d task (length ds) work work″ run″
     root-passed b work″ run″ o =
         record {
           still = still-trans zones-kept (o .still);
-          running = subst (λ (q : Problem). Running q d room (length ds) work″ run″) same-problem (o .running);
+          running = subst (λ (q : Problem). Running q d task (length ds) work″ run″) same-problem (o .running);
           covered = λ y m′.
               o .covered y (subst (λ (q : Problem). Reached q y) (sym same-problem) m′) (λ v l p. absurd (omega arith));
         }
       where
-        same-problem : problemOf d r ceilings ds s work′ ≡ problem
-        same-problem = problem-still zones-kept d room ceilings ds s
+        same-problem : problemOf d task ds s work′ ≡ problem
+        same-problem = problem-still zones-kept d ds s
 
   -- ## the end
 
   -- sums of consistent choices are below the limit while nothing is left out
-  module _ (four : d .objectives ≤ length ceilings) where
+  module _ (four : d .objectives ≤ length (task .ceilings)) where
     sum-below : (y : Point) → Reached problem y → weighted (leadWeights d) (y .costs) < noLimit
     sum-below y m =
         let p = d .objectives in
         let wide : length (y .costs) ≡ p = reached-width problem y m in
-        let words : All Word (y .costs) = under-words (y .costs) (take p ceilings) (wide ∙ sym (length-take-le p ceilings four)) (reached-under problem y m) (all-take Word p ceilings (h .words)) in
-        let weights : All (λ w. w ≤ maxWeight) (leadWeights d) = all-take (λ w. w ≤ maxWeight) p (drop (4 * 0) (d .weights)) (all-drop (λ w. w ≤ maxWeight) (4 * 0) (d .weights) (sensible .small)) in
-        omega (arith, weighted-limit maxWeight wordEnd (leadWeights d) (y .costs) weights words, mul-le-mul-right (maxWeight * wordEnd) (sensible .few))
+        let long = wide ∙ sym (length-take-le p (task .ceilings) four) in
+        let limits = all-take Word p (task .ceilings) (h .words) in
+        let words : All Word (y .costs) =
+        under-words (y .costs) (take p (task .ceilings)) long (reached-under problem y m) limits in
+        let small = all-drop (λ w. w ≤ maxWeight) (4 * 0) (d .weights) (sensible .small) in
+        let weights : All (λ w. w ≤ maxWeight) (leadWeights d) =
+        all-take (λ w. w ≤ maxWeight) p (drop (4 * 0) (d .weights)) small in
+        let limit = weighted-limit maxWeight wordEnd (leadWeights d) (y .costs) weights words in
+        omega (arith, limit, mul-le-mul-right (maxWeight * wordEnd) (sensible .few))
 
-    module _ {work′ : List ℕ} {run : DR.Run} (passed : Passed (problemOf d r ceilings ds s work) d r room (length ds) work work′ run) where
+    module _
+        {work′ : List ℕ} {run : DP.Progress}
+        (passed : Passed (problemOf d task ds s work) d task (length ds) work work′ run) where
       abbrev archive : List Point
       archive = archiveIn d (length ds) work′ run
 
       sized : AllSized (d .objectives) (length ds) archive
-      sized a i = (archived-wide (passed .running .archived) a i, reached-length problem a (passed .running .archived .reached a i))
+      sized a i =
+          let reached = passed .running .archived .reached a i in
+          (archived-wide (passed .running .archived) a i, reached-length problem a reached)
 
-      pub passed-between : Between (problemOf d r ceilings ds s work) d room (length ds) work′ (run .points)
+      pub passed-between : Between (problemOf d task ds s work) d task (length ds) work′ (run .points)
       passed-between =
           record {
             few = passed .running .few;
-            archived = record { reached = passed .running .archived .reached; apart = passed .running .archived .apart; within = λ a i. omega (arith, sum-below a (passed .running .archived .reached a i)) };
+            archived =
+                record {
+                  reached = passed .running .archived .reached;
+                  apart = passed .running .archived .apart;
+                  within = λ a i. omega (arith, sum-below a (passed .running .archived .reached a i));
+                };
             distinct = passed .running .distinct;
           }
 
       -- more points than room
-      pub passed-full : length (d .weights) ≡ 16 → room < run .points → ExploredSays (d .objectives) (length ds) (frontier (problemOf d r ceilings ds s work)) room r work work′ (record { decided = true; full = true; count = 0 })
+      pub passed-full :
+          length (d .weights) ≡ 16 → task .room < run .points →
+          ExploredSays task (length ds) (frontier (taskProblem task ds s work)) work work′
+          (record { decided = true; full = true; count = 0 })
       passed-full weights more =
-          let long : length (leadWeights d) ≡ d .objectives = length-take-le (d .objectives) (drop (4 * 0) (d .weights)) (omega (arith, sensible .few)) in
-          let held = archive-full (passed .running .archived) (passed .covered) (omega arith) (sensible .every) (passed .running .distinct) in
+          let long : length (leadWeights d) ≡ d .objectives =
+          length-take-le (d .objectives) (drop (4 * 0) (d .weights)) (omega (arith, sensible .few)) in
+          let held =
+          archive-full (passed .running .archived) (passed .covered) (omega arith) (sensible .every)
+          (passed .running .distinct) in
+          let rows = rows-length (d .objectives) (length ds) work′ 0 (run .points) in
+          let longer : task .room < length (frontier problem) = omega (arith, held, rows) in
           record {
-            full = λ e. sym (lt-ltb room (length (frontier problem)) (omega (arith, held, rows-length (d .objectives) (length ds) work′ 0 (run .points))));
+            full = λ e. sym (lt-ltb (task .room) _ (of-task (λ q. task .room < length (frontier q)) longer));
             count = λ e. refl;
             list = λ e f. absurd (true-false refl f);
             still = passed .still;
           }
 
       -- nothing was left out
-      pub passed-list : run .points ≤ room → run .limit ≡ noLimit → (work″ : List ℕ) → Framed work′ work″ → (Distinct (listIn (d .objectives) (length ds) work′ 0 (run .points)) → listIn (d .objectives) (length ds) work″ 0 (run .points) ≡ sorted (listIn (d .objectives) (length ds) work′ 0 (run .points))) → ExploredSays (d .objectives) (length ds) (frontier (problemOf d r ceilings ds s work)) room r work work″ (record { decided = true; full = false; count = run .points })
+      pub passed-list :
+          run .points ≤ task .room → run .limit ≡ noLimit → (work″ : List ℕ) → Framed work′ work″ →
+          (Distinct (listIn (d .objectives) (length ds) work′ 0 (run .points)) →
+          listIn (d .objectives) (length ds) work″ 0 (run .points)
+          ≡ sorted (listIn (d .objectives) (length ds) work′ 0 (run .points))) →
+          ExploredSays task (length ds) (frontier (taskProblem task ds s work)) work work″
+          (record { decided = true; full = false; count = run .points })
       passed-list few none work″ framed order =
-          let is : sorted archive ≡ frontier problem = archive-frontier (passed .running .archived) (passed .covered) (λ y m. rw none (sum-below y m)) in
-          let long : length (frontier problem) ≡ run .points = sym (ap length is) ∙ sorted-length (d .objectives) (length ds) archive sized (passed .running .distinct) ∙ rows-length (d .objectives) (length ds) work′ 0 (run .points) in
+          let distinct = passed .running .distinct in
+          let is : sorted archive ≡ frontier problem =
+          archive-frontier (passed .running .archived) (passed .covered) (λ y m. rw none (sum-below y m)) in
+          let sorts = sorted-length (d .objectives) (length ds) archive sized distinct in
+          let rows = rows-length (d .objectives) (length ds) work′ 0 (run .points) in
+          let long : length (frontier (taskProblem task ds s work)) ≡ run .points =
+          of-task (λ q. length (frontier q) ≡ run .points) (sym (ap length is) ∙ sorts ∙ rows) in
           record {
-            full = λ e. sym (le-ltb room (length (frontier problem)) (omega arith));
+            full = λ e. sym (le-ltb (task .room) (length (frontier (taskProblem task ds s work))) (omega arith));
             count = λ e. sym long;
-            list = λ e f. order (passed .running .distinct) ∙ is;
-            still = still-trans (passed .still) (framed-still framed r (h .planned .few));
+            list = λ e f.
+                of-task (λ q. listIn (q .objectives) (length ds) work″ 0 (run .points) ≡ frontier q)
+                (order distinct ∙ is);
+            still = still-trans (passed .still) (framed-still framed task (h .planned .few));
           }
 
 -- of memory that is still what it was
-module _ {r : ℕ} {work work′ : List ℕ} (k : Still r work work′) (d : DD.Directions) (room : ℕ) (ceilings ds s : List ℕ) where
-  pub between-still : (q : List ℕ) (points : ℕ) → Between (problemOf d r ceilings ds s work′) d room (length ds) q points → Between (problemOf d r ceilings ds s work) d room (length ds) q points
-  between-still q points h = subst (λ (u : Problem). Between u d room (length ds) q points) (problem-still k d room ceilings ds s) h
+module _
+    {task : DT.Task} {work work′ : List ℕ} (k : Still task work work′) (d : DD.Directions) (ds s : List ℕ) where
+  pub between-still :
+      (q : List ℕ) (points : ℕ) → Between (problemOf d task ds s work′) d task (length ds) q points →
+      Between (problemOf d task ds s work) d task (length ds) q points
+  between-still q points h =
+      subst (λ (u : Problem). Between u d task (length ds) q points) (problem-still k d ds s) h
 
-  pub between-later : (q : List ℕ) (points : ℕ) → Between (problemOf d r ceilings ds s work) d room (length ds) q points → Between (problemOf d r ceilings ds s work′) d room (length ds) q points
-  between-later q points h = subst (λ (u : Problem). Between u d room (length ds) q points) (sym (problem-still k d room ceilings ds s)) h
+  pub between-later :
+      (q : List ℕ) (points : ℕ) → Between (problemOf d task ds s work) d task (length ds) q points →
+      Between (problemOf d task ds s work′) d task (length ds) q points
+  between-later q points h =
+      subst (λ (u : Problem). Between u d task (length ds) q points) (sym (problem-still k d ds s)) h
 
-  pub explored-still : (work″ : List ℕ) (e : DE.Explored) → ExploredSays (d .objectives) (length ds) (frontier (problemOf d r ceilings ds s work′)) room r work′ work″ e → ExploredSays (d .objectives) (length ds) (frontier (problemOf d r ceilings ds s work)) room r work work″ e
-  explored-still work″ e h =
-      let g = subst (λ (u : Problem). ExploredSays (d .objectives) (length ds) (frontier u) room r work′ work″ e) (problem-still k d room ceilings ds s) h in
-      record { full = g .full; count = g .count; list = g .list; still = still-trans k (g .still) }
+-- and what is found in it is found in the memory before
+pub explored-still :
+    {task : DT.Task} {work work′ : List ℕ} → Still task work work′ →
+    (ds s work″ : List ℕ) (e : DE.Explored) →
+    ExploredSays task (length ds) (frontier (taskProblem task ds s work′)) work′ work″ e →
+    ExploredSays task (length ds) (frontier (taskProblem task ds s work)) work work″ e
+explored-still {task} {work} {work′} k ds s work″ e h =
+    let same : taskProblem task ds s work′ ≡ taskProblem task ds s work = rw (k .source) in
+    let g =
+    subst (λ (u : Problem). ExploredSays task (length ds) (frontier u) work′ work″ e) same h in
+    record { full = g .full; count = g .count; list = g .list; still = still-trans k (g .still) }
 
 -- the weights are sixteen in any value
 pub weights-long : (d : DD.Directions) (vs : List Val) → Is (row the-type) d vs → length (d .weights) ≡ 16
 weights-long d vs h = sym (length-map (d .weights) (λ v. v)) ∙ h .1 .1 .1 .1 .0 .1 .0 .1
 
 -- no pass ended it
-pub undecided : (p n : ℕ) (fs : List Point) (room r : ℕ) (work work′ : List ℕ) → Still r work work′ → ExploredSays p n fs room r work work′ (record { decided = false; full = false; count = 0 })
-undecided p n fs room r work work′ k = record { full = λ e. absurd (true-false e refl); count = λ e. absurd (true-false e refl); list = λ e f. absurd (true-false e refl); still = k }
+pub undecided :
+    (task : DT.Task) (n : ℕ) (fs : List Point) (work work′ : List ℕ) → Still task work work′ →
+    ExploredSays task n fs work work′ (record { decided = false; full = false; count = 0 })
+undecided task n fs work work′ k =
+    record {
+      full = λ e. absurd (true-false e refl);
+      count = λ e. absurd (true-false e refl);
+      list = λ e f. absurd (true-false e refl);
+      still = k;
+    }

@@ -12,6 +12,7 @@ use Rattle.model.specs.Basics.{when}
 use Rattle.model.specs.Limits.{maxDomain}
 use Rattle.model.specs.Problems.{Problem}
 use Rattle.model.specs.Frontiers.{Point}
+use Rattle.groups.specs.declared.Task as DT
 use Rattle.model.specs.Archive.{Archived, Follows}
 use Rattle.model.proofs.Frontier.{reached-width}
 use Rattle.model.proofs.Archive.{archived-wide, covered-follows, follows-refl, follows-trans}
@@ -21,7 +22,7 @@ use Rattle.directions.specs.declared.Directions as DD
 use Rattle.buckets.specs.Places.{orderIn}
 use Rattle.buckets.specs.Bounds.{Agree, boundAt}
 use Rattle.buckets.proofs.Bounds.{bound-local, bound-below}
-use Rattle.pruning.specs.declared.Run as DR
+use Rattle.pruning.specs.declared.Progress as DP
 use Rattle.exploring.specs.declared.Node as DN
 use Rattle.exploring.specs.States.{noLimit, planIn, archiveIn, problemOf}
 use Rattle.exploring.specs.States.{Running, Partial, Completes, Still, AllCovered, Standing, OpenedFrom, Opened}
@@ -48,35 +49,37 @@ follows-covers q d among h h′ f c y m g = covered-follows (q .objectives) f (a
 
 -- the completions with the value a are covered
 abbrev ValueCovered :
-    DD.Directions → ℕ → List ℕ → List ℕ → List ℕ → List ℕ → DN.Node → ℕ → List ℕ → DR.Run → Type 0
-ValueCovered d r ceilings ds s work node a work′ run′ =
-    AllCovered (problemOf d r ceilings ds s work) d
+    (d : DD.Directions) (task : DT.Task) (ds s work : List ℕ) (node : DN.Node) (a : ℕ) (work′ : List ℕ)
+    (run′ : DP.Progress) → Type 0
+ValueCovered d task ds s work node a work′ run′ =
+    AllCovered (problemOf d task ds s work) d
     (Agree (planIn work) (node .depth + 1) (withNext (planIn work) (length ds) node a))
     (archiveIn d (length ds) work′ run′) (run′ .limit)
 
 -- the leading sum of the bound with the value a
-abbrev pub leadWith : DD.Directions → ℕ → List ℕ → List ℕ → List ℕ → DN.Node → ℕ → ℕ
-leadWith d r ds s plan node a = boundAt d ds s plan r (node .depth + 1) (withNext plan (length ds) node a) (leadAt d)
+abbrev pub leadWith : (d : DD.Directions) (task : DT.Task) (ds s plan : List ℕ) (node : DN.Node) (a : ℕ) → ℕ
+leadWith d task ds s plan node a =
+    boundAt d ds s plan (task .records) (node .depth + 1) (withNext plan (length ds) node a) (leadAt d)
 
 -- so far: the values whose leads are the bounds' are left
 pub record Trying
-    (d : DD.Directions) (r room : ℕ) (ceilings ds s work : List ℕ) (run : DR.Run) (node : DN.Node)
-    (work′ : List ℕ) (run′ : DR.Run) (leads : List ℕ) : Type 0 where
-  pub still : Still r work work′
-  pub running : Running (problemOf d r ceilings ds s work) d room (length ds) work′ run′
+    (d : DD.Directions) (task : DT.Task) (ds s work : List ℕ) (run : DP.Progress) (node : DN.Node)
+    (work′ : List ℕ) (run′ : DP.Progress) (leads : List ℕ) : Type 0 where
+  pub still : Still task work work′
+  pub running : Running (problemOf d task ds s work) d task (length ds) work′ run′
   pub follows :
       Follows (leadWeights d) (archiveIn d (length ds) work run) (run .limit)
       (archiveIn d (length ds) work′ run′) (run′ .limit)
   pub long : length leads ≡ maxDomain
   pub each :
       (a : ℕ) → a < getD ds (orderIn (planIn work) (node .depth)) 0 →
-      ValueCovered d r ceilings ds s work node a work′ run′ ⊎ (getD leads a 0 ≡ leadWith d r ds s (planIn work) node a)
+      ValueCovered d task ds s work node a work′ run′ ⊎ (getD leads a 0 ≡ leadWith d task ds s (planIn work) node a)
 
 module _
-    {d : DD.Directions} {r room : ℕ} {ceilings ds s work : List ℕ} {run : DR.Run} {node : DN.Node}
-    (h : Standing d r room ceilings ds s work run node) where
+    {d : DD.Directions} {task : DT.Task} {ds s work : List ℕ} {run : DP.Progress} {node : DN.Node}
+    (h : Standing d task ds s work run node) where
   abbrev problem : Problem
-  problem = problemOf d r ceilings ds s work
+  problem = problemOf d task ds s work
 
   abbrev plan : List ℕ
   plan = planIn work
@@ -87,11 +90,11 @@ module _
   pub trying-start :
       (leads : List ℕ) → length leads ≡ maxDomain →
       ((a : ℕ) → a < getD ds (orderIn (planIn work) (node .depth)) 0 →
-      getD leads a 0 ≡ leadWith d r ds s (planIn work) node a) →
-      Trying d r room ceilings ds s work run node work run leads
+      getD leads a 0 ≡ leadWith d task ds s (planIn work) node a) →
+      Trying d task ds s work run node work run leads
   trying-start leads long is =
       record {
-        still = still-refl r work;
+        still = still-refl task work;
         running = h .running;
         follows = follows-refl (leadWeights d) (archiveIn d (length ds) work run) (run .limit);
         long = long;
@@ -99,27 +102,28 @@ module _
       }
 
   module _
-      {work′ : List ℕ} {run′ : DR.Run} {leads : List ℕ}
-      (t : Trying d r room ceilings ds s work run node work′ run′ leads) where
+      {work′ : List ℕ} {run′ : DP.Progress} {leads : List ℕ}
+      (t : Trying d task ds s work run node work′ run′ leads) where
     -- what trying a value asks
     pub trying-standing :
         (a : ℕ) (b : List ℕ) (next : DN.Node) → Extends (planIn work) (length ds) node a b next →
-        Partial d r ds s (planIn work) (node .depth + 1) (withNext (planIn work) (length ds) node a) b →
-        Standing d r room ceilings ds s work′ run′ next
+        Partial d (task .records) ds s (planIn work) (node .depth + 1)
+        (withNext (planIn work) (length ds) node a) b →
+        Standing d task ds s work′ run′ next
     trying-standing a b next e p =
         record {
-          ready = ready-still (t .still) d room ceilings ds s (h .ready);
+          ready = ready-still (t .still) d ds s (h .ready);
           running =
-              subst (λ (q : Problem). Running q d room (length ds) work′ run′)
-              (sym (problem-still (t .still) d room ceilings ds s)) (t .running);
+              subst (λ (q : Problem). Running q d task (length ds) work′ run′)
+              (sym (problem-still (t .still) d ds s)) (t .running);
           partial = rw (t .still .plan, e .deeper, e .chosen, e .bounded) p;
         }
 
     -- and what it leaves
     pub trying-next :
         (a : ℕ) (b : List ℕ) (next : DN.Node) → Extends (planIn work) (length ds) node a b next →
-        (work″ : List ℕ) (run″ : DR.Run) → OpenedFrom d r room ceilings ds s next work′ run′ work″ run″ →
-        Trying d r room ceilings ds s work run node work″ run″ (set leads a noLimit)
+        (work″ : List ℕ) (run″ : DP.Progress) → OpenedFrom d task ds s next work′ run′ work″ run″ →
+        Trying d task ds s work run node work″ run″ (set leads a noLimit)
     trying-next a b next e work″ run″ o =
         record {
           still = still-trans (t .still) (opened .still);
@@ -133,20 +137,20 @@ module _
               ⊎-elim (λ (i : c ≡ a). inl (rw i covered)) (λ (n : c ≡ a → ⊥). other c n (t .each c l)) (equal-or c a);
         }
       where
-        opened : Opened problem d r room (length ds) plan next work′ run′ work″ run″
+        opened : Opened problem d task (length ds) plan next work′ run′ work″ run″
         opened =
-            subst (λ (l : List ℕ). Opened problem d r room (length ds) l next work′ run′ work″ run″) (t .still .plan)
-            (subst (λ (q : Problem). Opened q d r room (length ds) (planIn work′) next work′ run′ work″ run″)
-            (problem-still (t .still) d room ceilings ds s) o)
+            subst (λ (l : List ℕ). Opened problem d task (length ds) l next work′ run′ work″ run″) (t .still .plan)
+            (subst (λ (q : Problem). Opened q d task (length ds) (planIn work′) next work′ run′ work″ run″)
+            (problem-still (t .still) d ds s) o)
 
-        covered : ValueCovered d r ceilings ds s work node a work″ run″
+        covered : ValueCovered d task ds s work node a work″ run″
         covered = rw (e .deeper, e .chosen) at (opened .covered)
 
         other :
             (c : ℕ) → (c ≡ a → ⊥) →
-            ValueCovered d r ceilings ds s work node c work′ run′ ⊎ (getD leads c 0 ≡ leadWith d r ds s plan node c) →
-            ValueCovered d r ceilings ds s work node c work″ run″
-            ⊎ (getD (set leads a noLimit) c 0 ≡ leadWith d r ds s plan node c)
+            ValueCovered d task ds s work node c work′ run′ ⊎ (getD leads c 0 ≡ leadWith d task ds s plan node c) →
+            ValueCovered d task ds s work node c work″ run″
+            ⊎ (getD (set leads a noLimit) c 0 ≡ leadWith d task ds s plan node c)
         other c n (inl f) =
             inl
             (follows-covers problem d (Agree plan (node .depth + 1) (withNext plan (length ds) node c))
@@ -157,7 +161,7 @@ module _
     pub trying-end :
         node .depth < length ds → (a : ℕ) →
         ((b : ℕ) → b < getD ds (orderIn (planIn work) (node .depth)) 0 → getD leads a 0 ≤ getD leads b 0) →
-        run′ .limit ≤ getD leads a 0 → OpenedFrom d r room ceilings ds s node work run work′ run′
+        run′ .limit ≤ getD leads a 0 → OpenedFrom d task ds s node work run work′ run′
     trying-end inside a least late =
         record { still = t .still; running = t .running; follows = t .follows; covered = covers }
       where
@@ -171,7 +175,7 @@ module _
             let agree = value-agree sound (h .partial) inside (y .choice) (m .complete) g in
             ⊎-elim
             (λ c. c y m agree)
-            (λ (e : getD leads b 0 ≡ leadWith d r ds s plan node b).
+            (λ (e : getD leads b 0 ≡ leadWith d task ds s plan node b).
             let lead = lead-inside d (h .ready .planned .sensible) in
             let choice = with-choice sound (h .partial) inside b l in
             let k = node .depth + 1 in

@@ -14,7 +14,9 @@ use Rattle.model.specs.Frontiers.{Point, Reached}
 use Rattle.model.specs.Archive.{Covered, Archived, Distinct, Follows, Zoned}
 use Rattle.groups.specs.Layout.{listEnd}
 use Rattle.rows.specs.Rows.{listIn}
+use Rattle.groups.specs.Groups.{tablesOver}
 use Rattle.groups.specs.Sources.{sourceIn, sourceProblem}
+use Rattle.groups.specs.declared.Task as DT
 use Rattle.directions.specs.Directions.{directionEnd, widthOf, leadWeights}
 use Rattle.directions.specs.declared.Directions as DD
 use Rattle.zones.specs.Zones.{cornersIn, Measured}
@@ -22,7 +24,7 @@ use Rattle.buckets.specs.Places.{positionIn, numbersAt}
 use Rattle.buckets.specs.Bounds.{boundAt, Agree}
 use Rattle.buckets.specs.Content.{Planned}
 use Rattle.buckets.specs.Sound.{Sound}
-use Rattle.pruning.specs.declared.Run as DR
+use Rattle.pruning.specs.declared.Progress as DP
 use Rattle.pruning.specs.Tests.{zonesOf}
 use Rattle.exploring.specs.declared.Node as DN
 use Rattle.exploring.specs.declared.Explored as DE
@@ -31,29 +33,41 @@ use Rattle.exploring.specs.declared.Explored as DE
 abbrev pub planIn : List ℕ → List ℕ
 planIn work = drop listEnd work
 
-abbrev pub archiveIn : DD.Directions → ℕ → List ℕ → DR.Run → List Point
+abbrev pub archiveIn : DD.Directions → ℕ → List ℕ → DP.Progress → List Point
 archiveIn d n work run = listIn (d .objectives) n work 0 (run .points)
 
--- the problem that is searched
-abbrev pub problemOf : DD.Directions → ℕ → List ℕ → List ℕ → List ℕ → List ℕ → Problem
-problemOf d r ceilings ds s work = sourceProblem (d .objectives) r ceilings ds s work
+-- the problem that is searched, with the directions' objectives, which are as many as the task's
+abbrev pub problemOf : DD.Directions → DT.Task → List ℕ → List ℕ → List ℕ → Problem
+problemOf d task ds s work =
+    record {
+      objectives = d .objectives;
+      ceilings = take (d .objectives) (task .ceilings);
+      domains = ds;
+      tables = tablesOver ds s (sourceIn work (task .records));
+    }
+
+-- and with the task's
+abbrev pub taskProblem : DT.Task → List ℕ → List ℕ → List ℕ → Problem
+taskProblem task ds s work = sourceProblem (task .objectives) (task .records) (task .ceilings) ds s work
 
 -- the limit while nothing is left out: no sum is as large
 abbrev pub noLimit : ℕ
 noLimit = 18446744073709551615
 
 -- what does not change while a search runs
-pub record Ready (d : DD.Directions) (r room : ℕ) (ceilings ds s work : List ℕ) : Type 0 where
-  pub sound : Sound d r ds s (sourceIn work r) (planIn work)
-  pub planned : Planned d r ds s (planIn work)
+pub record Ready (d : DD.Directions) (task : DT.Task) (ds s work : List ℕ) : Type 0 where
+  pub sound : Sound d (task .records) ds s (sourceIn work (task .records)) (planIn work)
+  pub planned : Planned d (task .records) ds s (planIn work)
+  pub objectives : d .objectives ≡ task .objectives
   pub some-variable : 1 ≤ length ds
-  pub words : All Word ceilings
-  pub room-small : room ≤ maxPoints
+  pub words : All Word (task .ceilings)
+  pub room-small : task .room ≤ maxPoints
   pub long : listEnd + numbersAt ≤ length work
 
 -- the archive and the zones
-pub record Running (q : Problem) (d : DD.Directions) (room n : ℕ) (work : List ℕ) (run : DR.Run) : Type 0 where
-  pub few : run .points ≤ room + 1
+pub record Running
+    (q : Problem) (d : DD.Directions) (task : DT.Task) (n : ℕ) (work : List ℕ) (run : DP.Progress) : Type 0 where
+  pub few : run .points ≤ task .room + 1
   pub archived : Archived q (leadWeights d) (archiveIn d n work run) (run .limit)
   pub distinct : Distinct (archiveIn d n work run)
   pub measured : Measured d (zonesOf work) (run .zones)
@@ -82,10 +96,10 @@ abbrev pub Completes : List ℕ → ℕ → DN.Node → List ℕ → Type 0
 Completes plan n node y = Agree plan (node .depth) (take n (node .choice)) y
 
 -- what stays
-pub record Still (r : ℕ) (work work′ : List ℕ) : Type 0 where
+pub record Still (task : DT.Task) (work work′ : List ℕ) : Type 0 where
   pub long : length work′ ≡ length work
   pub plan : planIn work′ ≡ planIn work
-  pub source : sourceIn work′ r ≡ sourceIn work r
+  pub source : sourceIn work′ (task .records) ≡ sourceIn work (task .records)
 
 -- every consistent choice that a test lets through is covered
 abbrev pub AllCovered : Problem → DD.Directions → (List ℕ → Type 0) → List Point → ℕ → Type 0
@@ -94,41 +108,47 @@ AllCovered q d among archive limit =
 
 -- what opening a partial choice ensures: the completions are covered, and what was covered stays so
 pub record Opened
-    (q : Problem) (d : DD.Directions) (r room n : ℕ) (plan : List ℕ) (node : DN.Node)
-    (work : List ℕ) (run : DR.Run) (work′ : List ℕ) (run′ : DR.Run) : Type 0 where
-  pub still : Still r work work′
-  pub running : Running q d room n work′ run′
+    (q : Problem) (d : DD.Directions) (task : DT.Task) (n : ℕ) (plan : List ℕ) (node : DN.Node)
+    (work : List ℕ) (run : DP.Progress) (work′ : List ℕ) (run′ : DP.Progress) : Type 0 where
+  pub still : Still task work work′
+  pub running : Running q d task n work′ run′
   pub follows : Follows (leadWeights d) (archiveIn d n work run) (run .limit) (archiveIn d n work′ run′) (run′ .limit)
   pub covered : AllCovered q d (Completes plan n node) (archiveIn d n work′ run′) (run′ .limit)
 
 -- what opening a partial choice relies on
 pub record Standing
-    (d : DD.Directions) (r room : ℕ) (ceilings ds s work : List ℕ) (run : DR.Run) (node : DN.Node) : Type 0 where
-  pub ready : Ready d r room ceilings ds s work
-  pub running : Running (problemOf d r ceilings ds s work) d room (length ds) work run
-  pub partial : Partial d r ds s (planIn work) (node .depth) (take (length ds) (node .choice)) (node .bound)
+    (d : DD.Directions) (task : DT.Task) (ds s work : List ℕ) (run : DP.Progress) (node : DN.Node) : Type 0 where
+  pub ready : Ready d task ds s work
+  pub running : Running (problemOf d task ds s work) d task (length ds) work run
+  pub partial :
+      Partial d (task .records) ds s (planIn work) (node .depth) (take (length ds) (node .choice)) (node .bound)
 
 abbrev pub OpenedFrom :
-    DD.Directions → ℕ → ℕ → List ℕ → List ℕ → List ℕ → DN.Node → List ℕ → DR.Run → List ℕ → DR.Run → Type 0
-OpenedFrom d r room ceilings ds s node work run work′ run′ =
-    Opened (problemOf d r ceilings ds s work) d r room (length ds) (planIn work) node work run work′ run′
+    (d : DD.Directions) (task : DT.Task) (ds s : List ℕ) (node : DN.Node) (work : List ℕ) (run : DP.Progress)
+    (work′ : List ℕ) (run′ : DP.Progress) → Type 0
+OpenedFrom d task ds s node work run work′ run′ =
+    Opened (problemOf d task ds s work) d task (length ds) (planIn work) node work run work′ run′
 
 -- between passes: an archive of so many points; the limit that it had is of no more interest, so that it is stated with
 -- none
-pub record Between (q : Problem) (d : DD.Directions) (room n : ℕ) (work : List ℕ) (points : ℕ) : Type 0 where
-  pub few : points ≤ room + 1
+pub record Between
+    (q : Problem) (d : DD.Directions) (task : DT.Task) (n : ℕ) (work : List ℕ) (points : ℕ) : Type 0 where
+  pub few : points ≤ task .room + 1
   pub archived : Archived q (leadWeights d) (listIn (d .objectives) n work 0 points) noLimit
   pub distinct : Distinct (listIn (d .objectives) n work 0 points)
 
 -- after a pass: every consistent choice is covered
-pub record Passed (q : Problem) (d : DD.Directions) (r room n : ℕ) (work work′ : List ℕ) (run′ : DR.Run) : Type 0 where
-  pub still : Still r work work′
-  pub running : Running q d room n work′ run′
+pub record Passed
+    (q : Problem) (d : DD.Directions) (task : DT.Task) (n : ℕ) (work work′ : List ℕ) (run′ : DP.Progress)
+    : Type 0 where
+  pub still : Still task work work′
+  pub running : Running q d task n work′ run′
   pub covered : (y : Point) → Reached q y → Covered (leadWeights d) (archiveIn d n work′ run′) (run′ .limit) y
 
 -- the list fs is in work memory, or it is longer than the room; or the search was given up
-pub record ExploredSays (p n : ℕ) (fs : List Point) (room r : ℕ) (work work′ : List ℕ) (e : DE.Explored) : Type 0 where
-  pub full : e .decided ≡ true → e .full ≡ ltb room (length fs)
+pub record ExploredSays
+    (task : DT.Task) (n : ℕ) (fs : List Point) (work work′ : List ℕ) (e : DE.Explored) : Type 0 where
+  pub full : e .decided ≡ true → e .full ≡ ltb (task .room) (length fs)
   pub count : e .decided ≡ true → e .count ≡ when (not (e .full)) (length fs)
-  pub list : e .decided ≡ true → e .full ≡ false → listIn p n work′ 0 (e .count) ≡ fs
-  pub still : Still r work work′
+  pub list : e .decided ≡ true → e .full ≡ false → listIn (task .objectives) n work′ 0 (e .count) ≡ fs
+  pub still : Still task work work′

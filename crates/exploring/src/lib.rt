@@ -11,7 +11,7 @@ ghost use Rattle.groups.specs.Layout.{listEnd};
 ghost use Rattle.directions.specs.Directions.{Sensible};
 ghost use Rattle.zones.specs.Zones.{Measured};
 ghost use Rattle.pruning.specs.Tests.{zonesOf};
-ghost use Rattle.exploring.specs.States.{problemOf, extended, leaf, Ready, Standing, OpenedFrom};
+ghost use Rattle.exploring.specs.States.{problemOf, taskProblem, extended, leaf, Ready, Standing, OpenedFrom};
 ghost use Rattle.exploring.specs.States.{Between, Passed, ExploredSays};
 ghost use Rattle.exploring.specs.Passes.{ZonesWritten, ZonesHold};
 
@@ -61,20 +61,19 @@ impl Node {
 fn take_leaf(
     x: [u8; 24],
     bound: [u64; 8],
-    run: pruning::Run,
+    run: pruning::Progress,
     s: &[u8],
     sizes: &[u8],
-    r: usize,
-    ceilings: [u64; 4],
-    room: usize,
+    task: groups::Task,
     d: directions::Directions,
     work: &mut [u32],
-) -> pruning::Run
-    requires { ⌜ Standing d r room ceilings (now sizes) (now s) (now work) run (leaf (now sizes) x bound) ⌝ }
-    ensures { λ t. ⌜ OpenedFrom d r room ceilings (now (sizes .entry)) (now (s .entry))
+) -> pruning::Progress
+    requires { ⌜ Standing d task (now sizes) (now s) (now work) run (leaf (now sizes) x bound) ⌝ }
+    ensures { λ t. ⌜ OpenedFrom d task (now (sizes .entry)) (now (s .entry))
         (leaf (now (sizes .entry)) x bound) (now (work .entry)) run (now (work .exit)) t ⌝ }
 {
     let p = d.objectives;
+    let ceilings = task.ceilings;
     let costs = pruning::front_of(bound);
     if !vectors::is_under(costs, ceilings, p) {
         return run;
@@ -84,16 +83,26 @@ fn take_leaf(
     }
     let weights = directions::lead_weights(d);
     let n = sizes.len();
-    let t = archive::take_point(x, costs, run.points, run.limit, room, p, n, weights, work);
+    let t = archive::take_point(
+        x,
+        costs,
+        run.points,
+        run.limit,
+        task.room,
+        p,
+        n,
+        weights,
+        work,
+    );
     if !t.added {
-        return pruning::Run {
+        return pruning::Progress {
             points: t.points,
             zones: run.zones,
             limit: t.limit,
         };
     }
     let m = zones::split_zones(costs, run.zones, d, &mut work[..pruning::ZONES_END]);
-    pruning::Run {
+    pruning::Progress {
         points: t.points,
         zones: m,
         limit: t.limit,
@@ -132,24 +141,22 @@ fn start_zones(c: usize, ceilings: [u64; 4], d: directions::Directions, work: &m
 // Opens a partial choice where its completions may be new, or earlier than an archived choice with equal costs.
 fn try_choice(
     node: Node,
-    run: pruning::Run,
+    run: pruning::Progress,
     s: &[u8],
     sizes: &[u8],
-    r: usize,
-    ceilings: [u64; 4],
-    room: usize,
+    task: groups::Task,
     d: directions::Directions,
     work: &mut [u32],
-) -> pruning::Run
-    requires { ⌜ Standing d r room ceilings (now sizes) (now s) (now work) run node ⌝ }
-    ensures { λ t. ⌜ OpenedFrom d r room ceilings (now (sizes .entry)) (now (s .entry)) node
+) -> pruning::Progress
+    requires { ⌜ Standing d task (now sizes) (now s) (now work) run node ⌝ }
+    ensures { λ t. ⌜ OpenedFrom d task (now (sizes .entry)) (now (s .entry)) node
         (now (work .entry)) run (now (work .exit)) t ⌝ }
 {
     let n = sizes.len();
     let x = node.choice;
     let bound = node.bound;
     if pruning::is_alive(x, bound, run, n, d, work) {
-        return open_position(node, run, s, sizes, r, ceilings, room, d, work);
+        return open_position(node, run, s, sizes, task, d, work);
     }
     run
 }
@@ -158,17 +165,15 @@ fn try_choice(
 // below the limit. A complete choice is met.
 fn open_position(
     node: Node,
-    run: pruning::Run,
+    run: pruning::Progress,
     s: &[u8],
     sizes: &[u8],
-    r: usize,
-    ceilings: [u64; 4],
-    room: usize,
+    task: groups::Task,
     d: directions::Directions,
     work: &mut [u32],
-) -> pruning::Run
-    requires { ⌜ Standing d r room ceilings (now sizes) (now s) (now work) run node ⌝ }
-    ensures { λ t. ⌜ OpenedFrom d r room ceilings (now (sizes .entry)) (now (s .entry)) node
+) -> pruning::Progress
+    requires { ⌜ Standing d task (now sizes) (now s) (now work) run node ⌝ }
+    ensures { λ t. ⌜ OpenedFrom d task (now (sizes .entry)) (now (s .entry)) node
         (now (work .entry)) run (now (work .exit)) t ⌝ }
 {
     let n = sizes.len();
@@ -176,19 +181,19 @@ fn open_position(
     let x = node.choice;
     let bound = node.bound;
     if k == n {
-        return take_leaf(x, bound, run, s, sizes, r, ceilings, room, d, work);
+        return take_leaf(x, bound, run, s, sizes, task, d, work);
     }
     let v = branching::variable_at(k, &work[PLAN_AT..]);
     let size = sizes[v] as usize;
-    let rows = branching::bucket_at(k, v, &x[..n], s, sizes, r, d, &work[PLAN_AT..]);
-    let away = branching::away_at(k, &x[..n], s, sizes, r, d, &work[PLAN_AT..]);
+    let rows = branching::bucket_at(k, v, &x[..n], s, sizes, task.records, d, &work[PLAN_AT..]);
+    let away = branching::away_at(k, &x[..n], s, sizes, task.records, d, &work[PLAN_AT..]);
     let mut leads = branching::leads_of(&rows, bound, away, size, d);
     let mut a = branching::least_value(&leads, size);
     let mut t = run;
     while leads[a] < t.limit {
         let b = branching::row_of(&rows, a, bound, away, d.objectives + d.sums);
         let next = node.with(v, a, b);
-        t = try_choice(next, t, s, sizes, r, ceilings, room, d, work);
+        t = try_choice(next, t, s, sizes, task, d, work);
         leads[a] = NO_LIMIT;
         a = branching::least_value(&leads, size);
     }
@@ -200,53 +205,50 @@ fn run_pass(
     points: usize,
     s: &[u8],
     sizes: &[u8],
-    r: usize,
-    ceilings: [u64; 4],
-    room: usize,
+    task: groups::Task,
     d: directions::Directions,
     work: &mut [u32],
-) -> pruning::Run
-    requires { ⌜ Ready d r room ceilings (now sizes) (now s) (now work)
-        × Between (problemOf d r ceilings (now sizes) (now s) (now work)) d room (length (now sizes))
+) -> pruning::Progress
+    requires { ⌜ Ready d task (now sizes) (now s) (now work)
+        × Between (problemOf d task (now sizes) (now s) (now work)) d task (length (now sizes))
         (now work) points ⌝ }
-    ensures { λ t. ⌜ Passed (problemOf d r ceilings (now (sizes .entry)) (now (s .entry)) (now (work .entry)))
-        d r room (length (now (sizes .entry))) (now (work .entry)) (now (work .exit)) t ⌝ }
+    ensures { λ t. ⌜ Passed (problemOf d task (now (sizes .entry)) (now (s .entry)) (now (work .entry)))
+        d task (length (now (sizes .entry))) (now (work .entry)) (now (work .exit)) t ⌝ }
 {
+    let ceilings = task.ceilings;
     let m = start_zones(points, ceilings, d, work);
-    let bound = branching::root_bound(s, sizes, r, d, &work[PLAN_AT..]);
+    let bound = branching::root_bound(s, sizes, task.records, d, &work[PLAN_AT..]);
     let node = Node {
         depth: 0,
         choice: [0u8; 24],
         bound,
     };
-    let run = pruning::Run {
+    let run = pruning::Progress {
         points,
         zones: m,
         limit: NO_LIMIT,
     };
-    try_choice(node, run, s, sizes, r, ceilings, room, d, work)
+    try_choice(node, run, s, sizes, task, d, work)
 }
 
 // The frontier list of the problem whose records stand in the plan, in the archive's rows.
 pub fn explore(
     s: &[u8],
     sizes: &[u8],
-    r: usize,
-    ceilings: [u64; 4],
-    room: usize,
+    task: groups::Task,
     d: directions::Directions,
     work: &mut [u32],
 ) -> Explored
-    requires { ⌜ Ready d r room ceilings (now sizes) (now s) (now work) ⌝ }
-    ensures { λ e. ⌜ ExploredSays (d .objectives) (length (now (sizes .entry)))
-        (frontier (problemOf d r ceilings (now (sizes .entry)) (now (s .entry)) (now (work .entry))))
-        room r (now (work .entry)) (now (work .exit)) e ⌝ }
+    requires { ⌜ Ready d task (now sizes) (now s) (now work) ⌝ }
+    ensures { λ e. ⌜ ExploredSays task (length (now (sizes .entry)))
+        (frontier (taskProblem task (now (sizes .entry)) (now (s .entry)) (now (work .entry))))
+        (now (work .entry)) (now (work .exit)) e ⌝ }
 {
     let mut points: usize = 0;
     let mut pass: usize = 0;
     while pass < MAX_PASSES {
-        let t = run_pass(points, s, sizes, r, ceilings, room, d, work);
-        if t.points > room {
+        let t = run_pass(points, s, sizes, task, d, work);
+        if t.points > task.room {
             return Explored {
                 decided: true,
                 full: true,

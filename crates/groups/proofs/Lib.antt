@@ -7,3 +7,4 @@ pub mod Adding
 pub mod PlacedRecords
 pub mod GroupLengths
 pub mod Grouping
+pub mod Tasks

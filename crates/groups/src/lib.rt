@@ -15,6 +15,15 @@ ghost use Rattle.problem.specs.Records.{Whole};
 ghost use Rattle.groups.specs.Layout.{groupsAt, recordsAt};
 ghost use Rattle.groups.specs.Groups.{hasVariable, groupOf, tablesOver, placesIn, Placed, Grouped};
 
+// What is searched: so many records placed in work memory, so many objectives, their ceilings, and how many points
+// there is room for.
+pub struct Task {
+    pub records: usize,
+    pub objectives: usize,
+    pub ceilings: [u64; 4],
+    pub room: usize,
+}
+
 pub const GROUPS_AT: usize = 25;
 
 pub const RECORDS_AT: usize = 793;

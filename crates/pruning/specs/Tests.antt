@@ -11,7 +11,7 @@ use Rattle.rows.specs.Rows.{costsIn, valuesIn}
 use Rattle.directions.specs.Directions.{directionsOf, widthOf, leadAt}
 use Rattle.directions.specs.declared.Directions as DD
 use Rattle.zones.specs.Zones.{zonesEnd, cornerIn}
-use Rattle.pruning.specs.declared.Run as DR
+use Rattle.pruning.specs.declared.Progress as DP
 
 -- the zones are the first numbers of work memory
 abbrev pub zonesOf : List ℕ → List ℕ
@@ -30,7 +30,7 @@ Unreached d zones m b =
     (i : ℕ) → i < m → atMost (take (widthOf d) b) (directionsOf d (cornerIn (d .objectives) zones i)) ≡ false
 
 -- nothing that is sought is left below it
-abbrev pub Dead : DD.Directions → ℕ → List ℕ → DR.Run → List ℕ → List ℕ → Type 0
+abbrev pub Dead : DD.Directions → ℕ → List ℕ → DP.Progress → List ℕ → List ℕ → Type 0
 Dead d n work run x b =
     (run .limit ≤ getD b (leadAt d) 0)
     ⊎ (Unreached d (zonesOf work) (run .zones) b × ((i : ℕ) → i < run .points → Untied d n work x b i))

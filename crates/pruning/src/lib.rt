@@ -16,7 +16,7 @@ ghost use Rattle.pruning.specs.Tests.{zonesOf, Untied, Dead};
 pub const ZONES_END: usize = 1024;
 
 // How many points and zones there are, and the limit: only vectors with a smaller leading sum are sought.
-pub struct Run {
+pub struct Progress {
     pub points: usize,
     pub zones: usize,
     pub limit: u64,
@@ -96,7 +96,7 @@ fn is_tied(
 pub fn is_alive(
     x: [u8; 24],
     b: [u64; 8],
-    run: Run,
+    run: Progress,
     n: usize,
     d: directions::Directions,
     work: &[u32],

@@ -100,12 +100,12 @@ try-calls t = (is-alive-reads.Asked, is-alive-reads.Learnt, open-position-below 
 
 -- the value that is next has the least lead
 abbrev Inv-loop : open-lts.InvT-loop
-Inv-loop node s sizes r ceilings room d work₀ n k bound v size rows away leads₀ a₀ t₀ work leads a t =
+Inv-loop node s sizes task d work₀ n k bound v size rows away leads₀ a₀ t₀ work leads a t =
     (a < size) × ((b : ℕ) → b < size → getD leads a 0 ≤ getD leads b 0)
-    × Trying d r room ceilings sizes s work₀ t₀ node work t leads
+    × Trying d task sizes s work₀ t₀ node work t leads
 
 abbrev μ-loop : open-lts.MeasureT-loop
-μ-loop node s sizes r ceilings room d work₀ n k bound v size rows away leads₀ a₀ t₀ work leads a t = untried leads
+μ-loop node s sizes task d work₀ n k bound v size rows away leads₀ a₀ t₀ work leads a t = untried leads
 
 module _ (t : ℕ) where
   -- ## the places of open_position, each with a name
@@ -240,10 +240,10 @@ module _ (t : ℕ) where
     long-plan : numbersAt ≤ length lent
     long-plan = rw same-plan (omega (arith, b .pre .1 .ready .long, length-drop listEnd (now (b .args .work))))
 
-    planned : Planned (b .args .d) (b .args .r) ds (now (b .args .s)) lent
+    planned : Planned (b .args .d) (b .args .task .records) ds (now (b .args .s)) lent
     planned = rw same-plan (b .pre .1 .ready .planned)
 
-    tested : Tested (b .args .d) (b .args .r) ds (now (b .args .s)) lent
+    tested : Tested (b .args .d) (b .args .task .records) ds (now (b .args .s)) lent
     tested = rw same-plan (b .pre .1 .ready .sound .tested)
 
     long-choice : length ds ≤ length (b .args .node .choice)
@@ -307,7 +307,7 @@ module _ (t : ℕ) where
     lead-is :
         (a : ℕ) → a < getD (ds entry) (next-variable entry) 0 →
         nextBound (entry .args .node .bound) away rows a (leadAt (entry .args .d))
-        ≡ leadWith (entry .args .d) (entry .args .r) (ds entry) (now (entry .args .s)) (plan entry)
+        ≡ leadWith (entry .args .d) (entry .args .task) (ds entry) (now (entry .args .s)) (plan entry)
         (entry .args .node) a
     lead-is a l =
         let h = entry .pre .1 in
@@ -327,7 +327,7 @@ module _ (t : ℕ) where
     next-choice = withNext (plan origin) (length (ds origin)) (origin .args .node) (turn c .loop .a)
 
     next-is :
-        Partial (origin .args .d) (origin .args .r) (ds origin) (now (origin .args .s)) (plan origin)
+        Partial (origin .args .d) (origin .args .task .records) (ds origin) (now (origin .args .s)) (plan origin)
         (origin .args .node .depth + 1) next-choice (c .row-of .result)
     next-is =
         let h = origin .pre .1 in

@@ -15,19 +15,22 @@ use Rattle.exploring.proofs.run_pass.Tie as tie
 
 -- memory once the zones are made, and the plan as it is lent
 module _ (c : tie.After-start-zones) where
+  abbrev known : tie.After-slice-known
+  known = c .before .before .before
+
   abbrev begun : tie.Start
-  begun =
-      let lent = c .before in
-      lent .before .before .before .before
+  begun = known .before .before .before
 
   abbrev made : List ℕ
   made = c .start-zones .last .1 .1 .1 .0
 
-  kept : Still (begun .args .r) (now (begun .args .work)) made
-  kept = zones-still (now (begun .args .work)) made (c .start-zones .ensures .0 .long) (c .start-zones .ensures .0 .behind) (begun .args .r)
+  kept : Still (begun .args .task) (now (begun .args .work)) made
+  kept =
+      let zones = c .start-zones .ensures .0 in
+      zones-still (now (begun .args .work)) made (zones .long) (zones .behind) (begun .args .task)
 
-  ready : Ready (begun .args .d) (begun .args .r) (begun .args .room) (begun .args .ceilings) (now (begun .args .sizes)) (now (begun .args .s)) made
-  ready = ready-still kept (begun .args .d) (begun .args .room) (begun .args .ceilings) (now (begun .args .sizes)) (now (begun .args .s)) (begun .pre .0)
+  ready : Ready (begun .args .d) (begun .args .task) (now (begun .args .sizes)) (now (begun .args .s)) made
+  ready = ready-still kept (begun .args .d) (now (begun .args .sizes)) (now (begun .args .s)) (begun .pre .0)
 
 -- the zones, from where the bound of the empty choice is known
 abbrev zoned : tie.After-root-bound → tie.After-start-zones
@@ -37,8 +40,10 @@ zoned c =
 
 start-zones-requires : tie.Need-start-zones-requires
 start-zones-requires c κs =
-    let h = c .before .before .before .before .pre .0 in
-    (h .planned .sensible, omega (arith, h .long), omega (arith, c .before .before .before .before .pre .1 .few, h .room-small), h .words)
+    let read : tie.After-slice-known = c .before .before in
+    let s : tie.Start = read .before .before .before in
+    let h = s .pre .0 in
+    (h .planned .sensible, omega (arith, h .long), omega (arith, s .pre .1 .few, h .room-small), h .words)
 
 sub-root-bound : tie.Need-sub-root-bound
 sub-root-bound c = search needs
@@ -60,8 +65,8 @@ try-choice-requires c κs =
     let rooted = c .before in
     let z = zoned rooted in
     let s = begun z in
-    let known = z .before .before .before .before .shared-slice-known .given in
-    let bytes : (at : ℕ) → getD (now (s .args .s)) at 0 < byteEnd = λ at. omega (arith, known at) in
+    let byte = known z .before .before .shared-slice-known .given in
+    let bytes : (at : ℕ) → getD (now (s .args .s)) at 0 < byteEnd = λ at. omega (arith, byte at) in
     let bound = rw (lent-plan (made z)) at (rooted .root-bound .ensures) in
     let zones = z .start-zones .ensures in
     root-standing (s .pre .0) (s .pre .1) (zones .0) (zones .1) bytes (rooted .root-bound .result) bound

@@ -1,13 +1,15 @@
--- `exploring::split_all` meets its contract. The invariant: the zones are split at the points passed, and nothing else is written.
+-- `exploring::split_all` meets its contract. The invariant: the zones are split at the points passed, and nothing else
+-- is written.
 use mathlib.Core.Path.{refl, sym}
-use mathlib.Core.List.{List}
+use mathlib.Core.List.{List, _++_}
 use Prim.Native.Nat.{ℕ, _≤_, _<_, _-_}
 use native.Mathlib.Omega.{arith}
-use lib.ListN.{getD}
+use lib.ListN.{length, getD, drop}
 use lib.Seq.{length-take-le}
 use borrow.Author.Needs.{needs}
 use denote.Ref.{now}
 use Rattle.model.specs.Limits.{wordEnd}
+use Rattle.groups.specs.Layout.{listEnd}
 use Rattle.zones.specs.Zones.{zonesEnd}
 use Rattle.exploring.specs.Passes.{ZonesWritten, ZonesHold}
 use Rattle.exploring.proofs.Zoning.{split-words, split-written, split-hold}
@@ -15,29 +17,76 @@ use Rattle.exploring.proofs.split_all.Statement.{statement}
 use Rattle.exploring.proofs.split_all.Tie as tie
 
 abbrev Inv-loop : tie.InvT-loop
-Inv-loop c m d work₀ zones₀ i₀ work zones i = (i ≤ c) × ZonesWritten d work₀ work zones × ((ceilings : List ℕ) → ZonesHold d c ceilings work₀ work₀ m → ZonesHold d c ceilings work₀ work zones)
+Inv-loop c m d work₀ zones₀ i₀ work zones i =
+    (i ≤ c) × ZonesWritten d work₀ work zones
+    × ((ceilings : List ℕ) → ZonesHold d c ceilings work₀ work₀ m → ZonesHold d c ceilings work₀ work zones)
 
 abbrev μ-loop : tie.MeasureT-loop
 μ-loop c m d work₀ zones₀ i₀ work zones i = c - i
+
+-- ## the places, each with a name
+
+-- before a point is looked at
+abbrev Looping : Type 0
+Looping = tie.At-loop Inv-loop μ-loop
+
+-- there is one
+abbrev Turn : Type 0
+Turn = tie.In-loop Inv-loop μ-loop
+
+-- its costs were read
+abbrev Read : Type 0
+Read = tie.After-row-costs Inv-loop μ-loop
+
+-- the zones were split at it
+abbrev Split : Type 0
+Split = tie.After-split-zones Inv-loop μ-loop
+
+abbrev start : Looping → tie.Start Inv-loop μ-loop
+start c = c .before .before
+
+abbrev turn : Read → Turn
+turn c = c .before .before
+
+abbrev looping : Read → Looping
+looping c = turn c .before
+
+-- memory is as long as it was
+module _ (c : Looping) where
+  abbrev zones : List ℕ
+  zones = c .loop .work
+
+  memory : listEnd ≤ length zones
+  memory = omega (arith, c .loop .inv .1 .long, start c .pre .1)
 
 loop-holds : tie.Need-loop-holds Inv-loop μ-loop
 loop-holds c = (omega arith, record { long = refl; behind = refl; measured = c .before .pre .3 }, λ ceilings h. h)
 
 row-costs-requires : tie.Need-row-costs-requires Inv-loop μ-loop
-row-costs-requires c κs = omega (arith, c .before .before .loop .inv .1 .long, c .before .before .before .before .pre)
+row-costs-requires c κs =
+    let w : Looping = c .before .before in
+    omega (arith, w .loop .inv .1 .long, start w .pre)
 
 slice-relend-prefix-split-zones : tie.Need-slice-relend-prefix-split-zones Inv-loop μ-loop
-slice-relend-prefix-split-zones c = omega (arith, c .before .before .before .loop .inv .1 .long, c .before .before .before .before .before .pre .1)
+slice-relend-prefix-split-zones c = omega (arith, memory (looping c))
 
 slice-aggregate-split-zones : tie.Need-slice-aggregate-split-zones Inv-loop μ-loop
-slice-aggregate-split-zones c = sym (length-take-le zonesEnd (c .before .before .before .before .loop .work) (omega (arith, c .before .before .before .before .loop .inv .1 .long, c .before .before .before .before .before .before .pre .1)))
+slice-aggregate-split-zones c =
+    let w = looping (c .before) in
+    sym (length-take-le zonesEnd (w .loop .work) (omega (arith, memory w)))
 
 split-zones-requires : tie.Need-split-zones-requires Inv-loop μ-loop
 split-zones-requires c κs =
-    let s = c .before .before .before .before .before .before in
-    let w = c .before .before .before .before .loop in
-    let words : (k : ℕ) → getD (now (s .args .work)) k 0 < wordEnd = λ k. omega (arith, c .before .before .before .before .before .slice-known .given k) in
-    (s .pre .0, w .inv .1 .measured, split-words (s .args .d) (now (s .args .work)) (w .work) _ (w .i) (w .zones) (s .pre .0) (w .inv .1) (c .before .row-costs .ensures) words)
+    let read : Read = c .before in
+    let w = looping read in
+    let s = start w in
+    let word = w .before .slice-known .given in
+    let words : (k : ℕ) → getD (now (s .args .work)) k 0 < wordEnd = λ k. omega (arith, word k) in (
+      s .pre .0,
+      w .loop .inv .1 .measured,
+      split-words (s .args .d) (now (s .args .work)) (w .loop .work) _ (w .loop .i) (w .loop .zones) (s .pre .0)
+          (w .loop .inv .1) (read .row-costs .ensures) words,
+    )
 
 add-i : tie.Need-add-i Inv-loop μ-loop
 add-i c = search needs
@@ -45,16 +94,51 @@ add-i c = search needs
 loop-less : tie.Need-loop-less Inv-loop μ-loop
 loop-less c = search needs
 
+-- what splitting at one more point leaves, of both laws
+module _ (c : Split) where
+  abbrev read-at : Read
+  read-at = c .before .before
+
+  abbrev here : Looping
+  here = looping read-at
+
+  abbrev entry : tie.Start Inv-loop μ-loop
+  entry = start here
+
+  abbrev split : List ℕ
+  split = c .split-zones .last .1 .1 .1 .0
+
+  written :
+      ZonesWritten (entry .args .d) (now (entry .args .work)) (split ++ drop zonesEnd (zones here))
+      (c .split-zones .result)
+  written =
+      let a = entry .args in
+      let h = entry .pre in
+      let w = here .loop in
+      let says = c .split-zones .ensures in
+      split-written (a .d) (a .c) (now (a .work)) (w .work) split _ (w .i) (w .zones) (c .split-zones .result)
+      (h .0) (h .1) (h .2) (turn read-at .loop-test .taken) (w .inv .1) (read-at .row-costs .ensures)
+      (says .0) (says .1) (says .2)
+
+  hold :
+      (ceilings : List ℕ) →
+      ZonesHold (entry .args .d) (entry .args .c) ceilings (now (entry .args .work)) (now (entry .args .work))
+      (entry .args .m) →
+      ZonesHold (entry .args .d) (entry .args .c) ceilings (now (entry .args .work))
+      (split ++ drop zonesEnd (zones here)) (c .split-zones .result)
+  hold ceilings held =
+      let a = entry .args in
+      let h = entry .pre in
+      let w = here .loop in
+      let says = c .split-zones .ensures in
+      split-hold (a .d) (a .c) (now (a .work)) (w .work) split _ (w .i) (w .zones) (c .split-zones .result)
+      (h .0) (h .1) (h .2) (turn read-at .loop-test .taken) (w .inv .1) (read-at .row-costs .ensures)
+      (says .0) (says .1) (says .2) ceilings (w .inv .2 ceilings held)
+
 loop-again : tie.Need-loop-again Inv-loop μ-loop
 loop-again c =
-    let s = c .before .before .before .before .before .before .before .before .before in
-    let w = c .before .before .before .before .before .before .before .loop in
-    let a = s .args in
-    let split = c .before .before .split-zones in
-    let z = split .last .1 .1 .1 .0 in
-    let read = c .before .before .before .before .row-costs .ensures in
-    let inside : w .i < a .c = c .before .before .before .before .before .before .loop-test .taken in
-    (omega arith, split-written (a .d) (a .c) (now (a .work)) (w .work) z _ (w .i) (w .zones) (split .result) (s .pre .0) (s .pre .1) (s .pre .2) inside (w .inv .1) read (split .ensures .0) (split .ensures .1) (split .ensures .2), λ ceilings h. split-hold (a .d) (a .c) (now (a .work)) (w .work) z _ (w .i) (w .zones) (split .result) (s .pre .0) (s .pre .1) (s .pre .2) inside (w .inv .1) read (split .ensures .0) (split .ensures .1) (split .ensures .2) ceilings (w .inv .2 ceilings h))
+    let done : Split = c .before .before in
+    (omega arith, written done, hold done)
 
 same-length : tie.Need-same-length Inv-loop μ-loop
 same-length c = c .before .loop .inv .1 .long

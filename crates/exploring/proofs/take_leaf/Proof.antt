@@ -18,6 +18,7 @@ use Rattle.rows.proofs.Arrays.{array-length}
 use Rattle.archive.specs.Changes.{maxWeight}
 use Rattle.directions.specs.Directions.{maxDirections, leadAt}
 use Rattle.groups.specs.Layout.{listEnd}
+use Rattle.groups.proofs.Tasks.{ceilings-long}
 use Rattle.zones.specs.Zones.{zonesEnd}
 use Rattle.exploring.proofs.Memory.{framed-zones, lent-front, lent-behind}
 use Rattle.exploring.proofs.Zoning.{lent-long, lent-same, lent-measured}
@@ -35,7 +36,7 @@ module _ (s : tie.Start) where
   acc = s .args .bound
 
   abbrev ceilings : List ℕ
-  ceilings = s .args .ceilings
+  ceilings = s .args .task .ceilings
 
   abbrev few : s .args .d .objectives ≤ maxObjectives
   few = s .pre .ready .planned .sensible .few
@@ -45,7 +46,7 @@ module _ (s : tie.Start) where
 
   long-ceilings : length (take p ceilings) ≡ p
   long-ceilings =
-      let four = array-length w64 maxObjectives ceilings _ (s .good .1 .1 .1 .1 .1 .1 .0) in
+      let four = ceilings-long (s .args .task) _ (s .good .1 .1 .1 .1 .1 .0) in
       length-take-le p ceilings (omega (arith, few, four))
 
 -- the costs, which are the first numbers of the bound, were held to the ceilings
@@ -53,10 +54,11 @@ module _ (c : tie.After-is-under) where
   abbrev front : List ℕ
   front = c .before .front-of .result
 
+  abbrev known : tie.After-slice-known
+  known = c .before .before .before
+
   abbrev entry : tie.Start
-  entry =
-      let read = c .before in
-      read .before .before .before .before
+  entry = known .before .before .before
 
   costs : take (p entry) front ≡ take (p entry) (acc entry)
   costs =
