@@ -13,11 +13,12 @@ use Rattle.model.proofs.Bits.{true-false}
 use Rattle.problem.specs.Records.{Whole}
 use Rattle.groups.specs.Layout.{sourceAt}
 use Rattle.groups.specs.Sources.{Source, sourceProblem}
+use Rattle.groups.specs.declared.Task as DT
 use Rattle.passes.specs.Says.{FoundSays}
 use Rattle.passes.specs.declared.Found as DF
 use Rattle.passes.proofs.Since.{says-since}
 use Rattle.directions.specs.declared.Directions as DD
-use Rattle.exploring.specs.States.{problemOf, Ready, ExploredSays}
+use Rattle.exploring.specs.States.{taskProblem, Ready, ExploredSays}
 use Rattle.exploring.specs.declared.Explored as DE
 use Rattle.listing.specs.Says.{Plannable, Kept, PlanSays, SecondSays}
 use Rattle.listing.proofs.PlacesKept.{behindAt}
@@ -64,24 +65,28 @@ module _ {p r : ℕ} {ceilings ds s work : List ℕ} (source : Source p r ceilin
 
     -- a plan that passed its test
     module _ (d : DD.Directions) (same : d .objectives ≡ p) (room : ℕ) (small : room ≤ maxPoints) where
-      pub plan-ready : PlanSays d r ds s work work′ → 1 ≤ length ds → Ready d r room ceilings ds s work′
+      abbrev task : DT.Task
+      task = record { records = r; objectives = p; ceilings = ceilings; room = room }
+
+      pub plan-ready : PlanSays d r ds s work work′ → 1 ≤ length ds → Ready d task ds s work′
       plan-ready says some =
           record {
             sound = says .sound;
             planned = says .planned;
+            objectives = same;
             some-variable = some;
             words = source .words;
             room-small = small;
             long = omega (arith, kept .long, source .long);
           }
 
-      searched : problemOf d r ceilings ds s work′ ≡ sourceProblem p r ceilings ds s work
-      searched = rw same same-problem
-
-      pub explored-says : (after : List ℕ) (e : DE.Explored) → ExploredSays (d .objectives) (length ds) (frontier (problemOf d r ceilings ds s work′)) room r work′ after e → Kept r work after × SecondSays p (length ds) (frontier (sourceProblem p r ceilings ds s work)) room after e
-      explored-says after e says =
-          let same-list : frontier (problemOf d r ceilings ds s work′) ≡ frontier (sourceProblem p r ceilings ds s work) = ap frontier searched in (
-            record { long = says .still .long ∙ kept .long; source = says .still .source ∙ kept .source },
-            subst (λ (k : ℕ). SecondSays k (length ds) (frontier (sourceProblem p r ceilings ds s work)) room after e) same
-                (subst (λ (fs : List Point). SecondSays (d .objectives) (length ds) fs room after e) same-list (record { full = says .full; count = says .count; list = says .list })),
-          )
+      pub explored-says :
+          (after : List ℕ) (e : DE.Explored) →
+          ExploredSays task (length ds) (frontier (taskProblem task ds s work′)) work′ after e →
+          Kept r work after
+          × SecondSays p (length ds) (frontier (sourceProblem p r ceilings ds s work)) room after e
+      explored-says after e says = (
+        record { long = says .still .long ∙ kept .long; source = says .still .source ∙ kept .source },
+        subst (λ (fs : List Point). SecondSays p (length ds) fs room after e) (ap frontier same-problem)
+            (record { full = says .full; count = says .count; list = says .list }),
+      )

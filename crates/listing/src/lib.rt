@@ -83,7 +83,13 @@ fn explore_source(
     if !plan_source(s, sizes, r, d, work) {
         return given_up();
     }
-    exploring::explore(s, sizes, r, ceilings, room, d, work)
+    let task = groups::Task {
+        records: r,
+        objectives: p,
+        ceilings,
+        room,
+    };
+    exploring::explore(s, sizes, task, d, work)
 }
 
 // The frontier list of `r` records whose places stand in work memory where a problem's records are: by the second form,

@@ -1,4 +1,5 @@
--- `listing::explore_source` meets its contract: a plan that passed its test is searched, and nothing is said where there is none.
+-- `listing::explore_source` meets its contract: a plan that passed its test is searched, and nothing is said where
+-- there is none.
 use mathlib.Core.Path.{refl}
 use native.Mathlib.Omega.{arith}
 use borrow.Author.Needs.{needs}
@@ -6,6 +7,28 @@ use borrow.Author.Tests.{not-false}
 use Rattle.listing.proofs.Forms.{gave-up, source-plannable, spreads-asked, plan-ready, explored-says}
 use Rattle.listing.proofs.explore_source.Statement.{statement}
 use Rattle.listing.proofs.explore_source.Tie as tie
+
+-- ## the places: something to plan, directions, a plan, a plan that passed its test
+
+abbrev begun : tie.Else1 → tie.Start
+begun c =
+    let known : tie.After-slice-known = c .before in
+    known .before .before .before
+
+abbrev some : tie.After-spreads-of-arg → tie.Else2
+some c = c .before .before
+
+abbrev aimed : tie.After-plan-source → tie.After-choose-directions
+aimed c = c .before .before
+
+abbrev worth : tie.After-choose-directions → tie.Else2
+worth c = some (c .before .before)
+
+abbrev planned : tie.After-slice-known2 → tie.After-plan-source
+planned c = c .before .before
+
+abbrev start : tie.After-plan-source → tie.Start
+start c = begun (worth (aimed c) .before)
 
 given-up-requires : tie.Need-given-up-requires
 given-up-requires c κs = search needs
@@ -29,19 +52,17 @@ part-spreads-of-end : tie.Need-part-spreads-of-end
 part-spreads-of-end c = search needs
 
 spreads-of-requires : tie.Need-spreads-of-requires
-spreads-of-requires c κs =
-    let s = c .before .before .before .before .before .before .before in
-    spreads-asked (s .pre .0)
+spreads-of-requires c κs = spreads-asked (begun (some c .before) .pre .0)
 
 choose-directions-requires : tie.Need-choose-directions-requires
 choose-directions-requires c κs =
-    let s = c .before .before .before .before .before .before .before .before in
-    (omega (arith, c .before .before .before .if2 .left), s .pre .0 .objectives)
+    let e = some (c .before) in
+    (omega (arith, e .if2 .left), begun (e .before) .pre .0 .objectives)
 
 plan-source-requires : tie.Need-plan-source-requires
 plan-source-requires c κs =
-    let s = c .before .before .before .before .before .before .before .before .before .before in
-    (source-plannable (s .pre .0), c .before .choose-directions .ensures .0)
+    let aim : tie.After-choose-directions = c .before in
+    (source-plannable (begun (worth aim .before) .pre .0), aim .choose-directions .ensures .0)
 
 given-up-requires-3 : tie.Need-given-up-requires-3
 given-up-requires-3 c κs = search needs
@@ -50,22 +71,32 @@ same-length : tie.Need-same-length
 same-length c = search needs
 
 returns-3 : tie.Need-returns-3
-returns-3 c = (c .before .before .before .before .plan-source .ensures .0, gave-up _ _ _ _ _ _ (c .given-up3 .ensures))
+returns-3 c =
+    let failed : tie.Then3 = c .before in
+    (planned (failed .before) .plan-source .ensures .0, gave-up _ _ _ _ _ _ (c .given-up3 .ensures))
 
 explore-requires : tie.Need-explore-requires
 explore-requires c κs =
-    let s = c .before .before .before .before .before .before .before .before .before .before .before .before .before .before .before in
-    let made = c .before .before .before .before .plan-source .ensures in
-    plan-ready (s .pre .0) (made .0) (c .before .before .before .before .before .before .choose-directions .result) (c .before .before .before .before .before .before .choose-directions .ensures .1) (s .args .room) (s .pre .1) (made .1 (not-false _ (c .before .if3 .left))) (omega (arith, c .before .before .before .before .before .before .before .before .before .before .before .if1 .left))
+    let sound : tie.Else3 = c .before in
+    let p = planned (sound .before) in
+    let s = start p in
+    let d = aimed p .choose-directions in
+    let made = p .plan-source .ensures in
+    plan-ready (s .pre .0) (made .0) (d .result) (d .ensures .1) (s .args .room) (s .pre .1)
+    (made .1 (not-false _ (sound .if3 .left))) (omega (arith, worth (aimed p) .before .if1 .left))
 
 same-length-2 : tie.Need-same-length-2
 same-length-2 c = search needs
 
 returns-4 : tie.Need-returns-4
 returns-4 c =
-    let s = c .before .before .before .before .before .before .before .before .before .before .before .before .before .before .before .before .before .before in
-    let e = c .before .before .explore in
-    explored-says (s .pre .0) (c .before .before .before .before .before .before .before .plan-source .ensures .0) (c .before .before .before .before .before .before .before .before .before .choose-directions .result) (c .before .before .before .before .before .before .before .before .before .choose-directions .ensures .1) (s .args .room) (s .pre .1) _ (e .result) (e .ensures)
+    let e : tie.After-explore = c .before .before in
+    let sound : tie.Else3 = e .before .before in
+    let p = planned (sound .before) in
+    let s = start p in
+    let d = aimed p .choose-directions in
+    explored-says (s .pre .0) (p .plan-source .ensures .0) (d .result) (d .ensures .1) (s .args .room) (s .pre .1)
+    _ (e .explore .result) (e .explore .ensures)
 
 pub explore-source-spec : {M : Type 1} → statement M
 explore-source-spec =
