@@ -19,6 +19,15 @@ given-up-requires-2 c κs = search needs
 returns-2 : tie.Need-returns-2
 returns-2 c = (record { long = refl; source = refl }, gave-up _ _ _ _ _ _ (c .given-up2 .ensures))
 
+are-short-requires : tie.Need-are-short-requires
+are-short-requires c κs = search needs
+
+given-up-requires-3 : tie.Need-given-up-requires-3
+given-up-requires-3 c κs = search needs
+
+returns-3 : tie.Need-returns-3
+returns-3 c = (record { long = refl; source = refl }, gave-up _ _ _ _ _ _ (c .given-up3 .ensures))
+
 sub-spreads-of : tie.Need-sub-spreads-of
 sub-spreads-of c = search needs
 
@@ -30,40 +39,40 @@ part-spreads-of-end c = search needs
 
 spreads-of-requires : tie.Need-spreads-of-requires
 spreads-of-requires c κs =
-    let s = c .before .before .before .before .before .before .before in
+    let s = c .before .before .before .before .before .before .before .before .before in
     spreads-asked (s .pre .0)
 
 choose-directions-requires : tie.Need-choose-directions-requires
 choose-directions-requires c κs =
-    let s = c .before .before .before .before .before .before .before .before in
-    (omega (arith, c .before .before .before .if2 .left), s .pre .0 .objectives)
+    let s = c .before .before .before .before .before .before .before .before .before .before in
+    (omega (arith, c .before .before .before .before .before .if2 .left), s .pre .0 .objectives)
 
 plan-source-requires : tie.Need-plan-source-requires
 plan-source-requires c κs =
-    let s = c .before .before .before .before .before .before .before .before .before .before in
+    let s = c .before .before .before .before .before .before .before .before .before .before .before .before in
     (source-plannable (s .pre .0), c .before .choose-directions .ensures .0)
 
-given-up-requires-3 : tie.Need-given-up-requires-3
-given-up-requires-3 c κs = search needs
+given-up-requires-4 : tie.Need-given-up-requires-4
+given-up-requires-4 c κs = search needs
 
 same-length : tie.Need-same-length
 same-length c = search needs
 
-returns-3 : tie.Need-returns-3
-returns-3 c = (c .before .before .before .before .plan-source .ensures .0, gave-up _ _ _ _ _ _ (c .given-up3 .ensures))
+returns-4 : tie.Need-returns-4
+returns-4 c = (c .before .before .before .before .plan-source .ensures .0, gave-up _ _ _ _ _ _ (c .given-up4 .ensures))
 
 explore-requires : tie.Need-explore-requires
 explore-requires c κs =
-    let s = c .before .before .before .before .before .before .before .before .before .before .before .before .before .before .before in
+    let s = c .before .before .before .before .before .before .before .before .before .before .before .before .before .before .before .before .before in
     let made = c .before .before .before .before .plan-source .ensures in
-    plan-ready (s .pre .0) (made .0) (c .before .before .before .before .before .before .choose-directions .result) (c .before .before .before .before .before .before .choose-directions .ensures .1) (s .args .room) (s .pre .1) (made .1 (not-false _ (c .before .if3 .left))) (omega (arith, c .before .before .before .before .before .before .before .before .before .before .before .if1 .left))
+    plan-ready (s .pre .0) (made .0) (c .before .before .before .before .before .before .choose-directions .result) (c .before .before .before .before .before .before .choose-directions .ensures .1) (s .args .room) (s .pre .1) (made .1 (not-false _ (c .before .if4 .left))) (omega (arith, c .before .before .before .before .before .before .before .before .before .before .before .before .before .if1 .left)) (c .before .before .before .before .before .before .before .before .before .before .before .are-short .ensures (not-false _ (c .before .before .before .before .before .before .before .before .before .before .if3 .left)))
 
 same-length-2 : tie.Need-same-length-2
 same-length-2 c = search needs
 
-returns-4 : tie.Need-returns-4
-returns-4 c =
-    let s = c .before .before .before .before .before .before .before .before .before .before .before .before .before .before .before .before .before .before in
+returns-5 : tie.Need-returns-5
+returns-5 c =
+    let s = c .before .before .before .before .before .before .before .before .before .before .before .before .before .before .before .before .before .before .before .before in
     let e = c .before .before .explore in
     explored-says (s .pre .0) (c .before .before .before .before .before .before .before .plan-source .ensures .0) (c .before .before .before .before .before .before .before .before .before .choose-directions .result) (c .before .before .before .before .before .before .before .before .before .choose-directions .ensures .1) (s .args .room) (s .pre .1) _ (e .result) (e .ensures)
 
@@ -75,15 +84,18 @@ explore-source-spec =
     returns
     given-up-requires-2
     returns-2
+    are-short-requires
+    given-up-requires-3
+    returns-3
     sub-spreads-of
     part-spreads-of-start
     part-spreads-of-end
     spreads-of-requires
     choose-directions-requires
     plan-source-requires
-    given-up-requires-3
+    given-up-requires-4
     same-length
-    returns-3
+    returns-4
     explore-requires
     same-length-2
-    returns-4)
+    returns-5)
