@@ -15,20 +15,23 @@ begun c =
     let known : tie.After-slice-known = c .before in
     known .before .before .before
 
-abbrev some : tie.After-spreads-of-arg → tie.Else2
+abbrev some : tie.After-spreads-of-arg → tie.Else3
 some c = c .before .before
 
 abbrev aimed : tie.After-plan-source → tie.After-choose-directions
 aimed c = c .before .before
 
-abbrev worth : tie.After-choose-directions → tie.Else2
+abbrev worth : tie.After-choose-directions → tie.Else3
 worth c = some (c .before .before)
+
+abbrev costly : tie.Else3 → tie.Else2
+costly c = c .before .before
 
 abbrev planned : tie.After-slice-known2 → tie.After-plan-source
 planned c = c .before .before
 
 abbrev start : tie.After-plan-source → tie.Start
-start c = begun (worth (aimed c) .before)
+start c = begun (costly (worth (aimed c)) .before)
 
 given-up-requires : tie.Need-given-up-requires
 given-up-requires c κs = search needs
@@ -42,6 +45,15 @@ given-up-requires-2 c κs = search needs
 returns-2 : tie.Need-returns-2
 returns-2 c = (record { long = refl; source = refl }, gave-up _ _ _ _ _ _ (c .given-up2 .ensures))
 
+are-short-requires : tie.Need-are-short-requires
+are-short-requires c κs = search needs
+
+given-up-requires-3 : tie.Need-given-up-requires-3
+given-up-requires-3 c κs = search needs
+
+returns-3 : tie.Need-returns-3
+returns-3 c = (record { long = refl; source = refl }, gave-up _ _ _ _ _ _ (c .given-up3 .ensures))
+
 sub-spreads-of : tie.Need-sub-spreads-of
 sub-spreads-of c = search needs
 
@@ -52,46 +64,48 @@ part-spreads-of-end : tie.Need-part-spreads-of-end
 part-spreads-of-end c = search needs
 
 spreads-of-requires : tie.Need-spreads-of-requires
-spreads-of-requires c κs = spreads-asked (begun (some c .before) .pre .0)
+spreads-of-requires c κs = spreads-asked (begun (costly (some c) .before) .pre .0)
 
 choose-directions-requires : tie.Need-choose-directions-requires
 choose-directions-requires c κs =
-    let e = some (c .before) in
+    let e = costly (some (c .before)) in
     (omega (arith, e .if2 .left), begun (e .before) .pre .0 .objectives)
 
 plan-source-requires : tie.Need-plan-source-requires
 plan-source-requires c κs =
     let aim : tie.After-choose-directions = c .before in
-    (source-plannable (begun (worth aim .before) .pre .0), aim .choose-directions .ensures .0)
+    (source-plannable (begun (costly (worth aim) .before) .pre .0), aim .choose-directions .ensures .0)
 
-given-up-requires-3 : tie.Need-given-up-requires-3
-given-up-requires-3 c κs = search needs
+given-up-requires-4 : tie.Need-given-up-requires-4
+given-up-requires-4 c κs = search needs
 
 same-length : tie.Need-same-length
 same-length c = search needs
 
-returns-3 : tie.Need-returns-3
-returns-3 c =
-    let failed : tie.Then3 = c .before in
-    (planned (failed .before) .plan-source .ensures .0, gave-up _ _ _ _ _ _ (c .given-up3 .ensures))
+returns-4 : tie.Need-returns-4
+returns-4 c =
+    let failed : tie.Then4 = c .before in
+    (planned (failed .before) .plan-source .ensures .0, gave-up _ _ _ _ _ _ (c .given-up4 .ensures))
 
 explore-requires : tie.Need-explore-requires
 explore-requires c κs =
-    let sound : tie.Else3 = c .before in
+    let sound : tie.Else4 = c .before in
     let p = planned (sound .before) in
     let s = start p in
     let d = aimed p .choose-directions in
     let made = p .plan-source .ensures in
+    let short : tie.Else3 = worth (aimed p) in
     plan-ready (s .pre .0) (made .0) (d .result) (d .ensures .1) (s .args .room) (s .pre .1)
-    (made .1 (not-false _ (sound .if3 .left))) (omega (arith, worth (aimed p) .before .if1 .left))
+    (made .1 (not-false _ (sound .if4 .left))) (omega (arith, costly short .before .if1 .left))
+    (short .before .are-short .ensures (not-false _ (short .if3 .left)))
 
 same-length-2 : tie.Need-same-length-2
 same-length-2 c = search needs
 
-returns-4 : tie.Need-returns-4
-returns-4 c =
+returns-5 : tie.Need-returns-5
+returns-5 c =
     let e : tie.After-explore = c .before .before in
-    let sound : tie.Else3 = e .before .before in
+    let sound : tie.Else4 = e .before .before in
     let p = planned (sound .before) in
     let s = start p in
     let d = aimed p .choose-directions in
@@ -106,15 +120,18 @@ explore-source-spec =
     returns
     given-up-requires-2
     returns-2
+    are-short-requires
+    given-up-requires-3
+    returns-3
     sub-spreads-of
     part-spreads-of-start
     part-spreads-of-end
     spreads-of-requires
     choose-directions-requires
     plan-source-requires
-    given-up-requires-3
+    given-up-requires-4
     same-length
-    returns-3
+    returns-4
     explore-requires
     same-length-2
-    returns-4)
+    returns-5)

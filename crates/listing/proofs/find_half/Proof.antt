@@ -30,33 +30,30 @@ keep-records-requires c κs =
     let a = s .args in
     side-asked (a .p) (a .r) (a .at) (a .side) (a .ceilings) (now (a .sizes)) (now (a .sides)) (now (a .s)) (now (a .work)) (s .pre .0) (s .pre .1) _ (c .before .before .before .before .keep-places .ensures)
 
-widened-requires : tie.Need-widened-requires
-widened-requires c κs = search needs
-
 array-share-prefix-narrow : tie.Need-array-share-prefix-narrow
 array-share-prefix-narrow c = search needs
 
 slice-aggregate-find-source : tie.Need-slice-aggregate-find-source
 slice-aggregate-find-source c =
-    let s = c .before .before .before .before .before .before .before .before .before .before .before .before .before .before .before in
+    let s = c .before .before .before .before .before .before .before .before .before .before .before .before .before .before in
     let a = s .args in
-    sym (ap length (c .before .before .before .before .before .before .narrow .ensures) ∙ narrowed-length (a .side) (now (a .sides)) (now (a .sizes)) (s .pre .1))
+    sym (ap length (c .before .before .before .before .before .narrow .ensures) ∙ narrowed-length (a .side) (now (a .sides)) (now (a .sizes)) (s .pre .1))
 
 find-source-requires : tie.Need-find-source-requires
 find-source-requires c κs =
-    let s = c .before .before .before .before .before .before .before .before .before .before .before .before .before .before .before .before in
+    let s = c .before .before .before .before .before .before .before .before .before .before .before .before .before .before .before in
     let a = s .args in
-    (side-source (a .p) (a .r) (a .at) (a .side) (a .ceilings) (now (a .sizes)) (now (a .sides)) (now (a .s)) (now (a .work)) (s .pre .0) (s .pre .1) _ (c .before .before .before .before .before .before .before .before .before .before .keep-places .ensures) _ _ (c .before .before .before .before .before .keep-records .ensures) _ (c .before .before .widened .ensures) _ (c .before .before .before .before .before .before .before .narrow .ensures), omega arith)
+    (side-source (a .p) (a .r) (a .at) (a .side) (a .ceilings) (now (a .sizes)) (now (a .sides)) (now (a .s)) (now (a .work)) (s .pre .0) (s .pre .1) _ (c .before .before .before .before .before .before .before .before .before .keep-places .ensures) _ _ (c .before .before .before .before .keep-records .ensures) _ (c .before .before .before .before .before .before .narrow .ensures), omega arith)
 
 same-length : tie.Need-same-length
 same-length c = search needs
 
 returns : tie.Need-returns
 returns c =
-    let s = c .before .before .before .before .before .before .before .before .before .before .before .before .before .before .before .before .before .before .before in
+    let s = c .before .before .before .before .before .before .before .before .before .before .before .before .before .before .before .before .before .before in
     let a = s .args in
     let f = c .before .before .find-source in
-    side-says (a .p) (a .r) (a .at) (a .side) (a .ceilings) (now (a .sizes)) (now (a .sides)) (now (a .s)) (now (a .work)) (s .pre .0) (s .pre .1) _ (c .before .before .before .before .before .before .before .before .before .before .before .before .before .keep-places .ensures) _ _ (c .before .before .before .before .before .before .before .before .keep-records .ensures) _ (c .before .before .before .before .before .widened .ensures) _ (c .before .before .before .before .before .before .before .before .before .before .narrow .ensures) _ (f .result) (f .ensures)
+    side-says (a .p) (a .r) (a .at) (a .side) (a .ceilings) (now (a .sizes)) (now (a .sides)) (now (a .s)) (now (a .work)) (s .pre .0) (s .pre .1) _ (c .before .before .before .before .before .before .before .before .before .before .before .before .keep-places .ensures) _ _ (c .before .before .before .before .before .before .before .keep-records .ensures) _ (c .before .before .before .before .before .before .before .before .before .narrow .ensures) _ (f .result) (f .ensures)
 
 pub find-half-spec : {M : Type 1} → statement M
 find-half-spec =
@@ -68,7 +65,6 @@ find-half-spec =
     keep-places-requires
     narrow-requires
     keep-records-requires
-    widened-requires
     array-share-prefix-narrow
     slice-aggregate-find-source
     find-source-requires

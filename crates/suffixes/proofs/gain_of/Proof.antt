@@ -26,13 +26,13 @@ sub-gain : tie.Need-sub-gain
 sub-gain c = search needs
 
 returns-2 : tie.Need-returns-2
-returns-2 c = omega (arith, cost-is (c .before .before))
+returns-2 c = omega (arith, cost-is (c .before .before .before))
 
 cast-result : tie.Need-cast-result
 cast-result c = search needs
 
 returns-3 : tie.Need-returns-3
-returns-3 c = omega (arith, cost-is (c .before .before))
+returns-3 c = omega (arith, cost-is (c .before .before .before))
 
 pub gain-of-spec : {M : Type 1} → statement M
 gain-of-spec =
