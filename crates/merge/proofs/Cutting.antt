@@ -6,6 +6,7 @@ use Prim.Native.Nat.{ℕ, _≤_}
 use native.Mathlib.Omega.{arith}
 use lib.Dec.{ltb}
 use lib.ListN.{length, take}
+use lib.Seq.{length-take-le}
 use Rattle.model.specs.Basics.{All}
 use Rattle.model.specs.Limits.{maxPoints, workNeed}
 use Rattle.model.specs.Problems.{Problem, Word}
@@ -14,9 +15,11 @@ use Rattle.model.specs.Cuts.{sidesOk, uncrossed, halfSize}
 use Rattle.model.specs.Views.{view}
 use Rattle.layout.specs.Layout.{searchEnd, firstRow, secondRow}
 use Rattle.model.proofs.Bits.{true-false}
-use Rattle.model.proofs.Elements.{all-take}
+use Rattle.model.proofs.Elements.{all-in, all-take}
+use Rattle.model.proofs.Frontier.{frontier-best, reached-width, listed-under, under-words}
 use Rattle.model.proofs.Views.{view-size}
 use Rattle.model.proofs.Merging.{sums-best, sums-bytes}
+use Rattle.rows.specs.Rows.{WordCosts}
 use Rattle.passes.specs.declared.Found as DF
 use Rattle.listing.specs.Says.{problemAt, Accepted}
 use Rattle.passes.specs.Says.{FoundSays}
@@ -53,6 +56,14 @@ module _ {p r at room : ℕ} {ceilings ds s was : List ℕ} (ss : List ℕ) (a :
   half-told : (k : ℕ) {row : ℕ} {before after : List ℕ} {f : DF.Found} → KeptSays p (length ds) (listOf k) row before after f → ltb maxPoints (halfSize k q ss) ≡ f .full
   half-told k h = ap (ltb maxPoints) (sym (view-size q ss sides free k)) ∙ sym (h .full)
 
+  -- a half has the ceilings of the whole, so that its costs are words
+  half-words : p ≤ length ceilings → (k : ℕ) → All WordCosts (listOf k)
+  half-words wide k =
+      let v = view k q ss in
+      all-in WordCosts (listOf k) (λ t m.
+      let long = reached-width v t (frontier-best v .listed .sound t m) ∙ sym (length-take-le p ceilings wide) in
+      under-words (t .costs) (take p ceilings) long (listed-under v t m) (all-take Word p ceilings (a .words)))
+
   -- the first half's list is kept
   module _ {one : List ℕ} {f : DF.Found} (first : KeptSays p (length ds) (listOf 0) firstRow was one f) where
     pub first-full : f .full ≡ true → CutFound q ss room was one noLists
@@ -68,14 +79,14 @@ module _ {p r at room : ℕ} {ceilings ds s was : List ℕ} (ss : List ℕ) (a :
 
       module _ (u : g .full ≡ false) where
         first-is : firstIn p (length ds) two (f .count) ≡ listOf 0
-        first-is = first-same p (length ds) (a .objectives) (a .variables) one two (second .behind (omega arith)) (f .count) ∙ first .list t
+        first-is = first-same p (length ds) one two (second .behind (omega arith)) (f .count) ∙ first .list t
 
         second-is : secondIn p (length ds) two (g .count) ≡ listOf 1
         second-is = second .list u
 
         -- the sums of the two
-        pub cut-halved : Halved p (length ds) 0 (f .count) (g .count) two
-        cut-halved =
+        pub cut-halved : p ≤ length ceilings → Halved p (length ds) 0 (f .count) (g .count) two
+        cut-halved wide =
             record {
               long = omega (arith, kept-long, memory);
               objectives = a .objectives;
@@ -83,13 +94,12 @@ module _ {p r at room : ℕ} {ceilings ds s was : List ℕ} (ss : List ℕ) (a :
               count = omega arith;
               first-count = kept-few first;
               second-count = kept-few second;
+              first-words = rw first-is (half-words wide 0);
+              second-words = rw second-is (half-words wide 1);
               values = rw (first-is, second-is) (sums-bytes q ss (a .small));
             }
 
         module _ {wide : List ℕ} (same : wide ≡ ceilings) where
-          pub cut-words : All Word (take p wide)
-          cut-words = rw same (all-take Word p ceilings (a .words))
-
           module _ {three : List ℕ} {m : DF.Found} (merged : FoundSays p (length ds) (best (sumsIn p (length ds) wide two (f .count) (g .count))) room two three m) where
             sums-are : best (sumsIn p (length ds) wide two (f .count) (g .count)) ≡ frontier q
             sums-are = rw (same, first-is, second-is) (sums-best q ss sides free)

@@ -40,10 +40,10 @@ fn keep_half(
         side,
         p,
         ceilings,
-        &mut work[..listing::SEARCH_END],
+        &mut work[..layout::SEARCH_END],
     );
-    let to = rows::LIST_AT + rows::ROW_WIDTH * row;
-    groups::copy_numbers(rows::LIST_AT, to, rows::ROW_WIDTH * found.count, work);
+    let to = layout::LIST_AT + layout::ROW_WIDTH * row;
+    groups::copy_numbers(layout::LIST_AT, to, layout::ROW_WIDTH * found.count, work);
     found
 }
 
@@ -94,7 +94,7 @@ pub fn cut_lists(
         0,
         p,
         ceilings,
-        sums::FIRST_ROW,
+        layout::FIRST_ROW,
         work,
     );
     if first.full {
@@ -109,7 +109,7 @@ pub fn cut_lists(
         1,
         p,
         ceilings,
-        sums::SECOND_ROW,
+        layout::SECOND_ROW,
         work,
     );
     if second.full {

@@ -1,11 +1,16 @@
 -- `merge::cut_lists` meets its contract: each return hands what the callees ensure to one law of Cutting.
 use mathlib.Core.Path.{refl, sym}
+use Prim.Native.Nat.{_≤_}
 use native.Mathlib.Omega.{arith}
+use lib.ListN.{length}
+use mir.Syntax.{w32}
 use denote.Ref.{now}
 use borrow.Author.Needs.{needs}
+use Rattle.model.specs.Limits.{maxObjectives}
 use Rattle.model.proofs.Cut.{sides-long}
+use Rattle.rows.proofs.Arrays.{array-length}
 use Rattle.listing.specs.Says.{problemAt}
-use Rattle.merge.proofs.Cutting.{half-accepted, first-full, second-full, cut-halved, cut-words, merged-full, cut-end}
+use Rattle.merge.proofs.Cutting.{half-accepted, first-full, second-full, cut-halved, merged-full, cut-end}
 use Rattle.merge.proofs.cut_lists.Statement.{statement}
 use Rattle.merge.proofs.cut_lists.Tie as tie
 
@@ -48,10 +53,19 @@ widened-requires c κs = search needs
 
 merge-points-requires : tie.Need-merge-points-requires
 merge-points-requires c κs =
-    let s = c .before .before .before .before .before .before .before .before .before .before .before .before .before .before .before .before in
-    let first = c .before .before .before .before .before .before .before .before .before .before .keep-half .ensures in
-    let second = c .before .before .before .before .before .keep-half2 .ensures in
-    (cut-halved (now (s .args .sides)) (s .pre .0) (s .pre .1) (s .pre .2) (s .pre .3) first (c .before .before .before .before .before .before .before .if1 .left) second (c .before .before .if2 .left), cut-words (now (s .args .sides)) (s .pre .0) (s .pre .1) (s .pre .2) (s .pre .3) first (c .before .before .before .before .before .before .before .if1 .left) second (c .before .before .if2 .left) (c .before .widened .ensures), s .pre .0 .room-small)
+    let if2 = c .before .before in
+    let second = if2 .before .before .before in
+    let if1 = second .before .before in
+    let first = if1 .before .before .before in
+    let lent = first .before .before in
+    let s = lent .before .before .before .before in
+    let a = s .args in
+    let four = array-length w32 maxObjectives (a .ceilings) _ (s .good .1 .1 .1 .1 .1 .1 .0) in
+    let wide : a .p ≤ length (a .ceilings) = omega (arith, four, s .pre .0 .objectives) in
+    let halved =
+    cut-halved (now (a .sides)) (s .pre .0) (s .pre .1) (s .pre .2) (s .pre .3) (first .keep-half .ensures)
+    (if1 .if1 .left) (second .keep-half2 .ensures) (if2 .if2 .left) wide in
+    (halved, s .pre .0 .room-small)
 
 no-lists-requires-3 : tie.Need-no-lists-requires-3
 no-lists-requires-3 c κs = search needs
