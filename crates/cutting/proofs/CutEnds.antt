@@ -20,7 +20,7 @@ use Rattle.model.specs.Calls.{over, divided, roomOf, flatCosts, flatChoices, ro
 use Rattle.model.proofs.Cut.{cut-frontier}
 use Rattle.model.proofs.Core.{core-frontier, core-half-list, take-ceilings}
 use Rattle.layout.specs.Layout.{listEnd}
-use Rattle.rows.specs.Rows.{listIn}
+use Rattle.rows.specs.Rows.{listIn, WordCosts}
 use Rattle.problem.specs.declared.Reading as DG
 use Rattle.problem.proofs.Accepted.{AcceptedReading}
 use Rattle.listing.specs.Says.{problemAt, Accepted}
@@ -132,11 +132,13 @@ module _ (s : List ℕ) (r : DG.Reading) (a : AcceptedReading s r) (ss w : List 
       memory : listEnd ≤ length w1
       memory = omega (arith, says .long, cut-open s ss (length w) none .1)
 
-      pub costs-asked : (listEnd ≤ length w1) × (l .count ≤ maxPoints) × (p ≤ maxObjectives) × (l .count * p ≤ length c)
-      costs-asked = out.costs-asked s r a c x w1 (l .count) memory few
+      pub costs-asked : All Byte s
+          → (listEnd ≤ length w1) × (l .count ≤ maxPoints) × (p ≤ maxObjectives) × (l .count * p ≤ length c)
+          × All WordCosts (listIn p n w1 0 (l .count))
+      costs-asked = out.costs-asked s r a c x w1 (l .count) memory few list-is
 
-      pub choices-asked : (listEnd ≤ length w1) × (l .count ≤ maxPoints) × (n ≤ maxVariables) × (l .count * n ≤ length x) × All (λ t. All Byte (t .choice)) (listIn p n w1 0 (l .count))
-      choices-asked = out.choices-asked s r a c x w1 (l .count) memory few list-is
+      pub choices-asked : (listEnd ≤ length w1) × (l .count ≤ maxPoints) × (n ≤ maxVariables) × (l .count * n ≤ length x)
+      choices-asked = out.choices-asked s r a c x w1 (l .count) memory few
 
       pub list-end : (c1 x1 w2 : List ℕ) → c1 ≡ over (flatCosts (listIn p n w1 0 (l .count))) c → x1 ≡ over (flatChoices (listIn p n w1 0 (l .count))) x → w2 ≡ replicate (length w1) 0 → CutSays (cutOutcome s ss c x w) c1 x1 w2 (listedCut (l .count) (l .first) (l .second))
       list-end c1 x1 w2 d e z =

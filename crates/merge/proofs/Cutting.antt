@@ -6,6 +6,7 @@ use Prim.Native.Nat.{ℕ, _≤_}
 use native.Mathlib.Omega.{arith}
 use lib.Dec.{ltb}
 use lib.ListN.{length, take}
+use lib.Seq.{length-take-le}
 use Rattle.model.specs.Basics.{All}
 use Rattle.model.specs.Limits.{maxPoints, workNeed}
 use Rattle.model.specs.Problems.{Problem}
@@ -20,6 +21,7 @@ use Rattle.model.proofs.Core.{take-ceilings, core-sides, core-uncrossed}
 use Rattle.model.proofs.Cut.{sides-with}
 use Rattle.model.proofs.Views.{view-size}
 use Rattle.model.proofs.Merging.{sums-best, sums-bytes}
+use Rattle.rows.specs.Rows.{WordCosts}
 use Rattle.passes.specs.declared.Found as DF
 use Rattle.listing.specs.Says.{problemAt, Accepted}
 use Rattle.model.specs.Vectors.{under}
@@ -86,6 +88,14 @@ module _
       → KeptSays p (length ds) (listOf k) row before after f → ltb maxPoints (halfCount k hs q ss) ≡ f .full
   half-told k h = ap (ltb maxPoints) (sym (size k)) ∙ sym (h .full)
 
+  -- a half has the ceilings of the whole, so that its costs are words
+  half-words : p ≤ length ceilings → (k : ℕ) → All WordCosts (listOf k)
+  half-words wide k =
+      let v = view k q ss in
+      all-in WordCosts (listOf k) (λ t m.
+      let long = reached-width v t (frontier-best v .listed .sound t m) ∙ sym (length-take-le p ceilings wide) in
+      under-words (t .costs) (take p ceilings) long (listed-under v t m) (all-take Word p ceilings (a .words)))
+
   -- the first half's list is kept
   module _ {one : List ℕ} {f : DF.Found} (first : KeptSays p (length ds) (listOf 0) firstRow was one f) where
     pub first-full : f .full ≡ true → CutFound q hs ss room was one noLists
@@ -111,8 +121,8 @@ module _
         second-is = second .list u
 
         -- the sums of the two
-        pub cut-halved : Halved p (length ds) 0 (f .count) (g .count) two
-        cut-halved =
+        pub cut-halved : p ≤ length ceilings → Halved p (length ds) 0 (f .count) (g .count) two
+        cut-halved wide =
             record {
               long = omega (arith, kept-long, memory);
               objectives = a .objectives;

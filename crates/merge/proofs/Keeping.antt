@@ -1,14 +1,13 @@
 -- A half's list kept behind the list that is made: rows copied to other rows, and rows before them as they were.
-use mathlib.Core.Path.{_≡_, refl, sym, ap, _∙_}
+use mathlib.Core.Path.{_≡_, sym, ap, _∙_}
 use mathlib.Core.Logic.{_⊎_, inl}
 use mathlib.Core.Bool.{Bool, true, false, not}
 use mathlib.Core.List.{List, _++_}
-use Prim.Native.Nat.{ℕ, zero, suc, _+_, _-_, _*_, _≤_}
+use Prim.Native.Nat.{ℕ, _+_, _-_, _*_, _≤_}
 use native.Mathlib.Omega.{arith}
-use native.Mathlib.Nat.{add-zero}
 use lib.Dec.{ltb}
 use lib.ListN.{length, take, drop, length-drop, length-append}
-use lib.Seq.{length-take-le, take-take, take-append-le, drop-drop, drop-at}
+use lib.Seq.{length-take-le, take-take, take-append-le, drop-at}
 use borrow.Author.Tests.{ltb-false}
 use Rattle.model.specs.Basics.{when}
 use Rattle.model.specs.Limits.{maxObjectives, maxVariables, maxPoints, workNeed}
@@ -16,6 +15,7 @@ use Rattle.model.specs.Frontiers.{Point}
 use Rattle.layout.specs.Layout.{listAt, searchEnd, rowWidth, firstRow, secondRow}
 use Rattle.groups.proofs.Overwritten.{over, take-drop, over-length, over-behind, over-here}
 use Rattle.rows.specs.Rows.{rowAt, listIn}
+use Rattle.rows.proofs.RowsKept.{behind-rows, copied-rows}
 use Rattle.passes.specs.declared.Found as DF
 use Rattle.passes.specs.Says.{FoundSays}
 use Rattle.sums.specs.Sums.{firstIn}
@@ -36,22 +36,10 @@ part-same m k a x y h e =
     ∙ ap (drop a) (sym (take-take (a + k) m x h) ∙ ap (take (a + k)) e ∙ take-take (a + k) m y h)
     ∙ sym (take-drop k a y)
 
--- equal numbers are equal points
-module _ (p n : ℕ) (few : p ≤ maxObjectives) (values : n ≤ maxVariables) (x y : List ℕ) where
-  rows-same : (i j k : ℕ) → take (rowWidth * k) (drop (rowAt i) x) ≡ take (rowWidth * k) (drop (rowAt j) y) → listIn p n x i k ≡ listIn p n y j k
-  unfolding listIn
-  rows-same i j zero e = refl
-  rows-same i j (suc k) e =
-      let part : (a l : ℕ) → a + l ≤ rowWidth * suc k → take l (drop (rowAt i + a) x) ≡ take l (drop (rowAt j + a) y) =
-      λ a l h. rw (← drop-drop a (rowAt i) x, ← drop-drop a (rowAt j) y) (part-same (rowWidth * suc k) l a (drop (rowAt i) x) (drop (rowAt j) y) h e) in
-      let costs : take p (drop (rowAt i) x) ≡ take p (drop (rowAt j) y) = rw (add-zero, add-zero) at (part 0 p (omega arith)) in
-      let next : (r : ℕ) → rowAt r + rowWidth ≡ rowAt (r + 1) = λ r. omega arith in
-      let rest : take (rowWidth * k) (drop (rowAt (i + 1)) x) ≡ take (rowWidth * k) (drop (rowAt (j + 1)) y) = rw (next i, next j) at (part rowWidth (rowWidth * k) (omega arith)) in
-      rw (costs, part 4 n (omega arith), rows-same (i + 1) (j + 1) k rest)
-
 -- the rows of the first half, where nothing from them on changed
-pub first-same : (p n : ℕ) → p ≤ maxObjectives → n ≤ maxVariables → (was work : List ℕ) → drop (rowAt firstRow) work ≡ drop (rowAt firstRow) was → (a : ℕ) → firstIn p n work a ≡ firstIn p n was a
-first-same p n few values was work e a = rows-same p n few values work was firstRow firstRow a (ap (take (rowWidth * a)) e)
+pub first-same : (p n : ℕ) (was work : List ℕ) → drop (rowAt firstRow) work ≡ drop (rowAt firstRow) was → (a : ℕ)
+    → firstIn p n work a ≡ firstIn p n was a
+first-same p n was work e a = behind-rows (rowAt firstRow) work was e p n firstRow a (omega arith)
 
 -- the list that was found in the front part of memory is copied to a row behind it
 module _ {p n : ℕ} {fs : List Point} (was : List ℕ) {front : List ℕ} {f : DF.Found} (says : FoundSays p n fs maxPoints (take searchEnd was) front f) (long : workNeed ≤ length was) (row : ℕ) (low : secondRow ≤ row) (high : row ≤ firstRow) where
@@ -83,12 +71,12 @@ module _ {p n : ℕ} {fs : List Point} (was : List ℕ) {front : List ℕ} {f : 
     -- the list lies in the front part
     front-rows : listIn p n work 0 (f .count) ≡ listIn p n front 0 (f .count)
     front-rows =
-        rows-same p n few values work front 0 0 (f .count)
+        copied-rows p n few values work front 0 0 (f .count)
         (part-same searchEnd size listAt work front (omega (arith, copied-count)) (take-append-le searchEnd front (drop searchEnd was) (omega (arith, front-length))))
 
     same-rows : listIn p n copied row (f .count) ≡ listIn p n work 0 (f .count)
     same-rows =
-        rows-same p n few values copied work row 0 (f .count)
+        copied-rows p n few values copied work row 0 (f .count)
         (rw is (rw part-size at (over-here work (rowAt row) (take size (drop listAt work)) (rowAt row + size) ends (copied-asked .1))))
 
     pub copied-says : KeptSays p n fs row was copied f

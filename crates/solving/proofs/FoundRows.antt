@@ -1,5 +1,5 @@
 -- Once the search has ended: the room's test, and where it passes the list in work memory, ready to be copied out.
-use mathlib.Core.Path.{_≡_, sym, _∙_, subst, ap₂}
+use mathlib.Core.Path.{_≡_, sym, _∙_, ap₂}
 use mathlib.Core.Bool.{false, not}
 use mathlib.Core.List.{List}
 use Prim.Native.Nat.{ℕ, _≤_}
@@ -17,7 +17,7 @@ use Rattle.problem.specs.declared.Reading as DG
 use Rattle.problem.proofs.Accepted.{AcceptedReading}
 use Rattle.passes.specs.declared.Found as DF
 use Rattle.passes.specs.Says.{FoundFor}
-use Rattle.solving.proofs.SolveSteps.{objectives-are, variables-are, list-bytes}
+use Rattle.solving.proofs.SolveSteps.{objectives-are, variables-are, list-words}
 
 module _ (s : List ℕ) (r : DG.Reading) (a : AcceptedReading s r) (room : ℕ) (small : room ≤ maxPoints) (w w1 : List ℕ) (enough : workNeed ≤ length w) (f : DF.Found) (says : FoundFor (problemOf s) room w w1 f) where
   abbrev n : ℕ
@@ -42,12 +42,12 @@ module _ (s : List ℕ) (r : DG.Reading) (a : AcceptedReading s r) (room : ℕ) 
     pub few : f .count ≤ room
     few = omega (arith, count-is, ltb-false room (length (frontier (problemOf s))) (sym told ∙ t))
 
-    pub hold : RowsHold p n (f .count) w1
-    hold =
+    pub hold : All Byte s → RowsHold p n (f .count) w1
+    hold bytes =
         record {
           objectives = a .few-objectives .1;
           variables = a .few-variables .1;
           few = omega (arith, few);
           memory = λ _. omega (arith, kept, enough);
-          bytes = subst (All (λ t. All Byte (t .choice))) (sym list-is) (list-bytes s r a);
+          words = rw list-is (list-words s r a bytes);
         }

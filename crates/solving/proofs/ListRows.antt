@@ -26,7 +26,7 @@ use Rattle.solving.proofs.FoundRows as rows
 -- no rows
 hold-none : (w : List ℕ) → RowsHold 0 0 0 w
 unfolding listIn
-hold-none w = record { objectives = omega arith; variables = omega arith; few = omega arith; memory = λ h. absurd (omega arith); bytes = tt }
+hold-none w = record { objectives = omega arith; variables = omega arith; few = omega arith; memory = λ h. absurd (omega arith); words = tt }
 
 module _ (s : List ℕ) (room : ℕ) (w : List ℕ) (bytes : All Byte s) where
   pub unchanged-rows : (v : Verdict) → listVerdict s room w ≡ v → (n at : ℕ) → n ≡ v .number → at ≡ v .place → (n ≡ 0 → ⊥) → (n ≡ full → ⊥) → ListedSays s room w w (unlisted n at)
@@ -61,7 +61,7 @@ module _ (s : List ℕ) (room : ℕ) (w : List ℕ) (bytes : All Byte s) where
           place = rw is refl;
           list = rw is (rows.list-is s r a room′ small w w1 enough f says t);
           fits = omega (arith, room-as, rows.few s r a room′ small w w1 enough f says t);
-          hold = rows.hold s r a room′ small w w1 enough f says t;
+          hold = rows.hold s r a room′ small w w1 enough f says t bytes;
           left = rw is (ap (λ k. replicate k 0) (rows.kept s r a room′ small w w1 enough f says));
           long = rows.kept s r a room′ small w w1 enough f says;
           bytes = bytes;

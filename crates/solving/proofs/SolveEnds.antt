@@ -14,7 +14,7 @@ use Rattle.model.specs.Reading.{problemOf}
 use Rattle.model.specs.Frontiers.{frontier}
 use Rattle.model.specs.Calls.{over, divided, roomOf, flatCosts, flatChoices, solveOutcome}
 use Rattle.layout.specs.Layout.{listEnd}
-use Rattle.rows.specs.Rows.{listIn}
+use Rattle.rows.specs.Rows.{listIn, WordCosts}
 use Rattle.problem.specs.declared.Reading as DG
 use Rattle.problem.proofs.Accepted.{AcceptedReading}
 use Rattle.passes.specs.declared.Found as DF
@@ -54,11 +54,14 @@ module _ (s : List ℕ) (r : DG.Reading) (a : AcceptedReading s r) (c x w : List
       memory : listEnd ≤ length w1
       memory = omega (arith, rows.kept s r a room small w w1 enough f says, enough)
 
-      pub costs-asked : (listEnd ≤ length w1) × (f .count ≤ maxPoints) × (p ≤ maxObjectives) × (f .count * p ≤ length c)
-      costs-asked = out.costs-asked s r a c x w1 (f .count) memory few
+      pub costs-asked : All Byte s
+          → (listEnd ≤ length w1) × (f .count ≤ maxPoints) × (p ≤ maxObjectives) × (f .count * p ≤ length c)
+          × All WordCosts (listIn p n w1 0 (f .count))
+      costs-asked =
+          out.costs-asked s r a c x w1 (f .count) memory few (rows.list-is s r a room small w w1 enough f says t)
 
-      pub choices-asked : (listEnd ≤ length w1) × (f .count ≤ maxPoints) × (n ≤ maxVariables) × (f .count * n ≤ length x) × All (λ t. All Byte (t .choice)) (listIn p n w1 0 (f .count))
-      choices-asked = out.choices-asked s r a c x w1 (f .count) memory few (rows.list-is s r a room small w w1 enough f says t)
+      pub choices-asked : (listEnd ≤ length w1) × (f .count ≤ maxPoints) × (n ≤ maxVariables) × (f .count * n ≤ length x)
+      choices-asked = out.choices-asked s r a c x w1 (f .count) memory few
 
       pub list-end : (c1 x1 w2 : List ℕ) → c1 ≡ over (flatCosts (listIn p n w1 0 (f .count))) c → x1 ≡ over (flatChoices (listIn p n w1 0 (f .count))) x → w2 ≡ replicate (length w1) 0 → SolveSays (solveOutcome s c x w) c1 x1 w2 (listed 0 0 (f .count))
       list-end c1 x1 w2 d e z =

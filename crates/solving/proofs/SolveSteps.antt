@@ -1,23 +1,19 @@
 -- What the calls that list the frontier hand on of an accepted reading: the problem, and what the search asks.
 use mathlib.Core.Path.{_≡_, refl, sym, _∙_, subst}
-use mathlib.Core.Bool.{true, false≢true}
-use mathlib.Core.List.{List, [], _∷_}
+use mathlib.Core.List.{List}
 use Prim.Native.Nat.{ℕ, zero, suc, _+_, _-_, _*_, _≤_, _<_}
 use native.Mathlib.Omega.{arith}
 use lib.ListN.{length, getD, take, drop, replicate}
-use lib.Dec.{ltb}
 use lib.Seq.{length-take-le, take-at}
-use borrow.Author.Tests.{ltb-true}
 use Rattle.model.specs.Basics.{All}
 use Rattle.model.specs.Limits.{maxObjectives, maxPoints, workNeed}
-use Rattle.model.specs.Problems.{Problem, Word, DomainSize}
+use Rattle.model.specs.Problems.{Problem, Word}
 use Rattle.model.specs.Encoding.{Byte}
 use Rattle.model.specs.Reading.{wordsIn, headObjectives, tablesAt, problemOf}
 use Rattle.model.specs.Costs.{isChoice}
 use Rattle.model.specs.Frontiers.{Point, frontier}
 use Rattle.model.specs.Core.{coreCeilings, coreOf, coreFrontier}
 use Rattle.model.specs.Calls.{padded}
-use Rattle.model.proofs.Bits.{and-left, and-right}
 use Rattle.model.proofs.Elements.{all-each, all-in, all-append, all-drop}
 use Rattle.model.proofs.Words.{length-wordsIn, words-below}
 use Rattle.model.proofs.Frontier.{frontier-best}
@@ -31,14 +27,6 @@ use Rattle.passes.specs.Says.{FoundSays, FoundFor}
 all-zeros : (n : ℕ) → All Word (replicate n 0)
 all-zeros zero = tt
 all-zeros (suc n) = (omega arith, all-zeros n)
-
--- the values of a choice are bytes
-choice-bytes : (ds x : List ℕ) → All DomainSize ds → isChoice ds x ≡ true → All Byte x
-unfolding isChoice
-choice-bytes [] [] d h = tt
-choice-bytes [] (v ∷ x) d h = absurd (false≢true h)
-choice-bytes (e ∷ ds) [] d h = absurd (false≢true h)
-choice-bytes (e ∷ ds) (v ∷ x) d h = (omega (arith, ltb-true v e (and-left (ltb v e) _ h)), choice-bytes ds x (d .1) (and-right (ltb v e) _ h))
 
 module _ (s : List ℕ) (r : DG.Reading) (a : AcceptedReading s r) where
   abbrev variables : ℕ
@@ -98,9 +86,7 @@ module _ (s : List ℕ) (r : DG.Reading) (a : AcceptedReading s r) where
         memory = omega arith;
       }
 
-  -- the choices of the list are bytes
-  pub list-bytes : All (λ t. All Byte (t .choice)) (frontier (problemOf s))
-  list-bytes = all-in (λ t. All Byte (t .choice)) (frontier (problemOf s)) (λ p m. choice-bytes (problemOf s .domains) (p .choice) domains (frontier-best (problemOf s) .listed .sound p m .complete))
-    where
-      domains : All DomainSize (problemOf s .domains)
-      domains = subst (All DomainSize) (λ i. same-problem i .domains) (a .small)
+  -- the costs of the list are words
+  pub list-words : All Byte s → All WordCosts (frontier (problemOf s))
+  list-words bytes =
+      all-in WordCosts (frontier (problemOf s)) (listed-words (problemOf s) (accepted-rules s bytes (a .none)))

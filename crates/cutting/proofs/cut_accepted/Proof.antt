@@ -3,6 +3,8 @@ use native.Mathlib.Omega.{arith}
 use lib.ListN.{length}
 use denote.Ref.{now}
 use borrow.Author.Needs.{needs}
+use Rattle.model.specs.Encoding.{Byte}
+use Rattle.model.proofs.Elements.{all-each}
 use Rattle.cutting.proofs.CutRefusals.{cut-reading}
 use Rattle.cutting.proofs.CutEnds.{full-end, halves-few, costs-asked, choices-asked, list-end}
 use Rattle.cutting.proofs.cut_accepted.Statement.{statement}
@@ -40,9 +42,17 @@ returns c =
 
 copy-costs-requires : tie.Need-copy-costs-requires
 copy-costs-requires c κs =
-    let s = c .before .before .before .before .before .before .before .before .before .before .before .before .before .before .before .before in
-    let a = cut-reading (now (s .args .problem)) (now (s .args .sides)) (length (now (s .args .work))) (s .args .g) (s .pre .0) (s .pre .1) in
-    costs-asked _ _ a (now (s .args .sides)) (now (s .args .work)) (s .pre .1) (now (s .args .costs)) (now (s .args .choices)) _ (c .before .before .before .before .before .before .before .room-of .ensures) (c .before .before .before .before .before .cut-rows .result) _ (c .before .before .before .before .before .cut-rows .ensures) (c .before .before .if1 .left)
+    let if1 = c .before .before in
+    let found = if1 .before .before .before in
+    let room = found .before .before in
+    let lent = room .before .before .before .before in
+    let known = lent .before .before .before .before in
+    let s = known .before in
+    let b = s .args in
+    let a = cut-reading (now (b .problem)) (now (b .sides)) (length (now (b .work))) (b .g) (s .pre .0) (s .pre .1) in
+    let bytes = all-each Byte 0 (now (b .problem)) (λ i. omega (arith, known .shared-slice-known .given i)) in
+    costs-asked _ _ a (now (b .sides)) (now (b .work)) (s .pre .1) (now (b .costs)) (now (b .choices)) _
+    (room .room-of .ensures) (found .cut-rows .result) _ (found .cut-rows .ensures) (if1 .if1 .left) bytes
 
 copy-choices-requires : tie.Need-copy-choices-requires
 copy-choices-requires c κs =
@@ -57,7 +67,7 @@ cast-t31 : tie.Need-cast-t31
 cast-t31 c =
     let s = c .before .before .before .before .before .before .before .before .before .before .before .before .before .before .before .before .before .before .before .before .before .before .before .before .before .before .before .before .before in
     let a = cut-reading (now (s .args .problem)) (now (s .args .sides)) (length (now (s .args .work))) (s .args .g) (s .pre .0) (s .pre .1) in
-    let k = costs-asked _ _ a (now (s .args .sides)) (now (s .args .work)) (s .pre .1) (now (s .args .costs)) (now (s .args .choices)) _ (c .before .before .before .before .before .before .before .before .before .before .before .before .before .before .before .before .before .before .before .before .room-of .ensures) (c .before .before .before .before .before .before .before .before .before .before .before .before .before .before .before .before .before .before .cut-rows .result) _ (c .before .before .before .before .before .before .before .before .before .before .before .before .before .before .before .before .before .before .cut-rows .ensures) (c .before .before .before .before .before .before .before .before .before .before .before .before .before .before .before .if1 .left) in
+    let k = choices-asked _ _ a (now (s .args .sides)) (now (s .args .work)) (s .pre .1) (now (s .args .costs)) (now (s .args .choices)) _ (c .before .before .before .before .before .before .before .before .before .before .before .before .before .before .before .before .before .before .before .before .room-of .ensures) (c .before .before .before .before .before .before .before .before .before .before .before .before .before .before .before .before .before .before .cut-rows .result) _ (c .before .before .before .before .before .before .before .before .before .before .before .before .before .before .before .before .before .before .cut-rows .ensures) (c .before .before .before .before .before .before .before .before .before .before .before .before .before .before .before .if1 .left) in
     omega (arith, k .1)
 
 cast-t32 : tie.Need-cast-t32

@@ -29,8 +29,9 @@ returns-2 c = λ e. absurd (true-false refl e)
 
 is-tied-requires : tie.Need-is-tied-requires
 is-tied-requires c κs =
-    let reached = c .before .before in
-    let s = reached .before .before .before .before in
+    let reached = c .before in
+    let part = reached .before .before .before in
+    let s = part .before .before .before in
     (s .pre .0, s .pre .1, s .pre .3, s .pre .4, s .pre .5)
 
 returns-3 : tie.Need-returns-3

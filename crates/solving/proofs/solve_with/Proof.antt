@@ -7,6 +7,8 @@ use Rattle.model.proofs.Places.{place-limit, refused-number}
 use Rattle.problem.proofs.Accepted.{read-accepted}
 use Rattle.solving.proofs.ListVerdicts.{refused-verdict, short-verdict}
 use Rattle.solving.proofs.SolveAnswers.{unchanged-solve}
+use Rattle.model.specs.Encoding.{Byte}
+use Rattle.model.proofs.Elements.{all-each}
 use Rattle.solving.proofs.SolveEnds.{full-end, costs-asked, choices-asked, list-end}
 use Rattle.solving.proofs.solve_with.Statement.{statement}
 use Rattle.solving.proofs.solve_with.Tie as tie
@@ -65,9 +67,18 @@ returns-3 c =
 
 copy-costs-requires : tie.Need-copy-costs-requires
 copy-costs-requires c κs =
-    let s = c .before .before .before .before .before .before .before .before .before .before .before .before .before .before .before .before .before .before .before .args in
-    let a = read-accepted _ (c .before .before .before .before .before .before .before .before .before .before .before .before .before .before .read-problem .result) (c .before .before .before .before .before .before .before .before .before .before .before .before .before .before .read-problem .ensures) (c .before .before .before .before .before .before .before .before .before .before .before .before .if1 .left) in
-    costs-asked _ _ a (now (s .costs)) (now (s .choices)) _ (c .before .before .before .before .before .before .before .before .before .before .before .if2 .left) _ (c .before .before .before .before .before .before .before .room-of .ensures) _ _ (c .before .before .before .before .before .find-rows .ensures) (c .before .before .if3 .left)
+    let if3 = c .before .before in
+    let found = if3 .before .before .before in
+    let room = found .before .before in
+    let if2 = room .before .before .before .before in
+    let if1 = if2 .before in
+    let read = if1 .before .before in
+    let known = read .before .before .before .before in
+    let s = known .before .args in
+    let a = read-accepted _ (read .read-problem .result) (read .read-problem .ensures) (if1 .if1 .left) in
+    let bytes = all-each Byte 0 (now (s .problem)) (λ i. omega (arith, known .shared-slice-known .given i)) in
+    costs-asked _ _ a (now (s .costs)) (now (s .choices)) _ (if2 .if2 .left) _ (room .room-of .ensures) _ _
+    (found .find-rows .ensures) (if3 .if3 .left) bytes
 
 copy-choices-requires : tie.Need-copy-choices-requires
 copy-choices-requires c κs =
@@ -82,7 +93,7 @@ cast-t33 : tie.Need-cast-t33
 cast-t33 c =
     let s = c .before .before .before .before .before .before .before .before .before .before .before .before .before .before .before .before .before .before .before .before .before .before .before .before .before .before .before .before .before .before .before .args in
     let a = read-accepted _ (c .before .before .before .before .before .before .before .before .before .before .before .before .before .before .before .before .before .before .before .before .before .before .before .before .before .before .read-problem .result) (c .before .before .before .before .before .before .before .before .before .before .before .before .before .before .before .before .before .before .before .before .before .before .before .before .before .before .read-problem .ensures) (c .before .before .before .before .before .before .before .before .before .before .before .before .before .before .before .before .before .before .before .before .before .before .before .before .if1 .left) in
-    let k = costs-asked _ _ a (now (s .costs)) (now (s .choices)) _ (c .before .before .before .before .before .before .before .before .before .before .before .before .before .before .before .before .before .before .before .before .before .before .before .if2 .left) _ (c .before .before .before .before .before .before .before .before .before .before .before .before .before .before .before .before .before .before .before .room-of .ensures) _ _ (c .before .before .before .before .before .before .before .before .before .before .before .before .before .before .before .before .before .find-rows .ensures) (c .before .before .before .before .before .before .before .before .before .before .before .before .before .before .if3 .left) in
+    let k = choices-asked _ _ a (now (s .costs)) (now (s .choices)) _ (c .before .before .before .before .before .before .before .before .before .before .before .before .before .before .before .before .before .before .before .before .before .before .before .if2 .left) _ (c .before .before .before .before .before .before .before .before .before .before .before .before .before .before .before .before .before .before .before .room-of .ensures) _ _ (c .before .before .before .before .before .before .before .before .before .before .before .before .before .before .before .before .before .find-rows .ensures) (c .before .before .before .before .before .before .before .before .before .before .before .before .before .before .if3 .left) in
     omega (arith, k .1)
 
 same-length-2 : tie.Need-same-length-2

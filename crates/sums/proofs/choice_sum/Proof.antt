@@ -2,56 +2,54 @@
 use mathlib.Core.Path.{_≡_, refl}
 use Prim.Native.Nat.{_+_, _-_, _≤_, _<_}
 use native.Mathlib.Omega.{arith}
-use lib.ListN.{length, getD, take}
+use lib.ListN.{length, take}
 use lib.Seq.{take-all, length-take-le}
-use denote.Ref.{now}
+use mir.Syntax.{w8}
 use Rattle.model.specs.Limits.{maxVariables, maxDomain}
 use Rattle.model.specs.Calls.{padded}
 use Rattle.problem.proofs.Filled.{padded-step, take-padded}
-use Rattle.sums.proofs.Adding.{addedIn, sums-long, sums-more, sums-small}
+use Rattle.rows.proofs.Arrays.{array-length}
+use Rattle.sums.proofs.Adding.{frontsAdded, sums-long, sums-more, sums-each}
 use borrow.Author.Needs.{needs}
 use Rattle.sums.proofs.choice_sum.Statement.{statement}
 use Rattle.sums.proofs.choice_sum.Tie as tie
 
 abbrev Inv-loop : tie.InvT-loop
-Inv-loop work a b n sum₀ i₀ sum i = (i ≤ n) × (sum ≡ padded maxVariables (take i (addedIn work a b n)))
+Inv-loop n x y sum₀ i₀ sum i = (i ≤ n) × (sum ≡ padded maxVariables (take i (frontsAdded x y n)))
 
 abbrev μ-loop : tie.MeasureT-loop
-μ-loop work a b n sum₀ i₀ sum i = n - i
+μ-loop n x y sum₀ i₀ sum i = n - i
+
+module _ (s : tie.Start Inv-loop μ-loop) where
+  wide-x : maxVariables ≤ length (s .args .t1)
+  wide-x = omega (arith, array-length w8 maxVariables (s .args .t1) _ (s .good .0))
+
+  wide-y : maxVariables ≤ length (s .args .t2)
+  wide-y = omega (arith, array-length w8 maxVariables (s .args .t2) _ (s .good .1 .0))
+
+  long-x : s .args .n ≤ length (s .args .t1)
+  long-x = omega (arith, wide-x, s .pre .0)
+
+  long-y : s .args .n ≤ length (s .args .t2)
+  long-y = omega (arith, wide-y, s .pre .0)
 
 loop-holds : tie.Need-loop-holds Inv-loop μ-loop
 unfolding padded
 loop-holds c = (omega arith, refl)
 
+array-read-sum : tie.Need-array-read-sum Inv-loop μ-loop
+array-read-sum c = search needs
+
+array-read-sum-2 : tie.Need-array-read-sum-2 Inv-loop μ-loop
+array-read-sum-2 c = search needs
+
 add-sum : tie.Need-add-sum Inv-loop μ-loop
-add-sum c = search needs
-
-mul-sum : tie.Need-mul-sum Inv-loop μ-loop
-mul-sum c = search needs
-
-shared-slice-read-sum : tie.Need-shared-slice-read-sum Inv-loop μ-loop
-shared-slice-read-sum c = search needs
-
-add-sum-2 : tie.Need-add-sum-2 Inv-loop μ-loop
-add-sum-2 c = search needs
-
-mul-sum-2 : tie.Need-mul-sum-2 Inv-loop μ-loop
-mul-sum-2 c = search needs
-
-shared-slice-read-sum-2 : tie.Need-shared-slice-read-sum-2 Inv-loop μ-loop
-shared-slice-read-sum-2 c = search needs
-
-small : (c : tie.After-shared-slice-known2 Inv-loop μ-loop) → getD (now (c .before .before .before .before .args .work)) (c .before .before .before .before .args .a + c .before .before .before .loop .i) 0 + getD (now (c .before .before .before .before .args .work)) (c .before .before .before .before .args .b + c .before .before .before .loop .i) 0 < maxDomain
-small c =
-    let s = c .before .before .before .before in
+add-sum c =
+    let w = c .before .loop in
+    let s = c .before .before in
     let a = s .args in
-    sums-small (now (a .work)) (a .a) (a .b) (a .n) (s .pre .1) (s .pre .2) (c .before .before .before .loop .i) (omega arith) (s .pre .3)
-
-add-sum-3 : tie.Need-add-sum-3 Inv-loop μ-loop
-add-sum-3 c = omega (arith, small c)
-
-cast-sum : tie.Need-cast-sum Inv-loop μ-loop
-cast-sum c = omega (arith, small c)
+    let small = sums-each (a .t1) (a .t2) (a .n) (long-x s) (long-y s) (w .i) (omega arith) (λ v. v < maxDomain) (s .pre .1) in
+    omega (arith, small)
 
 array-write-sum : tie.Need-array-write-sum Inv-loop μ-loop
 array-write-sum c = search needs
@@ -64,21 +62,22 @@ loop-less c = search needs
 
 loop-again : tie.Need-loop-again Inv-loop μ-loop
 loop-again c =
-    let s = c .before .before .before .before in
+    let w = c .before .loop in
+    let s = c .before .before in
     let a = s .args in
-    let w = c .before .before .before .loop in
-    let xs = addedIn (now (a .work)) (a .a) (a .b) (a .n) in
-    let long : length xs ≡ a .n = sums-long (now (a .work)) (a .a) (a .b) (a .n) (s .pre .1) (s .pre .2) in
-    let more = sums-more (now (a .work)) (a .a) (a .b) (a .n) (s .pre .1) (s .pre .2) (w .i) (omega arith) in
-    (omega arith, padded-step maxVariables (w .i) (λ k. take k xs) (w .sum) _ (length-take-le (w .i) xs (omega arith)) (omega arith) more (w .inv .1))
+    let xs = frontsAdded (a .t1) (a .t2) (a .n) in
+    let long : length xs ≡ a .n = sums-long (a .t1) (a .t2) (a .n) (long-x s) (long-y s) in
+    let more = sums-more (a .t1) (a .t2) (a .n) (long-x s) (long-y s) (w .i) (omega arith) in
+    let few = length-take-le (w .i) xs (omega arith) in
+    (omega arith, padded-step maxVariables (w .i) (λ k. take k xs) (w .sum) _ few (omega arith) more (w .inv .1))
 
 returns : tie.Need-returns Inv-loop μ-loop
 returns c =
+    let w = c .before .loop in
     let s = c .before .before in
     let a = s .args in
-    let w = c .before .loop in
-    let xs = addedIn (now (a .work)) (a .a) (a .b) (a .n) in
-    let long : length xs ≡ a .n = sums-long (now (a .work)) (a .a) (a .b) (a .n) (s .pre .1) (s .pre .2) in
+    let xs = frontsAdded (a .t1) (a .t2) (a .n) in
+    let long : length xs ≡ a .n = sums-long (a .t1) (a .t2) (a .n) (long-x s) (long-y s) in
     let all : take (w .i) xs ≡ xs = take-all (w .i) xs (omega arith) in
     rw (w .inv .1, all) (take-padded maxVariables (a .n) xs long)
 
@@ -89,14 +88,9 @@ choice-sum-spec =
     Inv-loop
     μ-loop
     loop-holds
+    array-read-sum
+    array-read-sum-2
     add-sum
-    mul-sum
-    shared-slice-read-sum
-    add-sum-2
-    mul-sum-2
-    shared-slice-read-sum-2
-    add-sum-3
-    cast-sum
     array-write-sum
     add-i
     loop-less

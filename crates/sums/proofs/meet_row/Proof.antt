@@ -6,7 +6,8 @@ use native.Mathlib.Omega.{arith}
 use denote.Ref.{now}
 use Rattle.model.specs.Frontiers.{Point}
 use Rattle.model.specs.Merging.{sumOf}
-use Rattle.rows.specs.Rows.{pointIn}
+use Rattle.rows.specs.Rows.{pointIn, WordCosts}
+use Rattle.rows.proofs.RowParts.{row-has}
 use Rattle.search.specs.States.{heldOf}
 use Rattle.layout.specs.Layout.{secondRow}
 use Rattle.sums.specs.Sums.{pointOf}

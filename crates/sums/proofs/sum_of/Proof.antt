@@ -1,69 +1,88 @@
--- `sums::sum_of` meets its contract: numbers of work memory are small enough that no sum of two wraps.
-use Prim.Native.Nat.{ℕ, _+_, _≤_}
-use native.Mathlib.Omega.{arith}
-use lib.ListN.{length, take, drop}
+-- `sums::sum_of` meets its contract: the first costs and values of two rows are added.
+use mathlib.Core.Path.{_≡_, _∙_}
+use mathlib.Core.List.{List}
+use Prim.Native.Nat.{ℕ}
+use lib.ListN.{take}
 use denote.Ref.{now}
-use Rattle.model.specs.Basics.{All}
-use Rattle.model.specs.Limits.{maxObjectives}
-use Rattle.rows.specs.Rows.{rowAt}
-use Rattle.vectors.specs.Fronts.{Half}
-use Rattle.vectors.proofs.Fours.{four-half}
-use Rattle.sums.proofs.Adding.{costs-added}
+use Rattle.model.specs.Limits.{maxObjectives, maxVariables}
+use Rattle.model.specs.Vectors.{added}
+use Rattle.rows.specs.Rows.{costsIn, valuesIn}
+use Rattle.rows.proofs.RowNumbers.{costs-front, values-front}
 use borrow.Author.Needs.{needs}
 use Rattle.sums.proofs.sum_of.Statement.{statement}
 use Rattle.sums.proofs.sum_of.Tie as tie
 
-mul-a : tie.Need-mul-a
-mul-a c = search needs
+row-costs-requires : tie.Need-row-costs-requires
+row-costs-requires c κs = search needs
 
-add-a : tie.Need-add-a
-add-a c = search needs
+row-costs-requires-2 : tie.Need-row-costs-requires-2
+row-costs-requires-2 c κs = search needs
 
-mul-b : tie.Need-mul-b
-mul-b c = search needs
+-- what is read of two rows, and its first costs and values
+module _ (s : tie.Start) where
+  abbrev work : List ℕ
+  work = now (s .args .work)
 
-add-b : tie.Need-add-b
-add-b c = search needs
+  first-costs : (i : ℕ) → take (s .args .p) (costsIn maxObjectives work i) ≡ costsIn (s .args .p) work i
+  first-costs i = costs-front work i (s .args .p) maxObjectives (s .pre .0)
 
-costs-at-requires : tie.Need-costs-at-requires
-costs-at-requires c κs = search needs
+  first-values : (i : ℕ) → take (s .args .n) (valuesIn maxVariables work i) ≡ valuesIn (s .args .n) work i
+  first-values i = values-front work i (s .args .n) maxVariables (s .pre .1)
 
-costs-at-requires-2 : tie.Need-costs-at-requires-2
-costs-at-requires-2 c κs = search needs
+costs-sum-requires : tie.Need-costs-sum-requires
+costs-sum-requires c κs =
+    let first = c .before in
+    let s = first .before .before in
+    let a = s .args in (
+      s .pre .0,
+      rw (first .row-costs .ensures, first-costs s (a .i)) (s .pre .4),
+      rw (c .row-costs2 .ensures, first-costs s (a .j)) (s .pre .5),
+    )
 
-add-choice-sum : tie.Need-add-choice-sum
-add-choice-sum c = search needs
+row-choice-requires : tie.Need-row-choice-requires
+row-choice-requires c κs = search needs
 
-add-choice-sum-2 : tie.Need-add-choice-sum-2
-add-choice-sum-2 c = search needs
+row-choice-requires-2 : tie.Need-row-choice-requires-2
+row-choice-requires-2 c κs = search needs
 
 choice-sum-requires : tie.Need-choice-sum-requires
-choice-sum-requires c κs = search needs
-
-sum-requires : tie.Need-sum-requires
-sum-requires c κs =
-    let s = c .before .before .before .before in
-    let half : (at : ℕ) → at + maxObjectives ≤ length (now (s .args .work)) → All Half (take maxObjectives (drop at (now (s .args .work)))) = λ at l. four-half (now (s .args .work)) at l (λ i. omega (arith, c .before .before .before .shared-slice-known .given i)) in
-    (rw (c .before .before .costs-at .ensures) (half (rowAt (s .args .i)) (omega arith)), rw (c .before .costs-at2 .ensures) (half (rowAt (s .args .j)) (omega arith)))
+choice-sum-requires c κs =
+    let first = c .before in
+    let costs = first .before in
+    let s = costs .before .before .before .before in
+    let a = s .args in (
+      s .pre .1,
+      rw (first .row-choice .ensures, c .row-choice2 .ensures, first-values s (a .i), first-values s (a .j)) (s .pre .6),
+    )
 
 returns : tie.Need-returns
 returns c =
-    let s = c .before .before .before .before .before in
-    let costs = costs-added (now (s .args .work)) (rowAt (s .args .i)) (rowAt (s .args .j)) (s .args .p) (s .pre .0) in
-    rw (c .sum .ensures, c .before .before .before .costs-at .ensures, c .before .before .costs-at2 .ensures, costs, c .before .choice-sum .ensures)
+    let second = c .before in
+    let first = second .before in
+    let added-costs = first .before in
+    let other = added-costs .before in
+    let one = other .before in
+    let s = one .before .before in
+    let a = s .args in
+    let p = a .p in
+    let n = a .n in
+    let w = work s in
+    let costs : take p (added-costs .costs-sum .result) ≡ added (costsIn p w (a .i)) (costsIn p w (a .j)) =
+    added-costs .costs-sum .ensures
+    ∙ rw (one .row-costs .ensures, other .row-costs2 .ensures, first-costs s (a .i), first-costs s (a .j)) in
+    let choice : take n (c .choice-sum .result) ≡ added (valuesIn n w (a .i)) (valuesIn n w (a .j)) =
+    c .choice-sum .ensures
+    ∙ rw (first .row-choice .ensures, second .row-choice2 .ensures, first-values s (a .i), first-values s (a .j)) in
+    rw (costs, choice)
 
 pub sum-of-spec : {M : Type 1} → statement M
 sum-of-spec =
     tie.close
     (tie.spec
-    mul-a
-    add-a
-    mul-b
-    add-b
-    costs-at-requires
-    costs-at-requires-2
-    add-choice-sum
-    add-choice-sum-2
+    row-costs-requires
+    row-costs-requires-2
+    costs-sum-requires
+    row-choice-requires
+    row-choice-requires-2
     choice-sum-requires
-    sum-requires
     returns)
