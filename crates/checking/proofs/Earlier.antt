@@ -88,8 +88,8 @@ module _ {n r : ℕ} {s plan marks : List ℕ} {to last k : ℕ} (t : Testing n 
       let records-zero : 0 ≡ recordEnd plan k = sym (ap (recordEnd plan) same ∙ e .records-last) in
       let children-zero : 0 ≡ childEnd plan k = sym (ap (childEnd plan) same ∙ e .children-last) in
       let front =
-          subst (λ (i : ℕ). BucketIn (Marked marks) s plan (record { from = i; to = to; first = childEnd plan k; last = last })) records-zero
-          (subst (λ (i : ℕ). BucketIn (Marked marks) s plan (record { from = 0; to = to; first = i; last = last })) children-zero b) in
+      subst (λ (i : ℕ). BucketIn (Marked marks) s plan (record { from = i; to = to; first = childEnd plan k; last = last })) records-zero
+      (subst (λ (i : ℕ). BucketIn (Marked marks) s plan (record { from = 0; to = to; first = i; last = last })) children-zero b) in
       let each = below-more (λ m. BucketIn (Before plan m) s plan (behindSpan plan r m)) k (t .done) (testing-bucket front) in
       record {
         records = λ m h. each m (omega arith) .records;

@@ -146,26 +146,26 @@ module _ (d : DD.Directions) (ds s plan : List ℕ) (k : ℕ) where
         let to-is : h′ .span .to ≡ p .span .to = ap (λ (u : DS.Span). u .to) (w .span) in
         let last-is : h′ .span .last ≡ p .span .last = ap (λ (u : DS.Span). u .last) (w .span) in
         let taken : Ranged (takenSpan plan k (h .span)) =
-            record {
-              records = t .records .0;
-              children = t .children .0;
-              children-end = omega (arith, ranged .children, ranged .children-end);
-            } in
+        record {
+          records = t .records .0;
+          children = t .children .0;
+          children-end = omega (arith, ranged .children, ranged .children-end);
+        } in
         record {
           records = (omega (arith, t .records .0, ranged .records), omega arith);
           children = (omega (arith, t .children .0, ranged .children), omega arith);
           rows = w .rows;
           sum = λ y c j l.
               let part :
-                  messageAt (widthOf d) plan y j g + getD (h′ .rest) (8 * getD y (orderIn plan k) 0 + j) 0
-                  ≤ getD (h .rest) (8 * getD y (orderIn plan k) 0 + j) 0 + contentOver d ds s plan (p .span) y j =
-                  rw (m, own, rest) at (w .leaves y c j l) in
+              messageAt (widthOf d) plan y j g + getD (h′ .rest) (8 * getD y (orderIn plan k) 0 + j) 0
+              ≤ getD (h .rest) (8 * getD y (orderIn plan k) 0 + j) 0 + contentOver d ds s plan (p .span) y j =
+              rw (m, own, rest) at (w .leaves y c j l) in
               let both =
-                  content-split d ds s plan (takenSpan plan k (h .span)) (p .span) taken ranged (sym from) (sym first) y j in
+              content-split d ds s plan (takenSpan plan k (h .span)) (p .span) taken ranged (sym from) (sym first) y j in
               let all :
-                  contentOver d ds s plan (takenSpan plan k (h′ .span)) y j
-                  ≡ contentOver d ds s plan (takenSpan plan k (p .span)) y j =
-                  ap (λ (u : DS.Span). contentOver d ds s plan (takenSpan plan k u) y j) (w .span) in
+              contentOver d ds s plan (takenSpan plan k (h′ .span)) y j
+              ≡ contentOver d ds s plan (takenSpan plan k (p .span)) y j =
+              ap (λ (u : DS.Span). contentOver d ds s plan (takenSpan plan k u) y j) (w .span) in
               omega (arith, part, next y j, t .sum y c j l, both, all);
         }
 
@@ -174,8 +174,8 @@ module _ (d : DD.Directions) (ds s plan : List ℕ) (k : ℕ) where
       (h : DH.Held) → childEnd plan k ≤ maxMessages → Holding d ds s plan k (messageEnd plan k) h → HoldsAt d ds s plan k
   holding-end h few t y c j l =
       let taken : Ranged (takenSpan plan k (h .span)) =
-          record { records = t .records .0; children = t .children .0; children-end = omega (arith, t .children .1) } in
+      record { records = t .records .0; children = t .children .0; children-end = omega (arith, t .children .1) } in
       let more =
-          content-grows d ds s plan (takenSpan plan k (h .span)) (recordEnd plan k) (childEnd plan k) taken
-          (t .records .1) (t .children .1) y j in
+      content-grows d ds s plan (takenSpan plan k (h .span)) (recordEnd plan k) (childEnd plan k) taken
+      (t .records .1) (t .children .1) y j in
       omega (arith, t .sum y c j l, more)

@@ -43,7 +43,7 @@ impl Node {
         ensures { λ next. ⌜ next ≡ extended self variable value bound ⌝ }
     {
         let x = self.choice;
-        let choice = branching::with_value(x, variable, value);
+        let choice = buckets::with_value(x, variable, value);
         let depth = self.depth + 1;
         Node {
             depth,
@@ -182,9 +182,9 @@ fn open_position(
     if k == n {
         return take_leaf(x, bound, run, s, sizes, task, d, work);
     }
-    let v = branching::variable_at(k, &work[layout::PLAN_AT..]);
+    let v = buckets::variable_at(k, &work[layout::PLAN_AT..]);
     let size = sizes[v] as usize;
-    let rows = branching::bucket_at(k, v, &x[..n], s, sizes, task.records, d, &work[layout::PLAN_AT..]);
+    let rows = branching::bucket_at(k, v, &x[..n], s, sizes, d, &work[layout::PLAN_AT..]);
     let away = branching::away_at(k, &x[..n], s, sizes, task.records, d, &work[layout::PLAN_AT..]);
     let mut leads = branching::leads_of(&rows, bound, away, size, d);
     let mut a = branching::least_value(&leads, size);

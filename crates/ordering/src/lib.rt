@@ -38,7 +38,10 @@ fn links_of(s: &[u8], r: usize, plan: &[u32]) -> [u32; 24] {
     let mut links = [0u32; 24];
     let mut i: usize = 0;
     while i < r {
-        let next = linked(links, arranging::record_scope(s, buckets::number_at(plan, i), plan));
+        let next = linked(
+            links,
+            arranging::record_scope(s, buckets::number_at(plan, i), plan),
+        );
         links = next;
         i += 1;
     }

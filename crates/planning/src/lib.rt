@@ -81,6 +81,7 @@ fn send_part(
     if !may_send(g, k, plan) {
         return made;
     }
+    let own = buckets::variable_at(k, plan);
     let allowed = set | arranging::bit(k);
     let to = arranging::gather_records(s, 0, allowed, from, all.to, r, plan);
     let last = arranging::gather_slots(0, allowed, first, all.last, r, plan);
@@ -96,17 +97,19 @@ fn send_part(
     };
     let carried = made.rest;
     let part = numbers::Part {
-        own: buckets::variable_at(k, plan),
+        own,
         span,
         shape,
         rest: carried,
     };
     let rest = numbers::put_entries(s, sizes, r, part, d, plan);
+    let messages = shapes::at_most(g, buckets::MAX_MESSAGES) + 1;
+    let numbers = shapes::numbers_end(shape, at, width);
     Made {
         records: to,
         slots: last,
-        messages: shapes::at_most(g, buckets::MAX_MESSAGES) + 1,
-        numbers: shapes::numbers_end(shape, at, width),
+        messages,
+        numbers,
         rest,
     }
 }
@@ -131,10 +134,12 @@ fn send_parts(
     let mut sent = made;
     let mut g: usize = 0;
     while g < count {
+        let set = sets[g];
+        let is_last = g + 1 == count;
         let wanted = Wanted {
             bucket,
-            set: sets[g],
-            is_last: g + 1 == count,
+            set,
+            is_last,
         };
         sent = send_part(s, sizes, r, wanted, d, sent, plan);
         g += 1;

@@ -130,14 +130,7 @@ fn lowest(set: u32) -> usize
 }
 
 // A message over `u` and `v`, or over the first of them, or over none, as there is room.
-fn pair_shape(
-    u: Variable,
-    v: Variable,
-    width: usize,
-    room: usize,
-    at: usize,
-    place: usize,
-) -> Shape
+fn pair_shape(u: Variable, v: Variable, width: usize, room: usize, at: usize, place: usize) -> Shape
     requires { ⌜ (width ≤ 8) × (u .values ≤ 8) × (v .values ≤ 8) ⌝ }
 {
     let du = u.values;

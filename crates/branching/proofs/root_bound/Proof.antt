@@ -53,8 +53,7 @@ content-requires : tie.Need-content-requires
 content-requires c κs =
     let lent = c .before .before .before in
     let s = lent .before .before .before .before in
-    let ends = s .pre .1 .ends in
-    (
+    let ends = s .pre .1 .ends in (
       s .pre .0,
       record {
         records = ends .records-first;

@@ -170,8 +170,7 @@ part-rest-requires : tie.Need-part-rest-requires
 part-rest-requires c κs =
     let made = c .before .before in
     let q = begun (tested made) .pre in
-    let own = made .before .variable-at .ensures .0 in
-    (
+    let own = made .before .variable-at .ensures .0 in (
       planned (tested made),
       q .1,
       record { variable = rw own (q .0 .variable); known = q .2; ranged = ranged (tested made); rows = q .4 .rows },

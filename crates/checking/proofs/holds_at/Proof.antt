@@ -73,8 +73,8 @@ loop-holds c =
     let q = start c .pre in
     let bucket = c .before .span-at .ensures in
     let holding =
-        holding-start (a .d) (now (a .sizes)) (now (a .s)) (now (a .plan)) (a .k) (a .r) _ (q .4) (q .2)
-        (ap (λ (u : DS.Span). u .from) bucket) (ap (λ (u : DS.Span). u .first) bucket) refl in
+    holding-start (a .d) (now (a .sizes)) (now (a .s)) (now (a .plan)) (a .k) (a .r) _ (q .4) (q .2)
+    (ap (λ (u : DS.Span). u .from) bucket) (ap (λ (u : DS.Span). u .first) bucket) refl in
     (q .4 .messages (a .k) (q .2), omega arith, holding)
 
 after-message-requires : tie.Need-after-message-requires Inv-loop μ-loop
@@ -110,7 +110,7 @@ returns-2 c =
     let w = at-loop .loop in
     let same : w .g ≡ messageEnd (now (a .plan)) (a .k) = omega arith in
     let all =
-        subst (λ (g : ℕ). Holding (a .d) (now (a .sizes)) (now (a .s)) (now (a .plan)) (a .k) g (w .held)) same (w .inv .2) in
+    subst (λ (g : ℕ). Holding (a .d) (now (a .sizes)) (now (a .s)) (now (a .plan)) (a .k) g (w .held)) same (w .inv .2) in
     λ _. holding-end (a .d) (now (a .sizes)) (now (a .s)) (now (a .plan)) (a .k) (w .held)
     (child-limit (s .pre .4) (a .k) (omega (arith, s .pre .2))) all
 

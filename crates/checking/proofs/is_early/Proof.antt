@@ -65,8 +65,7 @@ slice-aggregate-is-bucket-marked c = sym (looped c .loop .inv .long)
 is-bucket-marked-requires : tie.Need-is-bucket-marked-requires Inv-loop μ-loop
 is-bucket-marked-requires c κs =
     let q = start (looped c) .pre in
-    let t = looped c .loop .inv in
-    (
+    let t = looped c .loop .inv in (
       record { records = t .records .0; children = t .children .0; children-end = t .children .1 },
       omega (arith, t .records .1, q .1),
       λ i l. q .3 i (omega (arith, t .records .1)),
@@ -149,8 +148,7 @@ is-bucket-marked-requires-2 : tie.Need-is-bucket-marked-requires-2 Inv-loop μ-l
 is-bucket-marked-requires-2 c κs =
     let at-loop = c .before .before in
     let q = start at-loop .pre in
-    let t = at-loop .loop .inv in
-    (
+    let t = at-loop .loop .inv in (
       record { records = omega arith; children = omega arith; children-end = t .children .1 },
       omega (arith, t .records .1, q .1),
       λ i l. q .3 i (omega (arith, t .records .1)),

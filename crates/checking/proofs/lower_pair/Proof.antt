@@ -77,11 +77,10 @@ cast-v : tie.Need-cast-v
 cast-v c = omega (arith, c .shared-slice-known5 .given (499 + 7 * start (c .before) .args .p .message + 3))
 
 returns : tie.Need-returns
-returns c =
-    (
-      λ k. omega arith,
-      λ _ y h e f. absurd (c .if2 .taken (sym e ∙ ap (λ (w : ℕ). getD y w 0) (c .before .if1 .taken) ∙ f)),
-    )
+returns c = (
+  λ k. omega arith,
+  λ _ y h e f. absurd (c .if2 .taken (sym e ∙ ap (λ (w : ℕ). getD y w 0) (c .before .if1 .taken) ∙ f)),
+)
 
 count-values-requires : tie.Need-count-values-requires
 count-values-requires c κs = start (c .before .before) .pre .0 .small
@@ -123,9 +122,9 @@ lower-rows-requires c κs =
     let tested = made .before .before in
     let values2 = tested .before in
     let inside =
-        pair-choice (now (s .args .sizes)) (one-of s) (s .args .c / 8) (two-of s) (s .args .c % 8) (q .0 .small)
-        (λ l. omega (arith, values .count-values .ensures .exist l, values2 .before .if3 .left))
-        (λ l. omega (arith, values2 .count-values2 .ensures .exist l, tested .if4 .left)) in
+    pair-choice (now (s .args .sizes)) (one-of s) (s .args .c / 8) (two-of s) (s .args .c % 8) (q .0 .small)
+    (λ l. omega (arith, values .count-values .ensures .exist l, values2 .before .if3 .left))
+    (λ l. omega (arith, values2 .count-values2 .ensures .exist l, tested .if4 .left)) in
     (q .0, q .2, rw (front made) inside, q .5)
 
 same-length : tie.Need-same-length
@@ -137,11 +136,10 @@ returns-4 c =
     let made = lowered .before .before .before in
     let s = start-of made in
     let a = s .args in
-    let e = lowered .lower-rows .ensures in
-    (
+    let e = lowered .lower-rows .ensures in (
       e .0,
       λ h. pair-leaves (a .d) (now (a .sizes)) (now (a .s)) (now (a .plan)) (a .p) (a .c / 8) (a .c % 8) _
-      (lowered .lower-rows .last .1 .1 .1 .1 .1 .1 .0) (s .pre .2 .variable) (s .pre .3) (front made) (e .1 h),
+          (lowered .lower-rows .last .1 .1 .1 .1 .1 .1 .0) (s .pre .2 .variable) (s .pre .3) (front made) (e .1 h),
     )
 
 pub lower-pair-spec : {M : Type 1} → statement M

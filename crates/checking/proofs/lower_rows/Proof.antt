@@ -86,8 +86,7 @@ lower-row-requires c κs =
     let tested = c .before .before .before in
     let at-loop = tested .before in
     let q = begun at-loop .pre in
-    let rows = held at-loop .content in
-    (
+    let rows = held at-loop .content in (
       planned-width (q .0),
       omega (arith, few (begun at-loop)),
       q .1 .rows,
@@ -106,8 +105,7 @@ returns c =
     let lowered = c .before .before .before in
     let at-loop = looped lowered in
     let row = lowered .lower-row in
-    let left = now (begun at-loop .args .left) in
-    (
+    let left = now (begun at-loop .args .left) in (
       lowered-twice left (at-loop .loop .left) (row .last .1 .1 .1 .1 .1 .0) (at-loop .loop .inv .lowered) (row .ensures .0),
       λ h. absurd (false≢true h),
     )
@@ -138,11 +136,10 @@ returns-2 c =
     let a = begun at-loop .args in
     let w = at-loop .loop .inv in
     let rows = held at-loop .content in
-    let number = at-loop .before .before .sent in
-    (
+    let number = at-loop .before .before .sent in (
       w .lowered,
       λ _. choice-leaves (a .d) (now (a .sizes)) (now (a .s)) (now (a .plan)) (a .p) (now (a .choice)) (at-loop .loop .left)
-      (rows .result) (number .result) (rows .ensures) (number .ensures) (λ b l. w .done b (omega arith)),
+          (rows .result) (number .result) (rows .ensures) (number .ensures) (λ b l. w .done b (omega arith)),
     )
 
 pub lower-rows-spec : {M : Type 1} → statement M

@@ -66,8 +66,8 @@ returns c =
     let p = a .p in
     let marks = third .with-value3 .result in
     let is =
-        part-marks (now (a .plan)) p (first .with-value .result) (second .with-value2 .result) marks
-        (first .with-value .ensures) (second .with-value2 .ensures) (third .with-value3 .ensures) in
+    part-marks (now (a .plan)) p (first .with-value .result) (second .with-value2 .result) marks
+    (first .with-value .ensures) (second .with-value2 .ensures) (third .with-value3 .ensures) in
     λ h. bucket-map (Marked marks) (PartReads (now (a .plan)) p) is (now (a .s)) (now (a .plan)) (p .span)
     (c .is-bucket-marked .ensures h)
 

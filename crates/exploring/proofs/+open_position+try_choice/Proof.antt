@@ -19,6 +19,9 @@ use Rattle.directions.specs.Directions.{widthOf, leadAt}
 use Rattle.buckets.specs.Places.{numbersAt, orderIn}
 use Rattle.buckets.specs.Content.{Planned}
 use Rattle.buckets.specs.Sound.{Tested}
+use Rattle.buckets.proofs.ContentRows.{planned-fewer}
+use Rattle.buckets.proofs.Ends.{bucket-ranged}
+use Rattle.buckets.proofs.Bounds.{records-inside}
 use Rattle.exploring.specs.States.{planIn, Partial}
 use Rattle.branching.specs.Rows.{Holding, nextBound, Bucket, Away}
 use Rattle.directions.proofs.Widths.{lead-inside, width-few}
@@ -46,7 +49,7 @@ use Rattle.branching.proofs.least_value.Reads as least-value-reads
 use Rattle.branching.proofs.row_of.Reads as row-of-reads
 use Rattle.exploring.proofs.Node.with.Reads as with-reads
 use Rattle.exploring.proofs.take_leaf.Reads as take-leaf-reads
-use Rattle.branching.proofs.variable_at.Reads as variable-at-reads
+use Rattle.buckets.proofs.variable_at.Reads as variable-at-reads
 use Rattle.exploring.proofs.+open_position+try_choice.{statement}
 use Rattle.exploring.proofs.+open_position+try_choice.Tie.{close}
 
@@ -263,7 +266,7 @@ module _ (t : ℕ) where
     v = c .variable-at .result
 
     is-variable : v ≡ next-variable (begun c)
-    is-variable = rw (same-plan (begun c)) at (c .variable-at .ensures)
+    is-variable = rw (same-plan (begun c)) at (c .variable-at .ensures .0)
 
     variable-below : v < length (ds (begun c))
     variable-below =
@@ -388,7 +391,7 @@ module _ (t : ℕ) where
   open-position-variable-at-requires c κs =
       let i = c .before .before in
       let b = start (known i) in
-      (omega (arith, inside i, b .pre .1 .ready .planned .variables), long-plan b)
+      omega (arith, inside i, b .pre .1 .ready .planned .variables)
 
   open-position-shared-slice-read-size :
       open-lts.Need-shared-slice-read-size (open-calls t) (open-position-at t) open-position.Post Inv-loop μ-loop
@@ -423,7 +426,15 @@ module _ (t : ℕ) where
   open-position-bucket-at-requires c κs =
       let n = named (c .before .before .before) in
       let b = begun n in
-      (planned b, tested b, long-plan b, inside (inner n), variable-below n, b .pre .1 .partial .choice)
+      let k = b .args .node .depth in
+      let short = inside (inner n) in (
+        planned-fewer (planned b) _ (records-inside (tested b) k (omega arith)),
+        bucket-ranged (tested b .ends) k short,
+        long-plan b,
+        short,
+        variable-below n,
+        b .pre .1 .partial .choice,
+      )
 
   open-position-array-share-prefix-x-2 :
       open-lts.Need-array-share-prefix-x-2 (open-calls t) (open-position-at t) open-position.Post Inv-loop μ-loop

@@ -4,11 +4,16 @@ use Prim.Native.Nat.{_≤_}
 use native.Mathlib.Omega.{arith}
 use lib.Seq.{length-take-le}
 use Rattle.numbers.proofs.Choices.{whole-prefix}
+use Rattle.buckets.proofs.ContentRows.{planned-fewer}
 use denote.Ref.{now}
 use lib.ListN.{length, take}
 use borrow.Author.Needs.{needs}
 use Rattle.numbers.proofs.content_of.Statement.{statement}
 use Rattle.numbers.proofs.content_of.Tie as tie
+
+-- a choice has room for 24 values
+choice-long : (s : tie.Start) → length (s .args .t5) ≡ 24
+choice-long s = search needs
 
 at-most-requires : tie.Need-at-most-requires
 at-most-requires c κs = search needs
@@ -21,9 +26,11 @@ array-share-prefix-x c = search needs
 
 slice-aggregate-choice : tie.Need-slice-aggregate-choice
 slice-aggregate-choice c =
-    let a = c .before .before .before .before .before .before .args in
-    let many : length (a .t5) ≡ 24 = search needs in
-    let few : length (now (a .sizes)) ≤ 24 = c .before .before .before .before .before .before .pre .variables in
+    let ends = c .before .before .before in
+    let start = ends .before .before .before .before in
+    let a = start .args in
+    let many : length (a .t5) ≡ 24 = choice-long start in
+    let few : length (now (a .sizes)) ≤ 24 = start .pre .variables in
     sym (length-take-le (length (now (a .sizes))) (a .t5) (omega arith))
 
 prefix-ok-requires : tie.Need-prefix-ok-requires
@@ -31,13 +38,19 @@ prefix-ok-requires c κs = search needs
 
 content-requires : tie.Need-content-requires
 content-requires c κs =
-    let a = c .before .before .before .before .before .before .before .before .before .before .before .args in
-    let many : length (a .t5) ≡ 24 = search needs in
-    let few : length (now (a .sizes)) ≤ 24 = c .before .before .before .before .before .before .before .before .before .before .before .pre .variables in (
-      c .before .before .before .before .before .before .before .before .before .before .before .pre,
-      record { records = omega arith; records-end = omega arith; children = omega arith; children-end = omega arith },
+    let lent = c .before .before .before .before in
+    let ends = lent .before .before .before .before in
+    let start = ends .before .before .before .before in
+    let a = start .args in
+    let many : length (a .t5) ≡ 24 = choice-long start in
+    let few : length (now (a .sizes)) ≤ 24 = start .pre .variables in
+    let inside = lent .before .before .before .at-most .ensures in (
+      planned-fewer (start .pre) _ inside,
+      record { records = omega arith; children = omega arith; children-end = omega arith },
       omega arith,
-      whole-prefix (now (a .sizes)) (take (length (now (a .sizes))) (a .t5)) (sym (c .before .prefix-ok .ensures) ∙ c .if4 .taken) (length-take-le (length (now (a .sizes))) (a .t5) (omega arith)),
+      whole-prefix (now (a .sizes)) (take (length (now (a .sizes))) (a .t5))
+          (sym (c .before .prefix-ok .ensures) ∙ c .if4 .taken)
+          (length-take-le (length (now (a .sizes))) (a .t5) (omega arith)),
     )
 
 returns : tie.Need-returns

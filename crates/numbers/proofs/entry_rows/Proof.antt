@@ -9,10 +9,10 @@ use Rattle.numbers.proofs.entry_rows.Statement.{statement}
 use Rattle.numbers.proofs.entry_rows.Tie as tie
 
 abbrev Inv-loop : tie.InvT-loop
-Inv-loop s sizes r part shape e d rest plan count share low₀ t₀ low t = (length low ≡ 64) × (share ≤ 64) × (count ≤ 64)
+Inv-loop s sizes r part e d plan count shape rest share low₀ t₀ low t = (length low ≡ 64) × (share ≤ 64) × (count ≤ 64)
 
 abbrev μ-loop : tie.MeasureT-loop
-μ-loop s sizes r part shape e d rest plan count share low₀ t₀ low t = share - t
+μ-loop s sizes r part e d plan count shape rest share low₀ t₀ low t = share - t
 
 size-of-requires : tie.Need-size-of-requires Inv-loop μ-loop
 size-of-requires c κs = search needs
@@ -29,13 +29,15 @@ loop-holds c = search needs
 mul-pair-choice : tie.Need-mul-pair-choice Inv-loop μ-loop
 mul-pair-choice c =
     let at-at-most = c .before .before in
-    let start = at-at-most .before .before .before .before .before in
+    let known = at-at-most .before .before .before .before in
+    let start = known .before .before .before in
     omega (arith, product-small 64 64 (start .args .e) (at-at-most .at-most .result) (omega arith) (omega arith))
 
 add-pair-choice : tie.Need-add-pair-choice Inv-loop μ-loop
 add-pair-choice c =
     let at-at-most = c .before .before in
-    let start = at-at-most .before .before .before .before .before in
+    let known = at-at-most .before .before .before .before in
+    let start = known .before .before .before in
     omega (arith, product-small 64 64 (start .args .e) (at-at-most .at-most .result) (omega arith) (omega arith))
 
 pair-choice-requires : tie.Need-pair-choice-requires Inv-loop μ-loop

@@ -10,10 +10,10 @@ use Rattle.numbers.proofs.put_entries.Statement.{statement}
 use Rattle.numbers.proofs.put_entries.Tie as tie
 
 abbrev Inv-loop : tie.InvT-loop
-Inv-loop s sizes r part shape d rest plan₀ count width place entries left₀ e₀ plan left e = Loose plan₀ plan × (length left ≡ 64)
+Inv-loop s sizes r part d plan₀ count width place entries left₀ e₀ plan left e = Loose plan₀ plan × (length left ≡ 64)
 
 abbrev μ-loop : tie.MeasureT-loop
-μ-loop s sizes r part shape d rest plan₀ count width place entries left₀ e₀ plan left e = entries - e
+μ-loop s sizes r part d plan₀ count width place entries left₀ e₀ plan left e = entries - e
 
 size-of-requires : tie.Need-size-of-requires Inv-loop μ-loop
 size-of-requires c κs = search needs
@@ -34,7 +34,8 @@ entry-rows-requires : tie.Need-entry-rows-requires Inv-loop μ-loop
 entry-rows-requires c κs =
     let at-loop = c .before .before in
     let at-at-most = at-loop .before in
-    let start = at-at-most .before .before .before .before .before .before in
+    let known = at-at-most .before .before .before .before in
+    let start = known .before .before .before in
     (planned-arranged (start .pre) (loose-arranged (start .pre .few) (at-loop .loop .inv .0)), omega (arith, at-at-most .at-most .ensures))
 
 numbers-at-requires : tie.Need-numbers-at-requires Inv-loop μ-loop

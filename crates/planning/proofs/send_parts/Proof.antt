@@ -9,10 +9,10 @@ use Rattle.planning.proofs.send_parts.Statement.{statement}
 use Rattle.planning.proofs.send_parts.Tie as tie
 
 abbrev Inv-loop : tie.InvT-loop
-Inv-loop s sizes r k records slots d plan₀ count sets sent₀ g₀ plan sent g = Arranged r plan₀ plan × (length sets ≡ 64)
+Inv-loop s sizes r bucket d plan₀ count sets sent₀ g₀ plan sent g = Arranged r plan₀ plan × (length sets ≡ 64)
 
 abbrev μ-loop : tie.MeasureT-loop
-μ-loop s sizes r k records slots d plan₀ count sets sent₀ g₀ plan sent g = count - g
+μ-loop s sizes r bucket d plan₀ count sets sent₀ g₀ plan sent g = count - g
 
 bit-requires : tie.Need-bit-requires Inv-loop μ-loop
 bit-requires c κs = search needs
@@ -26,19 +26,21 @@ at-most-requires c κs = search needs
 loop-holds : tie.Need-loop-holds Inv-loop μ-loop
 loop-holds c = (arranged-refl _ _, search needs)
 
+mul-set : tie.Need-mul-set Inv-loop μ-loop
+mul-set c = search needs
+
+array-read-set : tie.Need-array-read-set Inv-loop μ-loop
+array-read-set c = search needs
+
 add-is-last : tie.Need-add-is-last Inv-loop μ-loop
 add-is-last c = search needs
-
-mul-send-part : tie.Need-mul-send-part Inv-loop μ-loop
-mul-send-part c = search needs
-
-array-read-send-part : tie.Need-array-read-send-part Inv-loop μ-loop
-array-read-send-part c = search needs
 
 send-part-requires : tie.Need-send-part-requires Inv-loop μ-loop
 send-part-requires c κs =
     let at-loop = c .before .before in
-    let start = at-loop .before .before .before .before .before .before .before .before .before in
+    let made = at-loop .before .before .before .before in
+    let known = made .before .before .before .before in
+    let start = known .before .before in
     (planned-arranged (start .pre .0) (at-loop .loop .inv .0), start .pre .1)
 
 add-g : tie.Need-add-g Inv-loop μ-loop
@@ -69,9 +71,9 @@ send-parts-spec =
     make-parts-requires
     at-most-requires
     loop-holds
+    mul-set
+    array-read-set
     add-is-last
-    mul-send-part
-    array-read-send-part
     send-part-requires
     add-g
     loop-less
