@@ -1,4 +1,5 @@
 -- The laws that the functions' proofs share.
+pub mod FourCeilings
 pub mod PlacesKept
 pub mod HalfKept
 pub mod PlanKept

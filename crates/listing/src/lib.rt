@@ -33,7 +33,7 @@ pub fn widened(ceilings: [u32; 4]) -> [u64; 4]
 
 // Whether each ceiling is at most one more than a number of four bytes: what is below it fits the second form.
 fn are_short(ceilings: [u64; 4]) -> bool
-    ensures { λ b. ⌜ b ≡ true → All WordCeiling ceilings ⌝ }
+    ensures { λ b. ⌜ (b ≡ true → All WordCeiling ceilings) ⌝ }
 {
     let low = directions::larger(ceilings[0], ceilings[1]);
     let high = directions::larger(ceilings[2], ceilings[3]);
