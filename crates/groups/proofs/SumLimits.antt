@@ -1,6 +1,6 @@
 -- Sums over few records stay below the core's limit for sums: each cost and each least entry is below that for entries.
 use mathlib.Core.List.{List, [], _∷_}
-use Prim.Native.Nat.{ℕ, zero, suc, _≤_, _<_}
+use Prim.Native.Nat.{ℕ, _≤_, _<_}
 use native.Mathlib.Omega.{arith}
 use lib.ListN.{length, getD, drop, length-take}
 use Rattle.model.specs.Basics.{All}
@@ -9,7 +9,7 @@ use Rattle.model.specs.Core.{entryEnd, coreSumEnd}
 use Rattle.model.specs.Problems.{Table}
 use Rattle.model.specs.Costs.{costOf, total, totalsFrom}
 use Rattle.model.specs.Bounds.{leastOf}
-use Rattle.model.proofs.Core.{core-sum}
+use Rattle.model.proofs.Core.{core-sum, core-sums}
 use Rattle.costs.specs.Entries.{tableAt}
 use Rattle.costs.proofs.EntryLimits.{cost-small, least-small}
 use Rattle.layout.specs.Layout.{recordsAt}
@@ -26,16 +26,12 @@ module _ (ds s : List ℕ) (f : Table → ℕ) (each : (at : ℕ) → f (tableAt
   total-small o places few =
       core-sum o f (tablesOver ds s places) (omega (arith, tables-count ds s places)) (all-small places)
 
-  totals-small : (p o : ℕ) (places : List ℕ) → length places ≤ maxTables
-      → All (λ c. c < coreSumEnd) (totalsFrom p o f (tablesOver ds s places))
-  unfolding totalsFrom
-  totals-small zero o places few = tt
-  totals-small (suc p) o places few = (total-small o places few, totals-small p (suc o) places few)
-
 -- s has bytes only
 pub costs-small : (ds s y : List ℕ) → ((i : ℕ) → getD s i 0 < byteEnd) → (p o : ℕ) (places : List ℕ)
     → length places ≤ maxTables → All (λ c. c < coreSumEnd) (totalsFrom p o (costOf ds y) (tablesOver ds s places))
-costs-small ds s y bytes = totals-small ds s (costOf ds y) (λ at. cost-small ds s at bytes y)
+costs-small ds s y bytes p o places few =
+    core-sums p o (costOf ds y) (tablesOver ds s places) (omega (arith, tables-count ds s places))
+    (all-small ds s (costOf ds y) (λ at. cost-small ds s at bytes y) places)
 
 -- the records that are searched
 pub total-fits : (ds s work pre : List ℕ) (r o : ℕ) → r ≤ maxTables → ((i : ℕ) → getD s i 0 < byteEnd)

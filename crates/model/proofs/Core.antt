@@ -16,12 +16,14 @@ use Rattle.model.specs.Frontiers.{consistent, Point, frontier}
 use Rattle.model.specs.Bounds.{leastTo, leastFrom, leastOf}
 use Rattle.model.specs.Cuts.{sidesOk, crosses, uncrossed, inHalf, halfTable, halfTables, half}
 use Rattle.model.specs.Cuts.{pairOf, pairsWith, allPairs}
+use Rattle.model.specs.Views.{narrowed, within, kept, view}
 use Rattle.model.specs.Core.{entryEnd, coreSumEnd, WordCeiling, entry, plain, weighed, coreTable, coreTables}
 use Rattle.model.specs.Core.{coreCeiling, coreCeilings, coreOf, coreConsistent, coreFrontier, CoreReached}
 use Rattle.model.proofs.Bits.{and-left, and-right}
-use Rattle.model.proofs.Elements.{all-at}
+use Rattle.model.proofs.Elements.{all-at, all-map}
 use Rattle.model.proofs.Totals.{total-limit}
 use Rattle.model.proofs.Frontier.{frontier-agrees}
+use Rattle.model.proofs.Kept.{kept-all, kept-few}
 
 -- ## entries and ceilings: what a change of `entry` or `coreCeiling` proves again
 
@@ -139,6 +141,12 @@ pub core-sum : (o : ℕ) (f : Table → ℕ) (ts : List Table) → length ts ≤
     → total o f ts < coreSumEnd
 core-sum o f ts few each = omega (arith, total-limit o entryEnd f ts each)
 
+pub core-sums : (p o : ℕ) (f : Table → ℕ) (ts : List Table) → length ts ≤ maxTables → All (λ t. f t < entryEnd) ts
+    → All (λ c. c < coreSumEnd) (totalsFrom p o f ts)
+unfolding totalsFrom
+core-sums zero o f ts few each = tt
+core-sums (suc p) o f ts few each = (core-sum o f ts few each, core-sums p (suc o) f ts few each)
+
 -- ## ceilings
 
 pub take-ceilings : (p : ℕ) (cs : List ℕ) → take p (coreCeilings cs) ≡ coreCeilings (take p cs)
@@ -212,3 +220,22 @@ core-uncrossed ss (t ∷ ts) = rw (core-uncrossed ss ts) refl
 pub core-sides : (q : Problem) (ss : List ℕ) → sidesOk (coreOf q) ss ≡ sidesOk q ss
 unfolding sidesOk
 core-sides q ss = refl
+
+-- ## the costs of a view
+
+-- a table whose entries are below the limit
+abbrev pub Light : Table → Type 0
+Light t = (i : ℕ) → getD (t .costs) i 0 < entryEnd
+
+-- sums over the records of a part stay below the limit as those over all records do
+pub view-sums : (q : Problem) (ss : List ℕ) (k : ℕ) → length (q .tables) ≤ maxTables → All Light (q .tables)
+    → (t : Point) → CoreReached (view k q ss) t → All (λ c. c < coreSumEnd) (t .costs)
+unfolding view costsOf totals costOf
+view-sums q ss k few light t m =
+    let records = kept (λ u. within k ss (u .scope)) (q .tables) in
+    let ds = narrowed k ss (q .domains) in
+    let each =
+    all-map Light (λ u. costOf ds (t .choice) u < entryEnd) (λ u l. l _) records (kept-all Light _ (q .tables) light) in
+    subst (All (λ c. c < coreSumEnd)) (sym (m .exact))
+    (core-sums (q .objectives) 0 (costOf ds (t .choice)) records
+    (omega (arith, few, kept-few (λ u. within k ss (u .scope)) (q .tables))) each)

@@ -2,7 +2,8 @@
 use mathlib.Core.Path.{_≡_, refl, ap, sym, _∙_}
 use mathlib.Core.Bool.{Bool, true, false, _&&_}
 use mathlib.Core.List.{List, [], _∷_}
-use Prim.Native.Nat.{ℕ, _+_}
+use Prim.Native.Nat.{ℕ, suc, _+_, _≤_}
+use lib.ListN.{length}
 use native.Mathlib.Omega.{arith}
 use lib.Dec.{eqb}
 use borrow.Author.Tests.{eq-eqb}
@@ -22,6 +23,25 @@ all-kept P stays h (t ∷ ts) = go (stays t) refl (all-kept P stays h ts)
     go : (b : Bool) → stays t ≡ b → All P (kept stays ts) → All P (keepIf b t (kept stays ts))
     go true e r = (h t e, r)
     go false e r = r
+
+-- what holds of all records holds of those kept, and these are no more
+pub kept-all : (P : Table → Type 0) (f : Table → Bool) (ts : List Table) → All P ts → All P (kept f ts)
+unfolding kept
+kept-all P f [] h = tt
+kept-all P f (t ∷ ts) h = go (f t) (kept-all P f ts (h .1))
+  where
+    go : (b : Bool) → All P (kept f ts) → All P (keepIf b t (kept f ts))
+    go true k = (h .0, k)
+    go false k = k
+
+pub kept-few : (f : Table → Bool) (ts : List Table) → length (kept f ts) ≤ length ts
+unfolding kept
+kept-few f [] = omega arith
+kept-few f (t ∷ ts) = go (f t) (kept-few f ts)
+  where
+    go : (b : Bool) → length (kept f ts) ≤ length ts → length (keepIf b t (kept f ts)) ≤ suc (length ts)
+    go true k = omega (arith, k)
+    go false k = omega (arith, k)
 
 -- a record that is not kept counts 0
 pub total-kept : (o : ℕ) (f : Table → ℕ) (stays : Table → Bool) (ts : List Table) → total o f (kept stays ts) ≡ total o (λ t. when (stays t) (f t)) ts
