@@ -1,4 +1,4 @@
--- A front of a list with zeros behind it, number by number and as it is written over zeros; and a front of words.
+-- A front of a list with zeros behind it, number by number and as it is written over zeros; and what each number of a front has.
 use mathlib.Core.Path.{_≡_, sym, _∙_}
 use mathlib.Core.List.{List, _++_}
 use Prim.Native.Nat.{ℕ, _+_, _-_, _≤_, _<_}
@@ -7,7 +7,6 @@ use native.Mathlib.Nat.{zero-add}
 use lib.ListN.{length, take, drop, getD, replicate, List·getD-append, getD-replicate, length-replicate, replicate-append-replicate}
 use lib.Seq.{length-take-le, getD-take, getD-append-add, drop-at}
 use Rattle.model.specs.Basics.{All}
-use Rattle.model.specs.Problems.{Word}
 use Rattle.model.specs.Calls.{padded}
 use Rattle.model.proofs.Elements.{all-below}
 use Rattle.problem.proofs.Filled.{length-padded}
@@ -29,8 +28,8 @@ module _ (n p : ℕ) (xs : List ℕ) (few : p ≤ n) (long : n ≤ length xs) wh
       let e : length (take p xs) + (i - p) ≡ i = omega (arith, front-long) in
       rw (← e, getD-append-add, getD-replicate {A = ℕ} (n - length (take p xs)) (i - p) 0 0 (omega (arith, front-long)))
 
-  pub front-word : All Word (take p xs) → (i : ℕ) → i < p → Word (getD xs i 0)
-  front-word h i l = rw (getD-take p xs i 0 l) at (all-below Word (take p xs) h i 0 (omega (arith, front-long)))
+  pub front-each : (P : ℕ → Type 0) → All P (take p xs) → (i : ℕ) → i < p → P (getD xs i 0)
+  front-each P h i l = rw (getD-take p xs i 0 l) at (all-below P (take p xs) h i 0 (omega (arith, front-long)))
 
   -- written over zeros
   pub front-over-zeros : (new : List ℕ) → new ≡ take 0 (replicate n 0) ++ take p xs ++ drop (0 + p) (replicate n 0) → new ≡ padded n (take p xs)

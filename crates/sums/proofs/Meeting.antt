@@ -12,12 +12,12 @@ use Rattle.model.specs.Frontiers.{Point}
 use Rattle.model.specs.Search.{Held, nothing, just, matched}
 use Rattle.model.specs.Merging.{sumOf, sumsWith, allSums, nearer, leastLeft}
 use Rattle.model.proofs.Elements.{all-in}
-use Rattle.rows.specs.Rows.{pointIn, listIn, WordCosts}
+use Rattle.rows.specs.Rows.{pointIn, listIn}
 use Rattle.rows.proofs.RowParts.{row-has}
 use Rattle.search.specs.States.{heldOf}
 use Rattle.search.specs.declared.Best as DB
 use Rattle.layout.specs.Layout.{firstRow, secondRow}
-use Rattle.sums.specs.Sums.{firstIn, secondIn, pointOf, Values, Paired, Halved}
+use Rattle.sums.specs.Sums.{firstIn, secondIn, pointOf, SmallCosts, Values, Paired, Halved}
 
 -- what holds a point has found it
 pub held-some : (p n : ℕ) (h : DB.Best) (x : Point) → heldOf p n h ≡ just x → (h .found ≡ true) × (pointOf p n h ≡ x)
@@ -120,7 +120,7 @@ halved-paired {p} {n} {k} {a} {b} {work} h i l =
       count = h .count;
       row = omega (arith, h .first-count);
       second-count = h .second-count;
-      words = row-has p n work WordCosts firstRow a (h .first-words) i l;
-      second-words = h .second-words;
+      small = row-has p n work SmallCosts firstRow a (h .first-small) i l;
+      second-small = h .second-small;
       values = row-has p n work P firstRow a (all-in P (firstIn p n work a) (λ x m y. h .values x y m)) i l;
     }

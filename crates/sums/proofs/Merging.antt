@@ -52,8 +52,8 @@ module _ {p n a b : ℕ} {was : List ℕ} (halved : Halved p n 0 a b was) (ceili
         count = h;
         first-count = halved .first-count;
         second-count = halved .second-count;
-        first-words = rw first-kept (halved .first-words);
-        second-words = rw second-kept (halved .second-words);
+        first-small = rw first-kept (halved .first-small);
+        second-small = rw second-kept (halved .second-small);
         values = rw (first-kept, second-kept) (halved .values);
       }
 

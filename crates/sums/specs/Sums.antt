@@ -4,11 +4,12 @@ use Prim.Native.Nat.{ℕ, _+_, _≤_, _<_}
 use lib.ListN.{length, take}
 use Rattle.model.specs.Basics.{All}
 use Rattle.model.specs.Limits.{maxObjectives, maxVariables, maxPoints, maxDomain}
+use Rattle.model.specs.Core.{coreSumEnd}
 use Rattle.model.specs.Vectors.{added}
 use Rattle.model.specs.Frontiers.{Point, point}
 use Rattle.model.specs.Merging.{allSums}
 use Rattle.layout.specs.Layout.{firstRow, secondRow, halvesEnd}
-use Rattle.rows.specs.Rows.{pointIn, listIn, WordCosts}
+use Rattle.rows.specs.Rows.{pointIn, listIn}
 use Rattle.search.specs.declared.Best as DB
 
 -- the halves' lists, of a and b points, and their sums under the ceilings
@@ -25,12 +26,16 @@ sumsIn p n ceilings work a b = allSums (take p ceilings) (firstIn p n work a) (s
 abbrev pub pointOf : ℕ → ℕ → DB.Best → Point
 pointOf p n h = point (take p (h .costs)) (take n (h .choice))
 
+-- costs of which two can be added: sums of the core
+abbrev pub SmallCosts : Point → Type 0
+SmallCosts t = All (λ c. c < coreSumEnd) (t .costs)
+
 -- values of domains
 abbrev pub Values : List ℕ → Type 0
 Values xs = All (λ v. v < maxDomain) xs
 
 -- memory in which the point in row i may be added to each of the second half's: k listed points,
--- costs that are words, and added choices that are values of domains
+-- costs that can be added, and added choices that are values of domains
 pub record Paired (p n k i b : ℕ) (work : List ℕ) : Type 0 where
   pub long : halvesEnd ≤ length work
   pub objectives : p ≤ maxObjectives
@@ -38,11 +43,11 @@ pub record Paired (p n k i b : ℕ) (work : List ℕ) : Type 0 where
   pub count : k ≤ maxPoints
   pub row : i < firstRow + maxPoints
   pub second-count : b ≤ maxPoints
-  pub words : WordCosts (pointIn p n work i)
-  pub second-words : All WordCosts (secondIn p n work b)
+  pub small : SmallCosts (pointIn p n work i)
+  pub second-small : All SmallCosts (secondIn p n work b)
   pub values : (y : Point) → In y (secondIn p n work b) → Values (added (pointIn p n work i .choice) (y .choice))
 
--- memory in which a merge may run: k listed points, and two lists whose costs are words and whose added choices are
+-- memory in which a merge may run: k listed points, and two lists whose costs can be added and whose added choices are
 -- values of domains
 pub record Halved (p n k a b : ℕ) (work : List ℕ) : Type 0 where
   pub long : halvesEnd ≤ length work
@@ -51,7 +56,7 @@ pub record Halved (p n k a b : ℕ) (work : List ℕ) : Type 0 where
   pub count : k ≤ maxPoints
   pub first-count : a ≤ maxPoints
   pub second-count : b ≤ maxPoints
-  pub first-words : All WordCosts (firstIn p n work a)
-  pub second-words : All WordCosts (secondIn p n work b)
+  pub first-small : All SmallCosts (firstIn p n work a)
+  pub second-small : All SmallCosts (secondIn p n work b)
   pub values : (x y : Point) → In x (firstIn p n work a) → In y (secondIn p n work b)
       → Values (added (x .choice) (y .choice))

@@ -7,16 +7,16 @@ ghost use Prim.Native.Nat.{_+_, _≤_};
 ghost use lib.ListN.{length, take};
 ghost use Rattle.model.specs.Basics.{All, keepIf};
 ghost use Rattle.model.specs.Limits.{maxObjectives, maxVariables, maxPoints};
-ghost use Rattle.model.specs.Problems.{Word};
+ghost use Rattle.model.specs.Core.{coreSumEnd};
 ghost use Rattle.model.specs.Vectors.{under, added};
 ghost use Rattle.model.specs.Frontiers.{best};
 ghost use Rattle.model.specs.Search.{nothing, just};
 ghost use Rattle.model.specs.Merging.{ahead, sumOf, sumsWith, leastLeft};
 ghost use Rattle.layout.specs.Layout.{listEnd, rowWidth};
-ghost use Rattle.rows.specs.Rows.{rowAt, pointIn, listIn, WordCosts};
+ghost use Rattle.rows.specs.Rows.{rowAt, pointIn, listIn};
 ghost use Rattle.search.specs.States.{heldOf};
 ghost use Rattle.passes.specs.Says.{FoundSays};
-ghost use Rattle.sums.specs.Sums.{pointOf, secondIn, sumsIn, Values, Paired, Halved};
+ghost use Rattle.sums.specs.Sums.{pointOf, secondIn, sumsIn, SmallCosts, Values, Paired, Halved};
 
 // The first `n` values of two choices added; zeros behind them.
 fn choice_sum(x: [u8; 24], y: [u8; 24], n: usize) -> [u8; 24]
@@ -32,9 +32,10 @@ fn choice_sum(x: [u8; 24], y: [u8; 24], n: usize) -> [u8; 24]
     sum
 }
 
-// The first `p` costs of two vectors added, which are words; zeros behind them.
+// The first `p` costs of two vectors added, which are sums of the core; zeros behind them.
 fn costs_sum(x: [u64; 4], y: [u64; 4], p: usize) -> [u64; 4]
-    requires { ⌜ (p ≤ maxObjectives) × All Word (take p x) × All Word (take p y) ⌝ }
+    requires { ⌜ (p ≤ maxObjectives) × All (λ c. c < coreSumEnd) (take p x)
+        × All (λ c. c < coreSumEnd) (take p y) ⌝ }
     ensures { λ r. ⌜ take p r ≡ added (take p x) (take p y) ⌝ }
 {
     let mut sum = [0u64; 4];
@@ -50,7 +51,7 @@ fn costs_sum(x: [u64; 4], y: [u64; 4], p: usize) -> [u64; 4]
 fn sum_of(work: &[u32], i: usize, j: usize, p: usize, n: usize) -> search::Best
     requires { ⌜ (p ≤ maxObjectives) × (n ≤ maxVariables) × (rowAt i + rowWidth ≤ length (now work))
         × (rowAt j + rowWidth ≤ length (now work))
-        × WordCosts (pointIn p n (now work) i) × WordCosts (pointIn p n (now work) j)
+        × SmallCosts (pointIn p n (now work) i) × SmallCosts (pointIn p n (now work) j)
         × Values (added (pointIn p n (now work) i .choice) (pointIn p n (now work) j .choice)) ⌝ }
     ensures { λ h. ⌜ heldOf p n h
         ≡ just (sumOf (pointIn p n (now (work .entry)) i) (pointIn p n (now (work .entry)) j)) ⌝ }

@@ -1,15 +1,16 @@
 -- `sums::costs_sum` meets its contract. The invariant: the array is the costs added so far, then zeros.
 use mathlib.Core.Path.{_≡_, refl}
-use Prim.Native.Nat.{_+_, _-_, _≤_, _<_}
+use Prim.Native.Nat.{ℕ, _+_, _-_, _≤_, _<_}
 use native.Mathlib.Omega.{arith}
 use lib.ListN.{length, take}
 use lib.Seq.{take-all, length-take-le}
 use mir.Syntax.{w64}
 use Rattle.model.specs.Limits.{maxObjectives}
+use Rattle.model.specs.Core.{coreSumEnd}
 use Rattle.model.specs.Calls.{padded}
 use Rattle.problem.proofs.Filled.{padded-step, take-padded}
 use Rattle.rows.proofs.Arrays.{array-length}
-use Rattle.rows.proofs.PaddedParts.{front-word}
+use Rattle.rows.proofs.PaddedParts.{front-each}
 use Rattle.sums.proofs.Adding.{frontsAdded, sums-long, sums-more}
 use borrow.Author.Needs.{needs}
 use Rattle.sums.proofs.costs_sum.Statement.{statement}
@@ -55,9 +56,10 @@ add-sum c =
     let w = c .before .loop in
     let s = c .before .before in
     let a = s .args in
-    let word-x = front-word maxObjectives (a .p) (a .t1) (s .pre .0) (wide-x s) (s .pre .1) (w .i) (omega arith) in
-    let word-y = front-word maxObjectives (a .p) (a .t2) (s .pre .0) (wide-y s) (s .pre .2) (w .i) (omega arith) in
-    omega (arith, word-x, word-y)
+    let small : ℕ → Type 0 = λ c. c < coreSumEnd in
+    let x = front-each maxObjectives (a .p) (a .t1) (s .pre .0) (wide-x s) small (s .pre .1) (w .i) (omega arith) in
+    let y = front-each maxObjectives (a .p) (a .t2) (s .pre .0) (wide-y s) small (s .pre .2) (w .i) (omega arith) in
+    omega (arith, x, y)
 
 mul-sum-3 : tie.Need-mul-sum-3 Inv-loop μ-loop
 mul-sum-3 c = search needs

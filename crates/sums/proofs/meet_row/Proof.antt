@@ -6,11 +6,11 @@ use native.Mathlib.Omega.{arith}
 use denote.Ref.{now}
 use Rattle.model.specs.Frontiers.{Point}
 use Rattle.model.specs.Merging.{sumOf}
-use Rattle.rows.specs.Rows.{pointIn, WordCosts}
+use Rattle.rows.specs.Rows.{pointIn}
 use Rattle.rows.proofs.RowParts.{row-has}
 use Rattle.search.specs.States.{heldOf}
 use Rattle.layout.specs.Layout.{secondRow}
-use Rattle.sums.specs.Sums.{pointOf}
+use Rattle.sums.specs.Sums.{pointOf, SmallCosts}
 use Rattle.sums.proofs.Meeting.{held-some, meetsFrom, meets-start, meets-end, meets-next, paired-values}
 use Rattle.sums.proofs.meet_row.Statement.{statement}
 use Rattle.sums.proofs.meet_row.Tie as tie
@@ -44,12 +44,12 @@ sum-of-requires c κs =
     let j = c .before .loop .j in
     let a = s .args in
     let h = s .pre in
-    let words = row-has (a .p) (a .n) (now (a .work)) WordCosts secondRow (a .b) (h .second-words) j (omega arith) in (
+    let words = row-has (a .p) (a .n) (now (a .work)) SmallCosts secondRow (a .b) (h .second-small) j (omega arith) in (
       h .objectives,
       h .variables,
       omega (arith, h .long, h .row),
       omega (arith, h .long, h .second-count),
-      h .words,
+      h .small,
       words,
       paired-values h j (omega arith),
     )
