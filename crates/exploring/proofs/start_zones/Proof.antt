@@ -40,10 +40,10 @@ split-all-requires c κs =
     let work = now (a .work) in
     let z = first .last .1 .1 .0 in
     let written = lent-written (a .d) work z (first .result) (first .ensures .1) (s .pre .1) (first .ensures .0) in
-    let words : EachCost Word (a .d .objectives) (z ++ drop zonesEnd work) (a .c) =
-    λ i l.
-    subst (All Word) (sym (zones-costs work (z ++ drop zonesEnd work) (written .long) (written .behind) (a .d .objectives) i))
-    (s .pre .4 i l) in
+    let p = a .d .objectives in
+    let after = z ++ drop zonesEnd work in
+    let words : EachCost Word p after (a .c) =
+    λ i l. subst (All Word) (sym (zones-costs work after (written .long) (written .behind) p i)) (s .pre .4 i l) in
     (s .pre .0, omega (arith, s .pre .1, written .long), s .pre .2, written .measured, words)
 
 same-length : tie.Need-same-length

@@ -56,8 +56,9 @@ module _ (s : tie.Start) where
       let a = s .args in
       let h = s .pre in
       let four = array-length w64 maxObjectives ceilings _ (s .good .1 .1 .1 .1 .1 .1 .0) in
-      archived-small (a .d) (a .r) ceilings (now (a .sizes)) (now (a .s)) (now (a .work)) (omega (arith, few, four))
-      (h .ready .words) (length (now (a .sizes))) (a .run .points) (a .run .limit) (now (a .work)) (h .running .archived)
+      let work = now (a .work) in
+      archived-small (a .d) (a .r) ceilings (now (a .sizes)) (now (a .s)) work (omega (arith, few, four))
+      (h .ready .words) (length (now (a .sizes))) (a .run .points) (a .run .limit) work (h .running .archived)
 
 -- the costs, which are the first numbers of the bound, were held to the ceilings
 module _ (c : tie.After-is-under) where
@@ -150,7 +151,7 @@ take-point-requires c κs =
       h .ready .room-small,
       few s,
       h .ready .planned .variables,
-      all-map Word (λ a. a < sumEnd) (λ a l. omega arith) _ (words (w .before)),
+      all-map Word (λ a. a < sumEnd) (λ a l. omega arith) (take (p s) (front (tested (w .before)))) (words (w .before)),
       all-take (λ u. u ≤ maxWeight) (p s) _ (w .lead-weights .ensures .1),
       h .running .distinct,
       small s,

@@ -1,5 +1,5 @@
 -- `merge::cut_lists` meets its contract: each return hands what the callees ensure to one law of Cutting.
-use mathlib.Core.Path.{refl, sym}
+use mathlib.Core.Path.{sym}
 use Prim.Native.Nat.{_≤_}
 use native.Mathlib.Omega.{arith}
 use lib.ListN.{length}
