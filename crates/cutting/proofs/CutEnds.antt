@@ -137,7 +137,8 @@ module _ (s : List ℕ) (r : DG.Reading) (a : AcceptedReading s r) (ss w : List 
           × All WordCosts (listIn p n w1 0 (l .count))
       costs-asked = out.costs-asked s r a c x w1 (l .count) memory few list-is
 
-      pub choices-asked : (listEnd ≤ length w1) × (l .count ≤ maxPoints) × (n ≤ maxVariables) × (l .count * n ≤ length x)
+      pub choices-asked : (listEnd ≤ length w1) × (l .count ≤ maxPoints) × (n ≤ maxVariables)
+          × (l .count * n ≤ length x)
       choices-asked = out.choices-asked s r a c x w1 (l .count) memory few
 
       pub list-end : (c1 x1 w2 : List ℕ) → c1 ≡ over (flatCosts (listIn p n w1 0 (l .count))) c → x1 ≡ over (flatChoices (listIn p n w1 0 (l .count))) x → w2 ≡ replicate (length w1) 0 → CutSays (cutOutcome s ss c x w) c1 x1 w2 (listedCut (l .count) (l .first) (l .second))

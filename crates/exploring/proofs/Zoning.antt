@@ -69,8 +69,8 @@ written-trans f g = record { long = g .long ∙ f .long; behind = g .behind ∙ 
 pub split-costs : (d : DD.Directions) (rows work row : List ℕ) (i m : ℕ) → Sensible d → ZonesWritten d rows work m → row ≡ costsIn maxObjectives work i → take (d .objectives) row ≡ costsIn (d .objectives) rows i
 split-costs d rows work row i m sensible w read = front-costs (d .objectives) work row i (sensible .few) read ∙ zones-costs rows work (w .long) (w .behind) (d .objectives) i
 
-pub split-words : (d : DD.Directions) (c : ℕ) (rows work row : List ℕ) (i m : ℕ) → Sensible d → ZonesWritten d rows work m
-    → row ≡ costsIn maxObjectives work i → EachCost Word (d .objectives) rows c → i < c
+pub split-words : (d : DD.Directions) (c : ℕ) (rows work row : List ℕ) (i m : ℕ) → Sensible d
+    → ZonesWritten d rows work m → row ≡ costsIn maxObjectives work i → EachCost Word (d .objectives) rows c → i < c
     → All Word (take (d .objectives) row)
 split-words d c rows work row i m sensible w read words l =
     subst (All Word) (sym (split-costs d rows work row i m sensible w read)) (words i l)

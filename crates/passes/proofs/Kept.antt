@@ -42,6 +42,6 @@ module _ (ds s work : List ℕ) (r : ℕ) (grouped : Grouped ds s work r) {after
         to = λ v h. rw (here v h, next v h) (grouped .to v h);
         end = λ v h. rw (next v h) (grouped .end v h);
         group = λ v h.
-        let group = framed-part f (size v) (getD work v 0) (omega (arith, grouped .to v h, grouped .end v h)) in
-        rw (here v h, next v h, kept-places, group) (grouped .group v h);
+            let group = framed-part f (size v) (getD work v 0) (omega (arith, grouped .to v h, grouped .end v h)) in
+            rw (here v h, next v h, kept-places, group) (grouped .group v h);
       }

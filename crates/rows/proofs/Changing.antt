@@ -5,7 +5,7 @@ use mathlib.Core.Logic.{_⊎_, inl, inr, ⊎-elim}
 use mathlib.Core.List.{List}
 use Prim.Native.Nat.{ℕ, _+_, _*_, _≤_, _<_}
 use native.Mathlib.Omega.{arith}
-use lib.ListN.{length, getD, take, drop, set, length-set, length-drop}
+use lib.ListN.{length, take, drop, set, length-set, length-drop}
 use lib.Seq.{ext-getD, getD-take, getD-drop, getD-set-other, length-take-le}
 use Rattle.model.specs.Limits.{maxObjectives, maxVariables, maxPoints}
 use Rattle.layout.specs.Layout.{listAt, listEnd, rowWidth}
@@ -31,23 +31,27 @@ module _ {at size : ℕ} {work work′ : List ℕ} (u : Changed at size work wor
   -- the same of more places
   pub changed-wider : (from n : ℕ) → from ≤ at → at + size ≤ from + n → Changed from n work work′
   changed-wider from n low high =
-      record { long = u .long; others = λ j o. u .others j (⊎-elim (λ l. inl (omega arith)) (λ l. inr (omega arith)) o) }
+      record {
+        long = u .long;
+        others = λ j o. u .others j (⊎-elim (λ l. inl (omega arith)) (λ l. inr (omega arith)) o);
+      }
 
   pub changed-then : (work″ : List ℕ) → Changed at size work′ work″ → Changed at size work work″
   changed-then work″ v = record { long = v .long ∙ u .long; others = λ j o. v .others j o ∙ u .others j o }
 
 -- only numbers of the list have changed
-pub changed-framed : {work work′ : List ℕ} → Changed listAt (rowWidth * (maxPoints + 1)) work work′ → listEnd ≤ length work
-    → Framed work work′
+pub changed-framed : {work work′ : List ℕ} → Changed listAt (rowWidth * (maxPoints + 1)) work work′
+    → listEnd ≤ length work → Framed work work′
 changed-framed {work} {work′} u long =
     record {
       long = u .long;
       before = ext-getD 0 (take listAt work′) (take listAt work) (wide′ ∙ sym wide) (λ j h.
-      let below : j < listAt = omega (arith, wide′) in
-      rw (getD-take listAt work′ j 0 below, getD-take listAt work j 0 below) (u .others j (inl below)));
+          let below : j < listAt = omega (arith, wide′) in
+          rw (getD-take listAt work′ j 0 below, getD-take listAt work j 0 below) (u .others j (inl below)));
       behind = ext-getD 0 (drop listEnd work′) (drop listEnd work)
-      (rw (length-drop listEnd work′, length-drop listEnd work, u .long))
-      (λ j h. rw (getD-drop listEnd work′ j 0, getD-drop listEnd work j 0) (u .others (listEnd + j) (inr (omega arith))));
+          (rw (length-drop listEnd work′, length-drop listEnd work, u .long))
+          (λ j h.
+          rw (getD-drop listEnd work′ j 0, getD-drop listEnd work j 0) (u .others (listEnd + j) (inr (omega arith))));
     }
   where
     wide : length (take listAt work) ≡ listAt

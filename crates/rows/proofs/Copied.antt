@@ -3,10 +3,9 @@ use mathlib.Core.Path.{_≡_, ap₂, _∙_}
 use mathlib.Core.List.{List, _++_}
 use Prim.Native.Nat.{ℕ, _+_, _≤_, _<_}
 use native.Mathlib.Omega.{arith}
-use native.Mathlib.Nat.{add-assoc}
 use native.Mathlib.Numerals.{add-one}
-use lib.ListN.{length, take, drop, getD, set, length-append}
-use lib.Seq.{paste, paste-zero, paste-suc, length-paste, take-at, drop-append-add, drop-drop, length-take-le}
+use lib.ListN.{length, take, drop, getD, set}
+use lib.Seq.{paste, paste-zero, paste-suc, length-paste, take-at, drop-append-add, drop-drop}
 
 -- i of them are written
 pub record Copied (old : List ℕ) (at : ℕ) (xs : List ℕ) (n : ℕ) (new : List ℕ) (i : ℕ) : Type 0 where
@@ -40,9 +39,3 @@ module _ {old : List ℕ} {at : ℕ} {xs : List ℕ} {n : ℕ} {new : List ℕ} 
 pub written-behind : (xs ys old : List ℕ) (a b : ℕ) → length xs ≡ a → take a (xs ++ drop a old) ++ ys ++ drop (a + b) (xs ++ drop a old) ≡ xs ++ ys ++ drop (a + b) old
 written-behind xs ys old a b e =
     ap₂ (λ (f r : List ℕ). f ++ ys ++ r) (take-at xs (drop a old) a e) ((rw e at (drop-append-add xs (drop a old) b)) ∙ drop-drop b a old)
-
--- xs written at a place, and ys behind it
-pub written-twice : (old xs ys one two : List ℕ) (at a b : ℕ) → at + a ≤ length old → length xs ≡ a → one ≡ take at old ++ xs ++ drop (at + a) old → two ≡ take (at + a) one ++ ys ++ drop (at + a + b) one → two ≡ take at old ++ xs ++ ys ++ drop (at + (a + b)) old
-written-twice old xs ys one two at a b r l e f =
-    let front : length (take at old ++ xs) ≡ at + a = omega (arith, length-append (take at old) xs, length-take-le at old (omega arith)) in
-    f ∙ rw (e, ← add-assoc at a b) (written-behind (take at old ++ xs) ys old (at + a) b front)

@@ -1,5 +1,5 @@
 -- Costs and values as they are written, number by number: a cost by its two numbers, four values to a number.
-use mathlib.Core.Path.{_≡_, sym, ap, ap₂, _∙_}
+use mathlib.Core.Path.{_≡_, ap₂, _∙_}
 use mathlib.Core.Logic.{⊎-elim}
 use mathlib.Core.List.{List}
 use Prim.Native.Nat.{ℕ, zero, suc, _+_, _-_, _*_, _/_, _%_, _^_, _≤_, _<_}
@@ -33,7 +33,8 @@ module _ {at : ℕ} {costs work work′ : List ℕ} {i : ℕ} (u : CostsTo at co
 
   elsewhere : (j : ℕ) → (j ≡ at + 2 * i → ⊥) → (j ≡ at + 2 * i + 1 → ⊥) → getD both j 0 ≡ getD work′ j 0
   elsewhere j a b =
-      getD-set-other low (at + 2 * i + 1) j (cost / wordEnd) 0 b ∙ getD-set-other work′ (at + 2 * i) j (cost % wordEnd) 0 a
+      getD-set-other low (at + 2 * i + 1) j (cost / wordEnd) 0 b
+      ∙ getD-set-other work′ (at + 2 * i) j (cost % wordEnd) 0 a
 
   low-there : getD both (at + 2 * i) 0 ≡ cost % wordEnd
   low-there =
@@ -62,7 +63,7 @@ module _ {at : ℕ} {costs work work′ : List ℕ} {i : ℕ} (u : CostsTo at co
   costs-more =
       record {
         changed = changed-set (changed-set (u .changed) (at + 2 * i) (cost % wordEnd) (omega arith) (omega arith))
-        (at + 2 * i + 1) (cost / wordEnd) (omega arith) (omega arith);
+            (at + 2 * i + 1) (cost / wordEnd) (omega arith) (omega arith);
         written = below-more (λ j. costAt both (at + 2 * j) ≡ getD costs j 0) i old new;
       }
 
@@ -128,10 +129,10 @@ module _ {at : ℕ} {choice work work′ : List ℕ} {k : ℕ} (u : ValuesTo at 
       record {
         changed = changed-set (u .changed) (at + k) number (omega arith) (omega arith);
         written = λ v l. ⊎-elim
-        (λ t. old-values v (ltb-true v (4 * k) t))
-        (λ t.
-        let high : 4 * k ≤ v = ltb-false v (4 * k) t in
-        let is : 4 * k + (v - 4 * k) ≡ v = omega arith in
-        rw is at (byte-there (v - 4 * k) (omega arith) ∙ new-values (v - 4 * k) (omega arith)))
-        (test (ltb v (4 * k)));
+            (λ t. old-values v (ltb-true v (4 * k) t))
+            (λ t.
+            let high : 4 * k ≤ v = ltb-false v (4 * k) t in
+            let is : 4 * k + (v - 4 * k) ≡ v = omega arith in
+            rw is at (byte-there (v - 4 * k) (omega arith) ∙ new-values (v - 4 * k) (omega arith)))
+            (test (ltb v (4 * k)));
       }

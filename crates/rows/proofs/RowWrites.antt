@@ -1,6 +1,6 @@
 -- A row written over work memory: it has the new costs and values, the other rows and all outside the list are kept.
 use mathlib.Core.Path.{_≡_, sym, ap, ap₂, _∙_}
-use mathlib.Core.Logic.{inl, inr, ⊎-elim}
+use mathlib.Core.Logic.{inl, ⊎-elim}
 use mathlib.Core.List.{List, _++_}
 use Prim.Native.Nat.{ℕ, _+_, _*_, _≤_, _<_}
 use native.Mathlib.Omega.{arith}
@@ -12,16 +12,16 @@ use Rattle.model.specs.Calls.{padded}
 use Rattle.model.proofs.Points.{point-eq}
 use Rattle.problem.proofs.Filled.{take-padded}
 use Rattle.layout.specs.Layout.{listEnd, rowWidth}
-use Rattle.groups.proofs.Overwritten.{over, over-length, over-behind, over-before, over-here}
-use Rattle.rows.specs.Rows.{rowAt, costAt, valueAt, costsIn, valuesIn, pointIn, rowIn, Changed, Framed, RowWritten}
-use Rattle.rows.specs.Rows.{CostsWritten, ValuesWritten}
+use Rattle.groups.proofs.Overwritten.{over-length, over-behind, over-before, over-here}
+use Rattle.rows.specs.Rows.{rowAt, costAt, valueAt, costsIn, valuesIn, pointIn, rowIn}
+use Rattle.rows.specs.Rows.{Changed, Framed, RowWritten, CostsWritten, ValuesWritten}
 use Rattle.rows.proofs.Tabulated.{tabulated-is}
 use Rattle.rows.proofs.RowNumbers.{costs-front, values-front, equal-points}
 use Rattle.rows.proofs.Changing.{changed-wider, changed-then, changed-row, changed-others}
 
 -- only numbers of row k have changed, and the row is known
-written-row : {k : ℕ} {work work′ : List ℕ} → Changed (rowAt k) rowWidth work work′ → k ≤ maxPoints → listEnd ≤ length work
-    → (row : Point) → rowIn work′ k ≡ row → RowWritten work k row work′
+written-row : {k : ℕ} {work work′ : List ℕ} → Changed (rowAt k) rowWidth work work′ → k ≤ maxPoints
+    → listEnd ≤ length work → (row : Point) → rowIn work′ k ≡ row → RowWritten work k row work′
 written-row u few long row is =
     record { frame = changed-row u few long; written = is; others = λ j l apart. changed-others u j apart }
 
@@ -76,9 +76,9 @@ module _ (work work′ : List ℕ) (j k : ℕ) (l : j ≤ maxPoints) (few : k �
       record {
         long = rw is (over-length work (rowAt k) numbers (rowAt k + rowWidth) ends inside);
         others = λ m o. ⊎-elim
-        (λ h. rw is (over-before work (rowAt k) numbers (rowAt k + rowWidth) ends inside m h))
-        (λ h. behind m h)
-        o;
+            (λ h. rw is (over-before work (rowAt k) numbers (rowAt k + rowWidth) ends inside m h))
+            (λ h. behind m h)
+            o;
       }
     where
       behind : (m : ℕ) → rowAt k + rowWidth ≤ m → getD work′ m 0 ≡ getD work m 0

@@ -1,6 +1,7 @@
--- The numbers that a function gives in turn: how many, each of them, a front of them, and when two such lists are equal.
-use mathlib.Core.Path.{_≡_, refl, sym, ap, ap₂, _∙_}
-use mathlib.Core.List.{List, [], _∷_}
+-- The numbers that a function gives in turn: how many, each of them, a front of them, and when two such lists are
+-- equal.
+use mathlib.Core.Path.{_≡_, refl, sym, ap, _∙_}
+use mathlib.Core.List.{List, _∷_}
 use Prim.Native.Nat.{ℕ, zero, suc, _+_, _≤_, _<_}
 use native.Mathlib.Omega.{arith}
 use native.Mathlib.Nat.{add-zero, zero-add}

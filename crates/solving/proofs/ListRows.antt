@@ -26,7 +26,14 @@ use Rattle.solving.proofs.FoundRows as rows
 -- no rows
 hold-none : (w : List ℕ) → RowsHold 0 0 0 w
 unfolding listIn
-hold-none w = record { objectives = omega arith; variables = omega arith; few = omega arith; memory = λ h. absurd (omega arith); words = tt }
+hold-none w =
+    record {
+      objectives = omega arith;
+      variables = omega arith;
+      few = omega arith;
+      memory = λ h. absurd (omega arith);
+      words = tt;
+    }
 
 module _ (s : List ℕ) (room : ℕ) (w : List ℕ) (bytes : All Byte s) where
   pub unchanged-rows : (v : Verdict) → listVerdict s room w ≡ v → (n at : ℕ) → n ≡ v .number → at ≡ v .place → (n ≡ 0 → ⊥) → (n ≡ full → ⊥) → ListedSays s room w w (unlisted n at)

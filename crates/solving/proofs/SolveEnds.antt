@@ -60,7 +60,8 @@ module _ (s : List ℕ) (r : DG.Reading) (a : AcceptedReading s r) (c x w : List
       costs-asked =
           out.costs-asked s r a c x w1 (f .count) memory few (rows.list-is s r a room small w w1 enough f says t)
 
-      pub choices-asked : (listEnd ≤ length w1) × (f .count ≤ maxPoints) × (n ≤ maxVariables) × (f .count * n ≤ length x)
+      pub choices-asked : (listEnd ≤ length w1) × (f .count ≤ maxPoints) × (n ≤ maxVariables)
+          × (f .count * n ≤ length x)
       choices-asked = out.choices-asked s r a c x w1 (f .count) memory few
 
       pub list-end : (c1 x1 w2 : List ℕ) → c1 ≡ over (flatCosts (listIn p n w1 0 (f .count))) c → x1 ≡ over (flatChoices (listIn p n w1 0 (f .count))) x → w2 ≡ replicate (length w1) 0 → SolveSays (solveOutcome s c x w) c1 x1 w2 (listed 0 0 (f .count))

@@ -84,4 +84,5 @@ module _ {p n a b : ℕ} {was : List ℕ} (halved : Halved p n 0 a b was) (ceili
           → RowWritten work k (point (padded maxObjectives (take p (next .costs))) (next .choice)) stored
           → Made (Summed p n ceilings was a b) p n was stored (k + 1)
       merging-next h stored w =
-          made-next u (halved .objectives) (halved .variables) (omega arith) (next .costs) (next .choice) stored wide w longer
+          let few = halved .objectives in
+          made-next u few (halved .variables) (omega arith) (next .costs) (next .choice) stored wide w longer

@@ -5,7 +5,7 @@ use mathlib.Core.Bool.{true}
 use mathlib.Core.List.{List, [], _∷_, List·Memᴰ as In, List·Memᴰ·head as here, List·Memᴰ·tail as there, List·Memᴰ·not-nil as in-none, List·Memᴰ·cases-cons as in-cases, List·Memᴰ·append-cases as in-append}
 use Prim.Native.Nat.{ℕ, zero, suc, _+_, _-_, _≤_}
 use native.Mathlib.Omega.{arith}
-use lib.ListN.{length, take, drop}
+use lib.ListN.{take, drop}
 use Rattle.model.specs.Vectors.{under, added}
 use Rattle.model.specs.Frontiers.{Point}
 use Rattle.model.specs.Merging.{sumOf, sumsWith, allSums}
@@ -53,9 +53,10 @@ module _ (p n : ℕ) where
       (in-cases m)
 
   sum-sized : (x y : Point) → Sized p n x → Sized p n y → Sized p n (sumOf x y)
-  sum-sized x y a b =
-      (added-length (x .costs) (y .costs) (a .0 ∙ sym (b .0)) ∙ a .0,
-      added-length (x .choice) (y .choice) (a .1 ∙ sym (b .1)) ∙ a .1)
+  sum-sized x y a b = (
+    added-length (x .costs) (y .costs) (a .0 ∙ sym (b .0)) ∙ a .0,
+    added-length (x .choice) (y .choice) (a .1 ∙ sym (b .1)) ∙ a .1,
+  )
 
 -- a sum has p costs, under the ceilings, and n values
 pub sums-good : (p n a b : ℕ) (work ceilings : List ℕ) (r : Point) → In r (sumsIn p n ceilings work a b)

@@ -3,7 +3,8 @@ use Prim.Native.Nat.{_-_, _≤_}
 use native.Mathlib.Omega.{arith}
 use borrow.Author.Tests.{not-true, not-false}
 use denote.Ref.{now}
-use Rattle.passes.proofs.Passing.{Passing, passing-start, passing-setting, passing-stands, says-done, says-full, passing-next}
+use Rattle.passes.proofs.Passing.{Passing, passing-start, passing-setting, passing-stands}
+use Rattle.passes.proofs.Passing.{says-done, says-full, passing-next}
 use Rattle.passes.proofs.find_points.Statement.{statement}
 use Rattle.passes.proofs.find_points.Tie as tie
 

@@ -30,7 +30,8 @@ find-points-requires c κs =
     let x = c .before .root-of in
     let u = gained (c .before .before .before .before .before .before .before .before .before .before .before .before .before) in
     let copied = c .before .before .before .before .before .before .before .before .before .copy-numbers .ensures in
-    (grouped-setting u _ copied _ (g .ensures), x .ensures .1, x .ensures .0, s .pre .1, grouped-known u _ copied _ (g .ensures))
+    let known = grouped-known u _ copied _ (g .ensures) in
+    (grouped-setting u _ copied _ (g .ensures), x .ensures .1, x .ensures .0, s .pre .1, known)
 
 same-length : tie.Need-same-length
 same-length c = search needs

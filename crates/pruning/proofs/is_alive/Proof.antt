@@ -5,7 +5,6 @@ use native.Mathlib.Omega.{arith}
 use lib.Seq.{length-take-le}
 use denote.Ref.{now}
 use Rattle.model.proofs.Bits.{true-false}
-use borrow.Author.Needs.{needs}
 use Rattle.layout.specs.Layout.{zonesEnd}
 use Rattle.pruning.proofs.is_alive.Statement.{statement}
 use Rattle.pruning.proofs.is_alive.Tie as tie

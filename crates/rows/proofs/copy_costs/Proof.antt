@@ -40,7 +40,8 @@ put-costs-requires c κs =
     let room = row-room (a .p) (a .k) (w .row) (length (now (a .costs))) (s .pre .3) (omega arith) in
     let words = row-has (a .p) (a .n) work WordCosts 0 (a .k) (s .pre .4) (w .row) (omega arith) in
     let front = costs-front work (w .row) (a .p) maxObjectives (s .pre .2) in
-    (s .pre .2, omega (arith, room, out-length (w .inv .1)), rw (read .row-costs .ensures, front) (rw zero-add at words))
+    let here = rw zero-add at words in
+    (s .pre .2, omega (arith, room, out-length (w .inv .1)), rw (read .row-costs .ensures, front) here)
 
 add-row : tie.Need-add-row Inv-loop μ-loop
 add-row c = omega arith

@@ -146,8 +146,11 @@ module _ {M : Type 1} (𝓤 : URA M) (H : Heap 𝓤) (A : Atoms 𝓤) (W : Given
       abbrev to : ℕ → PointAt .Ghost
       to i = (((κ, tt), (q, tt), tt, (w, (i, (n, (p, tt)))), (sliceOf w ∷ [], (vint w64 i ∷ [], (vint w64 n ∷ [], (vint w64 p ∷ [], tt))))), tt)
 
-      asked : (i : ℕ) → i < k → (listEnd ≤ length (now w)) × (i < maxPoints) × (n ≤ maxVariables) × (p ≤ maxObjectives) × WordCosts (pointIn p n (now w) i)
-      asked i less = (hold .memory (omega arith), omega (arith, hold .few), hold .variables, hold .objectives, rw zero-add at (row-has p n (now w) WordCosts 0 k (hold .words) i less))
+      asked : (i : ℕ) → i < k → (listEnd ≤ length (now w)) × (i < maxPoints) × (n ≤ maxVariables) × (p ≤ maxObjectives)
+          × WordCosts (pointIn p n (now w) i)
+      asked i less =
+          let words = rw zero-add at (row-has p n (now w) WordCosts 0 k (hold .words) i less) in
+          (hold .memory (omega arith), omega (arith, hold .few), hold .variables, hold .objectives, words)
 
       goes : (i : ℕ) → i < k → ent 𝓤 (⋆ 𝓤 H A (Token ∷ ‵ Work ∷ [])) (PointAt .pre (to i))
       goes i less =

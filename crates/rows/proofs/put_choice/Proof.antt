@@ -1,8 +1,7 @@
 -- `rows::put_choice` meets its contract. The invariant: the values passed are written.
 use mathlib.Core.Path.{refl}
-use Prim.Native.Nat.{_-_, _≤_}
+use Prim.Native.Nat.{_-_}
 use native.Mathlib.Omega.{arith}
-use lib.ListN.{length}
 use mir.Syntax.{w8}
 use denote.Ref.{now}
 use Rattle.model.specs.Limits.{maxVariables}

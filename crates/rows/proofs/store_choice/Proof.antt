@@ -2,11 +2,11 @@
 use mathlib.Core.Path.{_≡_}
 use Prim.Native.Nat.{ℕ, _+_, _-_, _*_, _≤_, _<_}
 use native.Mathlib.Omega.{arith}
-use lib.ListN.{length, getD}
+use lib.ListN.{getD}
 use mir.Syntax.{w8}
 use denote.Ref.{now}
 use Rattle.model.specs.Limits.{maxVariables}
-use Rattle.rows.proofs.Arrays.{array-length, array-fits}
+use Rattle.rows.proofs.Arrays.{array-fits}
 use Rattle.rows.proofs.Packing.{ValuesTo, values-none, values-more}
 use Rattle.rows.proofs.store_choice.Statement.{statement}
 use Rattle.rows.proofs.store_choice.Tie as tie

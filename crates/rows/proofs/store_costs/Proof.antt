@@ -1,5 +1,5 @@
 -- `rows::store_costs` meets its contract. The invariant: the costs passed are written.
-use mathlib.Core.Path.{_≡_, sym, _∙_}
+use mathlib.Core.Path.{_≡_, _∙_}
 use mathlib.Core.Logic.{⊎-elim}
 use Prim.Native.Nat.{_-_, _≤_}
 use native.Mathlib.Omega.{arith}
@@ -15,7 +15,8 @@ use Rattle.rows.proofs.store_costs.Statement.{statement}
 use Rattle.rows.proofs.store_costs.Tie as tie
 
 abbrev Inv-loop : tie.InvT-loop
-Inv-loop p at work₀ costs i₀ work i = (i ≤ maxObjectives) × CostsTo at (padded maxObjectives (take p costs)) work₀ work i
+Inv-loop p at work₀ costs i₀ work i =
+    (i ≤ maxObjectives) × CostsTo at (padded maxObjectives (take p costs)) work₀ work i
 
 abbrev μ-loop : tie.MeasureT-loop
 μ-loop p at work₀ costs i₀ work i = maxObjectives - i

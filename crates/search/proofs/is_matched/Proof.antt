@@ -41,9 +41,14 @@ is-at-most-requires c κs = search needs
 
 returns : tie.Need-returns Inv-loop μ-loop
 returns c =
-    let s = c .before .before .before .before .before .before in
-    let w = c .before .before .before .before .loop in
-    sym (sym (w .inv .1) ∙ step s (w .i) (c .before .before .before .loop-test .taken) (c .before .before .row-costs .result) (c .before .before .row-costs .ensures) true (sym (c .if1 .taken) ∙ c .before .is-at-most .ensures))
+    let tested = c .before in
+    let read = tested .before in
+    let turn = read .before in
+    let w = turn .before .loop in
+    let s = turn .before .before .before in
+    let met = sym (c .if1 .taken) ∙ tested .is-at-most .ensures in
+    let here = step s (w .i) (turn .loop-test .taken) (read .row-costs .result) (read .row-costs .ensures) true met in
+    sym (sym (w .inv .1) ∙ here)
 
 add-i : tie.Need-add-i Inv-loop μ-loop
 add-i c = search needs
@@ -53,9 +58,14 @@ loop-less c = search needs
 
 loop-again : tie.Need-loop-again Inv-loop μ-loop
 loop-again c =
-    let s = c .before .before .before .before .before .before in
-    let w = c .before .before .before .before .loop in
-    (omega arith, sym (step s (w .i) (c .before .before .before .loop-test .taken) (c .before .before .row-costs .result) (c .before .before .row-costs .ensures) false (sym (c .if1 .left) ∙ c .before .is-at-most .ensures)) ∙ w .inv .1)
+    let tested = c .before in
+    let read = tested .before in
+    let turn = read .before in
+    let w = turn .before .loop in
+    let s = turn .before .before .before in
+    let met = sym (c .if1 .left) ∙ tested .is-at-most .ensures in
+    let here = step s (w .i) (turn .loop-test .taken) (read .row-costs .result) (read .row-costs .ensures) false met in
+    (omega arith, sym here ∙ w .inv .1)
 
 returns-2 : tie.Need-returns-2 Inv-loop μ-loop
 returns-2 c =

@@ -25,7 +25,9 @@ numbers-at-requires c κs = search needs
 gains-small : (c : tie.After-numbers-at) → All Half (c .numbers-at .result)
 gains-small c =
     let s = c .before .before .before in
-    rw (c .numbers-at .ensures) (four-half (now (s .args .work)) (gainsAt + 4 * s .args .x .len) (omega (arith, s .pre .0, s .pre .1)) (λ i. omega (arith, c .before .before .shared-slice-known .given i)))
+    rw (c .numbers-at .ensures)
+    (four-half (now (s .args .work)) (gainsAt + 4 * s .args .x .len) (omega (arith, s .pre .0, s .pre .1))
+    (λ i. omega (arith, c .before .before .shared-slice-known .given i)))
 
 sum-requires : tie.Need-sum-requires
 sum-requires c κs =

@@ -1,6 +1,6 @@
 -- `sums::choice_sum` meets its contract. The invariant: the array is the values added so far, then zeros.
 use mathlib.Core.Path.{_≡_, refl}
-use Prim.Native.Nat.{_+_, _-_, _≤_, _<_}
+use Prim.Native.Nat.{_-_, _≤_, _<_}
 use native.Mathlib.Omega.{arith}
 use lib.ListN.{length, take}
 use lib.Seq.{take-all, length-take-le}
@@ -48,7 +48,8 @@ add-sum c =
     let w = c .before .loop in
     let s = c .before .before in
     let a = s .args in
-    let small = sums-each (a .t1) (a .t2) (a .n) (long-x s) (long-y s) (w .i) (omega arith) (λ v. v < maxDomain) (s .pre .1) in
+    let small =
+    sums-each (a .t1) (a .t2) (a .n) (long-x s) (long-y s) (w .i) (omega arith) (λ v. v < maxDomain) (s .pre .1) in
     omega (arith, small)
 
 array-write-sum : tie.Need-array-write-sum Inv-loop μ-loop

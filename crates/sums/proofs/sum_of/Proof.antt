@@ -52,7 +52,8 @@ choice-sum-requires c κs =
     let s = costs .before .before .before .before in
     let a = s .args in (
       s .pre .1,
-      rw (first .row-choice .ensures, c .row-choice2 .ensures, first-values s (a .i), first-values s (a .j)) (s .pre .6),
+      rw (first .row-choice .ensures, c .row-choice2 .ensures, first-values s (a .i), first-values s (a .j))
+          (s .pre .6),
     )
 
 returns : tie.Need-returns
