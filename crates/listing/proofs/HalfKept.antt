@@ -12,6 +12,7 @@ use Rattle.model.specs.Frontiers.{frontier}
 use Rattle.model.specs.Views.{narrowed, within, kept, view}
 use Rattle.model.specs.Calls.{over as filled}
 use Rattle.problem.specs.Records.{Whole}
+use Rattle.problem.proofs.RecordPlaces.{places-count, places-whole, places-owners}
 use Rattle.groups.specs.Layout.{recordsAt, sourceAt}
 use Rattle.groups.specs.Groups.{tablesOver, placesIn}
 use Rattle.groups.proofs.Overwritten.{over, over-length, over-here}
@@ -24,7 +25,7 @@ use Rattle.listing.specs.Says.{problemAt, Accepted}
 use Rattle.passes.specs.Says.{FoundSays}
 use Rattle.passes.specs.declared.Found as DF
 use Rattle.passes.proofs.Since.{says-since}
-use Rattle.listing.proofs.PlacesKept.{places-count, places-whole, places-tables, places-owners, behindAt, written, written-places, written-length}
+use Rattle.listing.proofs.PlacesKept.{places-tables, behindAt, written, written-places, written-length}
 
 -- the side's records among some
 abbrev pub onSide : ℕ → List ℕ → List ℕ → List ℕ → List ℕ

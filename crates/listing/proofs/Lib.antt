@@ -1,5 +1,6 @@
 -- The laws that the functions' proofs share.
 pub mod PlacesKept
+pub mod ReadRecords
 pub mod HalfKept
 pub mod PlanKept
 pub mod Forms

@@ -10,7 +10,8 @@ use Rattle.model.specs.Limits.{maxObjectives}
 use Rattle.model.specs.Frontiers.{frontier}
 use Rattle.model.specs.Reading.{tableLength, tableOf, tablesAt, placesAt}
 use Rattle.model.specs.Calls.{over as filled}
-use Rattle.problem.specs.Records.{Whole, AllWhole}
+use Rattle.problem.specs.Records.{Whole}
+use Rattle.problem.proofs.RecordPlaces.{places-count, places-whole}
 use Rattle.groups.specs.Layout.{sourceAt}
 use Rattle.groups.specs.Groups.{tablesOver}
 use Rattle.groups.proofs.Overwritten.{over, over-length, over-here}
@@ -21,25 +22,10 @@ use Rattle.passes.specs.declared.Found as DF
 use Rattle.passes.proofs.Since.{says-since}
 
 module _ (ds s : List ℕ) where
-  pub places-count : (r at : ℕ) → length (placesAt r ds s at) ≡ r
-  unfolding placesAt
-  places-count zero at = refl
-  places-count (suc r) at = ap suc (places-count r (at + tableLength ds (drop at s)))
-
-  pub places-whole : (r at : ℕ) → AllWhole r ds s at → All (Whole ds s) (placesAt r ds s at)
-  unfolding placesAt
-  places-whole zero at h = tt
-  places-whole (suc r) at h = (h .0, places-whole r (at + tableLength ds (drop at s)) (h .1))
-
   pub places-tables : (r at : ℕ) → tablesOver ds s (placesAt r ds s at) ≡ tablesAt r ds s at
   unfolding placesAt tablesAt tablesOver
   places-tables zero at = refl
   places-tables (suc r) at = ap (_∷_ (tableOf ds (drop at s))) (places-tables r (at + tableLength ds (drop at s)))
-
-  pub places-owners : (r at : ℕ) → AllWhole r ds s at → All (λ t. t .objective < maxObjectives) (tablesAt r ds s at)
-  unfolding tablesAt tableOf
-  places-owners zero at h = tt
-  places-owners (suc r) at h = (h .0 .owner, places-owners r (at + tableLength ds (drop at s)) (h .1))
 
 -- they are kept in the part of work memory from `from` on
 abbrev pub behindAt : List ℕ → ℕ → List ℕ

@@ -1,19 +1,47 @@
 -- `merge::cut_lists` meets its contract: each return hands what the callees ensure to one law of Cutting.
-use mathlib.Core.Path.{refl, sym}
+use mathlib.Core.Path.{sym, _∙_}
+use mathlib.Core.List.{List}
+use Prim.Native.Nat.{ℕ}
 use native.Mathlib.Omega.{arith}
 use denote.Ref.{now}
 use borrow.Author.Needs.{needs}
+use Rattle.model.specs.Reading.{problemOf}
 use Rattle.model.proofs.Cut.{sides-long}
-use Rattle.listing.specs.Says.{problemAt}
-use Rattle.merge.proofs.Cutting.{half-accepted, first-full, second-full, cut-halved, cut-words, merged-full, cut-end}
+use Rattle.problem.proofs.Accepted.{AcceptedReading, read-accepted}
+use Rattle.merge.proofs.Cutting.{first-full, second-full, cut-halved, cut-words, merged-full, cut-end}
 use Rattle.merge.proofs.cut_lists.Statement.{statement}
 use Rattle.merge.proofs.cut_lists.Tie as tie
 
+-- ## the places: each half kept, the ceilings widened, the sums merged
+
+abbrev known : tie.After-keep-half → tie.After-shared-slice-known
+known c = c .before .before .before .before
+
+abbrev start : tie.After-keep-half → tie.Start
+start c = known c .before
+
+accepted : (s : tie.Start) → AcceptedReading (now (s .args .s)) (s .args .g)
+accepted s = read-accepted (now (s .args .s)) (s .args .g) (s .pre .0) (s .pre .1)
+
+abbrev first : tie.Else1 → tie.After-keep-half
+first c = c .before .before .before
+
+abbrev opened : tie.After-keep-half2 → tie.Else1
+opened c = c .before .before
+
+abbrev second : tie.Else2 → tie.After-keep-half2
+second c = c .before .before .before
+
+abbrev kept : tie.After-widened → tie.Else2
+kept c = let head : tie.After-head = c .before .before .before .before in head .before
+
+-- ## the first half
+
 keep-half-requires : tie.Need-keep-half-requires
 keep-half-requires c κs =
-    let s = c .before .before .before .before .before in
-    let a = s .args in
-    (half-accepted (s .pre .0) _ (omega (arith, s .pre .3)), sym (sides-long (problemAt (a .p) (a .ceilings) (now (a .sizes)) (now (a .s)) (a .at) (a .r)) (now (a .sides)) (s .pre .1)), omega arith, omega arith, s .pre .3)
+    let s : tie.Start = c .before .before .before .before in
+    let long = sides-long (problemOf (now (s .args .s))) (now (s .args .sides)) (s .pre .2) in
+    (s .pre .0, s .pre .1, long, omega arith, omega arith, s .pre .5)
 
 no-lists-requires : tie.Need-no-lists-requires
 no-lists-requires c κs = search needs
@@ -23,14 +51,22 @@ same-length c = search needs
 
 returns : tie.Need-returns
 returns c =
-    let s = c .before .before .before .before .before .before .before .before .before .before in
-    rw (c .no-lists .ensures) (first-full (now (s .args .sides)) (s .pre .0) (s .pre .1) (s .pre .2) (s .pre .3) (c .before .before .before .before .keep-half .ensures) (c .before .if1 .taken))
+    let full : tie.Then1 = c .before in
+    let half : tie.After-keep-half = full .before .before .before in
+    let s = start half in
+    let p = s .pre in
+    rw (c .no-lists .ensures)
+    (first-full (accepted s) (s .args .room) (now (s .args .sides)) (now (s .args .work)) (p .2) (p .3) (p .5)
+    (half .keep-half .ensures) (full .if1 .taken))
+
+-- ## the second half
 
 keep-half-requires-2 : tie.Need-keep-half-requires-2
 keep-half-requires-2 c κs =
-    let s = c .before .before .before .before .before .before .before .before .before .before in
-    let a = s .args in
-    (half-accepted (s .pre .0) _ (omega (arith, s .pre .3, c .before .before .before .before .keep-half .ensures .long)), sym (sides-long (problemAt (a .p) (a .ceilings) (now (a .sizes)) (now (a .s)) (a .at) (a .r)) (now (a .sides)) (s .pre .1)), omega arith, omega arith, omega (arith, s .pre .3, c .before .before .before .before .keep-half .ensures .long))
+    let half = first (c .before) in
+    let s = start half in
+    let long = sides-long (problemOf (now (s .args .s))) (now (s .args .sides)) (s .pre .2) in
+    (s .pre .0, s .pre .1, long, omega arith, omega arith, omega (arith, s .pre .5, half .keep-half .ensures .long))
 
 no-lists-requires-2 : tie.Need-no-lists-requires-2
 no-lists-requires-2 c κs = search needs
@@ -40,18 +76,42 @@ same-length-2 c = search needs
 
 returns-2 : tie.Need-returns-2
 returns-2 c =
-    let s = c .before .before .before .before .before .before .before .before .before .before .before .before .before .before .before in
-    rw (c .no-lists2 .ensures) (second-full (now (s .args .sides)) (s .pre .0) (s .pre .1) (s .pre .2) (s .pre .3) (c .before .before .before .before .before .before .before .before .before .keep-half .ensures) (c .before .before .before .before .before .before .if1 .left) (c .before .before .before .before .keep-half2 .ensures) (c .before .if2 .taken))
+    let full : tie.Then2 = c .before in
+    let other : tie.After-keep-half2 = full .before .before .before in
+    let half = first (opened other) in
+    let s = start half in
+    let p = s .pre in
+    rw (c .no-lists2 .ensures)
+    (second-full (accepted s) (s .args .room) (now (s .args .sides)) (now (s .args .work)) (p .2) (p .3) (p .5)
+    (half .keep-half .ensures) (opened other .if1 .left) (other .keep-half2 .ensures) (full .if2 .taken))
+
+-- ## the sums
+
+cast-n : tie.Need-cast-n
+cast-n c = search needs
+
+cast-p : tie.Need-cast-p
+cast-p c = search needs
 
 widened-requires : tie.Need-widened-requires
 widened-requires c κs = search needs
 
 merge-points-requires : tie.Need-merge-points-requires
 merge-points-requires c κs =
-    let s = c .before .before .before .before .before .before .before .before .before .before .before .before .before .before .before .before in
-    let first = c .before .before .before .before .before .before .before .before .before .before .keep-half .ensures in
-    let second = c .before .before .before .before .before .keep-half2 .ensures in
-    (cut-halved (now (s .args .sides)) (s .pre .0) (s .pre .1) (s .pre .2) (s .pre .3) first (c .before .before .before .before .before .before .before .if1 .left) second (c .before .before .if2 .left), cut-words (now (s .args .sides)) (s .pre .0) (s .pre .1) (s .pre .2) (s .pre .3) first (c .before .before .before .before .before .before .before .if1 .left) second (c .before .before .if2 .left) (c .before .widened .ensures), s .pre .0 .room-small)
+    let wide : tie.After-widened = c .before in
+    let both = kept wide in
+    let other = second both in
+    let half = first (opened other) in
+    let s = start half in
+    let p = s .pre in
+    let halved =
+    cut-halved (accepted s) (s .args .room) (now (s .args .sides)) (now (s .args .work)) (p .2) (p .3) (p .5)
+    (half .keep-half .ensures) (opened other .if1 .left) (other .keep-half2 .ensures) (both .if2 .left) in
+    let words =
+    cut-words (accepted s) (s .args .room) (now (s .args .sides)) (now (s .args .work)) (p .2) (p .3) (p .5)
+    (half .keep-half .ensures) (opened other .if1 .left) (other .keep-half2 .ensures) (both .if2 .left)
+    (wide .widened .ensures) (λ i. omega (arith, known half .shared-slice-known .given i)) in
+    (halved, words, p .4)
 
 no-lists-requires-3 : tie.Need-no-lists-requires-3
 no-lists-requires-3 c κs = search needs
@@ -61,16 +121,34 @@ same-length-3 c = search needs
 
 returns-3 : tie.Need-returns-3
 returns-3 c =
-    let s = c .before .before .before .before .before .before .before .before .before .before .before .before .before .before .before .before .before .before .before .before .before in
-    rw (c .no-lists3 .ensures) (merged-full (now (s .args .sides)) (s .pre .0) (s .pre .1) (s .pre .2) (s .pre .3) (c .before .before .before .before .before .before .before .before .before .before .before .before .before .before .before .keep-half .ensures) (c .before .before .before .before .before .before .before .before .before .before .before .before .if1 .left) (c .before .before .before .before .before .before .before .before .before .before .keep-half2 .ensures) (c .before .before .before .before .before .before .before .if2 .left) (c .before .before .before .before .before .before .widened .ensures) (c .before .before .before .before .merge-points .ensures) (c .before .if3 .taken))
+    let full : tie.Then3 = c .before in
+    let merged : tie.After-merge-points = full .before .before .before in
+    let wide : tie.After-widened = merged .before .before in
+    let both = kept wide in
+    let other = second both in
+    let half = first (opened other) in
+    let s = start half in
+    let p = s .pre in
+    rw (c .no-lists3 .ensures)
+    (merged-full (accepted s) (s .args .room) (now (s .args .sides)) (now (s .args .work)) (p .2) (p .3) (p .5)
+    (half .keep-half .ensures) (opened other .if1 .left) (other .keep-half2 .ensures) (both .if2 .left)
+    (wide .widened .ensures) (merged .merge-points .ensures) (full .if3 .taken))
 
 same-length-4 : tie.Need-same-length-4
 same-length-4 c = search needs
 
 returns-4 : tie.Need-returns-4
 returns-4 c =
-    let s = c .before .before .before .before .before .before .before .before .before .before .before .before .before .before .before .before .before .before .before .before in
-    cut-end (now (s .args .sides)) (s .pre .0) (s .pre .1) (s .pre .2) (s .pre .3) (c .before .before .before .before .before .before .before .before .before .before .before .before .before .before .keep-half .ensures) (c .before .before .before .before .before .before .before .before .before .before .before .if1 .left) (c .before .before .before .before .before .before .before .before .before .keep-half2 .ensures) (c .before .before .before .before .before .before .if2 .left) (c .before .before .before .before .before .widened .ensures) (c .before .before .before .merge-points .ensures) (c .if3 .left)
+    let merged : tie.After-merge-points = c .before .before .before in
+    let wide : tie.After-widened = merged .before .before in
+    let both = kept wide in
+    let other = second both in
+    let half = first (opened other) in
+    let s = start half in
+    let p = s .pre in
+    cut-end (accepted s) (s .args .room) (now (s .args .sides)) (now (s .args .work)) (p .2) (p .3) (p .5)
+    (half .keep-half .ensures) (opened other .if1 .left) (other .keep-half2 .ensures) (both .if2 .left)
+    (wide .widened .ensures) (merged .merge-points .ensures) (c .if3 .left)
 
 pub cut-lists-spec : {M : Type 1} → statement M
 cut-lists-spec =
@@ -84,6 +162,8 @@ cut-lists-spec =
     no-lists-requires-2
     same-length-2
     returns-2
+    cast-n
+    cast-p
     widened-requires
     merge-points-requires
     no-lists-requires-3
