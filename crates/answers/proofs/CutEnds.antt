@@ -1,4 +1,5 @@
--- The cut call once its lists are found: what copying out asks, and its answer. By demand 3 the list is the frontier list.
+-- The cut call once its lists are found: what copying out asks, and its answer. By demand 3 the list is the frontier
+-- list.
 use mathlib.Core.Path.{_≡_, refl, sym, ap, _∙_}
 use mathlib.Core.Bool.{Bool, true, false, not, _||_, false≢true}
 use mathlib.Core.List.{List, []}
@@ -35,7 +36,8 @@ room-told q ss room =
     go (ltb maxPoints (halfSize 0 q ss)) (ltb maxPoints (halfSize 1 q ss)) (ltb room (length (cutList q ss)))
   where
     go : (a b c : Bool)
-        → first (pick a (verdict full 0) accepted) (first (pick b (verdict full 0) accepted) (pick c (verdict full 0) accepted))
+        → first (pick a (verdict full 0) accepted)
+        (first (pick b (verdict full 0) accepted) (pick c (verdict full 0) accepted))
         ≡ pick (a || (b || c)) (verdict full 0) accepted
     go true b c = refl
     go false true c = refl

@@ -1,4 +1,5 @@
--- What the cut call refuses before it searches: each of its tests in their order, and the numbers and places that it may give.
+-- What the cut call refuses before it searches: each of its tests in their order, and the numbers and places that it
+-- may give.
 use mathlib.Core.Path.{_≡_, refl, sym, ap, _∙_}
 use mathlib.Core.Bool.{Bool, true, false, _&&_}
 use mathlib.Core.List.{List, [], _∷_}
@@ -37,16 +38,20 @@ first-place : (ps : List ℕ) → All (λ at. at ≤ maxBytes) ps → getD ps 0 
 first-place [] h = omega arith
 first-place (at ∷ ps) h = h .0
 
-linked-early : (ss : List ℕ) (ts : List Table) (ps : List ℕ) → All (λ at. at ≤ maxBytes) ps → Early (linkedVerdict ss ts ps)
+linked-early : (ss : List ℕ) (ts : List Table) (ps : List ℕ) → All (λ at. at ≤ maxBytes) ps
+    → Early (linkedVerdict ss ts ps)
 unfolding linkedVerdict
 linked-early ss [] ps h = (omega arith, omega arith)
-linked-early ss (t ∷ ts) ps h = pick-both Early (crosses ss t) (omega arith, first-place ps h) (linked-early ss ts (drop 1 ps) (all-drop (λ at. at ≤ maxBytes) 1 ps h))
+linked-early ss (t ∷ ts) ps h =
+    pick-both Early (crosses ss t) (omega arith, first-place ps h)
+    (linked-early ss ts (drop 1 ps) (all-drop (λ at. at ≤ maxBytes) 1 ps h))
 
 places-early : (s : List ℕ) → verdictOf s .number ≡ 0 → All (λ at. at ≤ maxBytes) (placesOf s)
 unfolding placesOf
 places-early s e =
     let short : length s ≤ maxBytes = accepted-parts s e .short in
-    all-map (Whole (domainsOf s) s) (λ at. at ≤ maxBytes) (λ at w. omega (arith, w .long)) (placesOf s) (places-whole (domainsOf s) s (headTables s) (tablesStart s) (accepted-whole s e))
+    all-map (Whole (domainsOf s) s) (λ at. at ≤ maxBytes) (λ at w. omega (arith, w .long)) (placesOf s)
+    (places-whole (domainsOf s) s (headTables s) (tablesStart s) (accepted-whole s e))
 
 module _ (s ss : List ℕ) (k : ℕ) where
   abbrev sided : Verdict
@@ -112,7 +117,11 @@ cut-verdict s ss w room =
     let linked = linkedVerdict ss (q .tables) (placesOf s) in
     let sided = first (sidesVerdict q ss) linked in
     let last = cutRoomVerdict q ss room in
-    rw (first-assoc (verdictOf s) (first (workVerdict w) sided) last, first-assoc (workVerdict w) sided last, first-assoc (sidesVerdict q ss) linked last)
+    rw (
+      first-assoc (verdictOf s) (first (workVerdict w) sided) last,
+      first-assoc (workVerdict w) sided last,
+      first-assoc (sidesVerdict q ss) linked last,
+    )
 
 -- the tests of the sides and of the linked records, by the fields of what was read
 module _ (s : List ℕ) (r : DG.Reading) (a : AcceptedReading s r) (ss : List ℕ) where
@@ -132,6 +141,8 @@ module _ (s : List ℕ) (r : DG.Reading) (a : AcceptedReading s r) (ss : List �
   pub sides-sized : sidesOk (problemOf s) ss ≡ true → length ss ≡ length ds
   sides-sized h = sym (sides-long (problemOf s) ss h) ∙ sym (variables-are s r a) ∙ sym (sized s r a)
 
-  pub linked-told : (f : DR.Refusal) → RefusalSays (linkedVerdict ss (tablesAt (r .head .tables) ds s start) (placesAt (r .head .tables) ds s start)) f → RefusalSays (linkedVerdict ss (problemOf s .tables) (placesOf s)) f
+  pub linked-told : (f : DR.Refusal)
+      → RefusalSays (linkedVerdict ss (tablesAt (r .head .tables) ds s start) (placesAt (r .head .tables) ds s start)) f
+      → RefusalSays (linkedVerdict ss (problemOf s .tables) (placesOf s)) f
   unfolding problemOf placesOf
   linked-told f says = rw (a .domains, a .tables, a .objectives, a .variables) at says

@@ -1,5 +1,5 @@
--- What the calls that list the frontier refuse before they search: numbers 1 to 11, then 12; and the whole verdict, which
--- is this one and then the room's.
+-- What the calls that list the frontier refuse before they search: numbers 1 to 11, then 12; and the whole verdict,
+-- which is this one and then the room's.
 use mathlib.Core.Path.{_≡_, refl, sym, ap, _∙_}
 use mathlib.Core.Bool.{Bool, false}
 use mathlib.Core.List.{List}

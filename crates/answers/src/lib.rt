@@ -1,5 +1,5 @@
-// What the calls that list the frontier answer, before a search and behind it: refusals, the room, the list copied out of
-// work memory, and the answers, for C too.
+// What the calls that list the frontier answer, before a search and behind it: refusals, the room, the list copied out
+// of work memory, and the answers, for C too.
 ghost use mathlib.Core.Path.{_≡_};
 ghost use Prim.Native.Nat.{_≤_};
 ghost use lib.Dec.{eqb};

@@ -74,9 +74,11 @@ module _ {p r : ℕ} {ceilings ds s work : List ℕ} (source : Source p r ceilin
           → Kept r work after × (e .decided ≡ true → FoundSays p (length ds)
           (frontier (sourceProblem p r ceilings ds s work)) room work after (foundOf e))
       explored-says after e says =
-          let long : length after ≡ length work = says .still .long ∙ kept .long in (
+          let Found : ℕ → List Point → Type 0 = λ k fs. FoundSays k (length ds) fs room work after (foundOf e) in
+          let long : length after ≡ length work = says .still .long ∙ kept .long in
+          let list = frontier (sourceProblem p r ceilings ds s work) in (
             record { long = long; source = says .still .source ∙ kept .source },
-            λ t. subst (λ (k : ℕ). FoundSays k (length ds) (frontier (sourceProblem p r ceilings ds s work)) room work after (foundOf e)) same
-                (subst (λ (fs : List Point). FoundSays (d .objectives) (length ds) fs room work after (foundOf e)) (ap frontier searched)
+            λ t. subst (λ (k : ℕ). Found k list) same
+                (subst (λ (fs : List Point). Found (d .objectives) fs) (ap frontier searched)
                 (record { full = says .full t; count = says .count t; list = says .list t; long = long })),
           )

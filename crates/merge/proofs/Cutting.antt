@@ -1,5 +1,5 @@
--- The cut of a problem that was read: the sums of the halves' lists that were kept give its frontier list, and what each
--- end of the cut says.
+-- The cut of a problem that was read: the sums of the halves' lists that were kept give its frontier list, and what
+-- each end of the cut says.
 use mathlib.Core.Path.{_≡_, refl, sym, ap, _∙_}
 use mathlib.Core.Bool.{true, false, _||_}
 use mathlib.Core.List.{List}
@@ -79,7 +79,8 @@ module _ {s : List ℕ} {g : DG.Reading} (a : AcceptedReading s g) (room : ℕ) 
       module _ (u : j .full ≡ false) where
         first-is : firstIn p n two (f .count) ≡ listOf 0
         first-is =
-            first-same p n (a .few-objectives .1) (a .few-variables .1) one two (second .behind (omega arith)) (f .count)
+            first-same p n (a .few-objectives .1) (a .few-variables .1) one two (second .behind (omega arith))
+            (f .count)
             ∙ first .list t
 
         second-is : secondIn p n two (j .count) ≡ listOf 1

@@ -39,9 +39,13 @@ accepted c =
 abbrev sided : tie.After-sides-ok → tie.Else1
 sided c = c .before .before .before
 
-good : (c : tie.Else2) → sidesOk (problemOf (bytes (tested (sided (c .before))))) (sides (tested (sided (c .before)))) ≡ true
+abbrev Good : tie.After-early-refusal → Type 0
+Good c = sidesOk (problemOf (bytes c)) (sides c) ≡ true
+
+good : (c : tie.Else2) → Good (tested (sided (c .before)))
 good c =
-    let told = sides-told _ _ (accepted (sided (c .before))) (sides (tested (sided (c .before)))) _ (c .before .sides-ok .ensures) in
+    let at : tie.Else1 = sided (c .before) in
+    let told = sides-told _ _ (accepted at) (sides (tested at)) _ (c .before .sides-ok .ensures) in
     sym told ∙ not-false _ (c .if2 .left)
 
 abbrev lent : tie.After-sizes2 → tie.Else2
@@ -71,9 +75,10 @@ returns-2 c =
     let open-at : tie.Else1 = sided (c .before) in
     let told : tie.After-early-refusal = tested open-at in
     let s = start told in
-    let none = early-none (bytes told) (s .args .memory) (s .args .g) (s .pre) (told .early-refusal .ensures) (open-at .if1 .left) in
-    let bad = sym (sides-told _ _ (accepted open-at) (sides told) _ (c .before .sides-ok .ensures)) ∙ not-true _ (c .if2 .taken) in
-    sides-cut (bytes told) (sides told) (s .args .memory) none bad
+    let early = told .early-refusal .ensures in
+    let none = early-none (bytes told) (s .args .memory) (s .args .g) (s .pre) early (open-at .if1 .left) in
+    let test = sides-told _ _ (accepted open-at) (sides told) _ (c .before .sides-ok .ensures) in
+    sides-cut (bytes told) (sides told) (s .args .memory) none (sym test ∙ not-true _ (c .if2 .taken))
 
 -- ## the linked records
 
@@ -102,7 +107,8 @@ returns-3 c =
     let open-at : tie.Else1 = sided (ready .before) in
     let told : tie.After-early-refusal = tested open-at in
     let s = start told in
-    let none = early-none (bytes told) (s .args .memory) (s .args .g) (s .pre) (told .early-refusal .ensures) (open-at .if1 .left) in
+    let early = told .early-refusal .ensures in
+    let none = early-none (bytes told) (s .args .memory) (s .args .g) (s .pre) early (open-at .if1 .left) in
     let said = rw (started .tables-start .ensures) at (c .first-linked .ensures) in
     linked-cut (bytes told) (sides told) (s .args .memory) none (good ready) _
     (linked-told _ _ (accepted open-at) (sides told) _ said)

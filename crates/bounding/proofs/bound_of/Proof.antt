@@ -19,7 +19,8 @@ use Rattle.bounding.proofs.bound_of.Tie as tie
 within : {s : List ℕ} {r : DG.Reading} → AcceptedReading s r → r .head .variables ≤ length (r .sizes)
 within a = omega (arith, a .room, a .few-variables)
 
-taken : {s : List ℕ} {r : DG.Reading} → AcceptedReading s r → r .head .variables ≡ length (take (r .head .variables) (r .sizes))
+taken : {s : List ℕ} {r : DG.Reading} → AcceptedReading s r
+    → r .head .variables ≡ length (take (r .head .variables) (r .sizes))
 taken {r = r} a = sym (length-take-le (r .head .variables) (r .sizes) (within a))
 
 -- ## the places: read, accepted, and the domain sizes lent to the test of the prefix

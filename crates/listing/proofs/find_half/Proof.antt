@@ -13,7 +13,8 @@ use Rattle.problem.proofs.Accepted.{AcceptedReading, read-accepted}
 use Rattle.problem.proofs.Readings.{sized}
 use Rattle.views.proofs.Narrowing.{narrowed-length}
 use Rattle.listing.proofs.HalfKept.{side-asked, side-source, side-says}
-use Rattle.listing.proofs.ReadRecords.{RecordsRead, sizesOf, places-fit, places-at, records-read, half-found, sides-sized}
+use Rattle.listing.proofs.ReadRecords.{RecordsRead, sizesOf, places-fit, places-at, records-read}
+use Rattle.listing.proofs.ReadRecords.{half-found, sides-sized}
 use Rattle.listing.proofs.find_half.Statement.{statement}
 use Rattle.listing.proofs.find_half.Tie as tie
 

@@ -24,7 +24,8 @@ bytes c = now (start c .args .s)
 accepted : (c : tie.After-head) → AcceptedReading (bytes c) (start c .args .g)
 accepted c = read-accepted (bytes c) (start c .args .g) (start c .pre .0 .read) (start c .pre .0 .none)
 
-records : (c : tie.After-head) → RecordsRead (bytes c) (start c .args .g) (start c .args .room) (now (start c .args .work))
+records : (c : tie.After-head)
+    → RecordsRead (bytes c) (start c .args .g) (start c .args .room) (now (start c .args .work))
 records c =
     let s = start c in
     let known : tie.After-shared-slice-known = c .before .before in
