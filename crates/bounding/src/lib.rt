@@ -1,4 +1,5 @@
 // From the bytes of a problem and a prefix to the bound in each objective; or a refusal.
+ghost use mathlib.Core.Path.{_≡_};
 ghost use Rattle.bounding.specs.Says.{BoundSays};
 
 // What the bound call answers: a refusal's number and place, or 0 and 0 with the bound in each objective.
@@ -22,7 +23,6 @@ pub fn bound_of(problem: &[u8], prefix: &[u8]) -> Least
     }
     let head = g.head;
     let n = head.variables as usize;
-    let p = head.objectives as usize;
     let sizes = g.sizes;
     if !costs::prefix_ok(&sizes[..n], prefix) {
         return Least {
@@ -31,11 +31,21 @@ pub fn bound_of(problem: &[u8], prefix: &[u8]) -> Least
             least: [0u64; 4],
         };
     }
-    let start = 6 + 4 * p + 3 * n;
+    let start = problem::tables_start(head);
     let least = costs::bounds_of(problem, start, head.tables, &sizes[..n], prefix);
     Least {
         number: 0,
         place: 0,
         least,
     }
+}
+
+// The answer for C: the number is the result, bound and place go through references.
+pub fn tell_bound(bound: Least, least: &mut [u64; 4], place: &mut u32) -> u8
+    ensures { λ r. ⌜ (r ≡ bound .number) × (now (least .exit) ≡ bound .least) × (now (place .exit) ≡ bound .place) ⌝ }
+{
+    let bounds = bound.least;
+    *least = bounds;
+    *place = bound.place;
+    bound.number
 }

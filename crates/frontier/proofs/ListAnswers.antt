@@ -13,9 +13,9 @@ use Rattle.model.specs.Calls.{over, pointRecords, answers, solveVerdict, ListOu
 use Rattle.model.specs.declared.Point as DP
 use Rattle.rows.specs.Rows.{listIn, recordOf, recordsOf}
 use Rattle.rows.proofs.RowParts.{rows-length}
-use Rattle.solving.specs.declared.Answer as DA
-use Rattle.solving.specs.declared.Listed as DI
-use Rattle.solving.specs.Says.{listVerdict, ListedSays}
+use Rattle.answers.specs.declared.Answer as DA
+use Rattle.answers.specs.declared.Listed as DI
+use Rattle.answers.specs.Says.{listVerdict, ListedSays}
 use Rattle.frontier.specs.Says.{asPoint, asPoints, ListExports}
 
 -- records as points: how many, one list over another, and those of points

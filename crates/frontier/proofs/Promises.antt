@@ -6,12 +6,12 @@ use Prim.Native.Nat.{ℕ, _<_}
 use lib.ListN.{getD}
 use Rattle.model.specs.Limits.{byteEnd}
 use Rattle.model.specs.Encoding.{Byte}
-use Rattle.model.specs.Calls.{SolveOutcome, CutOutcome, boundOutcome}
+use Rattle.model.specs.Calls.{SolveOutcome, CutOutcome, BoundOutcome, boundOutcome}
 use Rattle.model.proofs.Elements.{all-each}
-use Rattle.solving.specs.declared.Answer as DA
-use Rattle.solving.specs.Says.{SolveSays}
-use Rattle.cutting.specs.declared.Halves as DH
-use Rattle.cutting.specs.Says.{CutSays}
+use Rattle.answers.specs.declared.Answer as DA
+use Rattle.answers.specs.Says.{SolveSays}
+use Rattle.answers.specs.declared.Halves as DH
+use Rattle.answers.specs.Cuts.{CutSays}
 use Rattle.bounding.specs.declared.Least as DL
 use Rattle.bounding.specs.Says.{BoundSays}
 use Rattle.frontier.specs.Says.{SolveExports, CutExports, BoundExports}
@@ -54,16 +54,28 @@ module _ (s : List ℕ) (bytes : (i : ℕ) → getD s i 0 < byteEnd) where
 
 -- the cut call's answer as it is handed to C
 pub cut-export : {s : List ℕ} {o : CutOutcome} {c x w : List ℕ} (r : DH.Halves)
-    → CutExports s o c x w (r .number) (r .place) (r .count) (r .first) (r .second) → (n at k : ℕ)
-    → (n ≡ r .number) × (at ≡ r .place) × (k ≡ r .count) → CutExports s o c x w n at k (r .first) (r .second)
-cut-export r says n at k e = record {
+    → CutExports s o c x w (r .number) (r .place) (r .count) (r .first) (r .second) → (n at k i j : ℕ)
+    → (n ≡ r .number) × (at ≡ r .place) × (k ≡ r .count) × (i ≡ r .first) × (j ≡ r .second)
+    → CutExports s o c x w n at k i j
+cut-export r says n at k i j e = record {
   bytes = says .bytes;
   number = e .0 ∙ says .number;
   place = e .1 ∙ says .place;
   count = e .2 ∙ says .count;
-  first-half = says .first-half;
-  second-half = says .second-half;
+  first-half = e .3 ∙ says .first-half;
+  second-half = e .4 ∙ says .second-half;
   costs = says .costs;
   choices = says .choices;
   work = says .work;
+}
+
+-- and the bound call's
+pub bound-export : {s : List ℕ} {o : BoundOutcome} (r : DL.Least)
+    → BoundExports s o (r .number) (r .place) (r .least) → (n at : ℕ) (bounds : List ℕ)
+    → (n ≡ r .number) × (bounds ≡ r .least) × (at ≡ r .place) → BoundExports s o n at bounds
+bound-export r says n at bounds e = record {
+  bytes = says .bytes;
+  number = e .0 ∙ says .number;
+  place = e .2 ∙ says .place;
+  least = e .1 ∙ says .least;
 }

@@ -10,7 +10,7 @@ fn solve_as(
     choices: &mut [u8],
     work: &mut [u32],
     first_form: bool,
-) -> solving::Answer
+) -> answers::Answer
     ensures { λ r. ⌜ SolveExports (now (problem .entry))
         (solveOutcome (now (problem .entry)) (now (costs .entry)) (now (choices .entry)) (now (work .entry)))
         (now (costs .exit)) (now (choices .exit)) (now (work .exit)) (r .number) (r .place) (r .count) ⌝ }
@@ -24,7 +24,7 @@ pub fn solve_problem(
     costs: &mut [u32],
     choices: &mut [u8],
     work: &mut [u32],
-) -> solving::Answer
+) -> answers::Answer
     ensures { λ r. ⌜ SolveExports (now (problem .entry))
         (solveOutcome (now (problem .entry)) (now (costs .entry)) (now (choices .entry)) (now (work .entry)))
         (now (costs .exit)) (now (choices .exit)) (now (work .exit)) (r .number) (r .place) (r .count) ⌝ }
@@ -38,22 +38,12 @@ pub fn solve_by_passes(
     costs: &mut [u32],
     choices: &mut [u8],
     work: &mut [u32],
-) -> solving::Answer
+) -> answers::Answer
     ensures { λ r. ⌜ SolveExports (now (problem .entry))
         (solveOutcome (now (problem .entry)) (now (costs .entry)) (now (choices .entry)) (now (work .entry)))
         (now (costs .exit)) (now (choices .exit)) (now (work .exit)) (r .number) (r .place) (r .count) ⌝ }
 {
     solve_as(problem, costs, choices, work, true)
-}
-
-// An answer for C: the number is the result, place and count go through references.
-fn tell(answer: solving::Answer, place: &mut u32, count: &mut u32) -> u8
-    ensures { λ r. ⌜ (r ≡ answer .number) × (now (place .exit) ≡ answer .place)
-        × (now (count .exit) ≡ answer .count) ⌝ }
-{
-    *place = answer.place;
-    *count = answer.count;
-    answer.number
 }
 
 #[no_mangle]
@@ -70,7 +60,7 @@ pub extern "C" fn frontier_solve(
         (now (costs .exit)) (now (choices .exit)) (now (work .exit)) r (now (place .exit)) (now (count .exit)) ⌝ }
 {
     let answer = solve_problem(problem, costs, choices, work);
-    tell(answer, place, count)
+    answers::tell(answer, place, count)
 }
 
 #[no_mangle]
@@ -87,18 +77,18 @@ pub extern "C" fn frontier_solve_by_passes(
         (now (costs .exit)) (now (choices .exit)) (now (work .exit)) r (now (place .exit)) (now (count .exit)) ⌝ }
 {
     let answer = solve_by_passes(problem, costs, choices, work);
-    tell(answer, place, count)
+    answers::tell(answer, place, count)
 }
 
 // The frontier list as point records. Proved by hand, thin over functions on plain slices.
-pub fn list_points(problem: &[u8], points: &mut [model::Point], work: &mut [u32]) -> solving::Answer
+pub fn list_points(problem: &[u8], points: &mut [model::Point], work: &mut [u32]) -> answers::Answer
     ensures { λ r. ⌜ ListExports (now (problem .entry))
         (listOutcome (now (problem .entry)) (asPoints (now (points .entry))) (now (work .entry)))
         (now (points .exit)) (now (work .exit)) (r .number) (r .place) (r .count) ⌝ }
 {
     let found = solving::list_rows(problem, points.len(), work);
     rows::copy_points(work, found.count, found.variables, found.objectives, points);
-    solving::settle(found, work)
+    answers::settle(found, work)
 }
 
 #[no_mangle]
@@ -114,7 +104,7 @@ pub extern "C" fn frontier_points(
         (now (points .exit)) (now (work .exit)) r (now (place .exit)) (now (count .exit)) ⌝ }
 {
     let answer = list_points(problem, points, work);
-    tell(answer, place, count)
+    answers::tell(answer, place, count)
 }
 
 // The bound of a prefix: for each objective the sum of the least entries that agree with it.
@@ -136,10 +126,7 @@ pub extern "C" fn frontier_bound(
         r (now (place .exit)) (now (least .exit)) ⌝ }
 {
     let bound = bound_prefix(problem, prefix);
-    let bounds = bound.least;
-    *least = bounds;
-    *place = bound.place;
-    bound.number
+    bounding::tell_bound(bound, least, place)
 }
 
 // The frontier list by the cut: that of the uncut problem, for any side list that no record has on both sides.
@@ -149,7 +136,7 @@ pub fn solve_cut(
     costs: &mut [u32],
     choices: &mut [u8],
     work: &mut [u32],
-) -> cutting::Halves
+) -> answers::Halves
     ensures { λ r. ⌜ CutExports (now (problem .entry))
         (cutOutcome (now (problem .entry)) (now (sides .entry))
         (now (costs .entry)) (now (choices .entry)) (now (work .entry)))
@@ -178,12 +165,5 @@ pub extern "C" fn frontier_cut(
         r (now (place .exit)) (now (count .exit)) (now (first .exit)) (now (second .exit)) ⌝ }
 {
     let halves = solve_cut(problem, sides, costs, choices, work);
-    *first = halves.first;
-    *second = halves.second;
-    let answer = solving::Answer {
-        number: halves.number,
-        place: halves.place,
-        count: halves.count,
-    };
-    tell(answer, place, count)
+    answers::tell_halves(halves, place, count, first, second)
 }

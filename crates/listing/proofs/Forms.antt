@@ -1,6 +1,6 @@
 -- The two forms of the search: what the second one needs and says, and the first one after it.
 use mathlib.Core.Path.{_≡_, refl, ap, _∙_, subst}
-use mathlib.Core.Bool.{true, false}
+use mathlib.Core.Bool.{true}
 use mathlib.Core.List.{List}
 use Prim.Native.Nat.{ℕ, _≤_}
 use native.Mathlib.Omega.{arith}
@@ -10,7 +10,6 @@ use Rattle.model.specs.Limits.{maxPoints, maxTables}
 use Rattle.model.specs.Problems.{DomainSize}
 use Rattle.model.specs.Frontiers.{Point}
 use Rattle.model.specs.Core.{WordCeiling, coreFrontier}
-use Rattle.model.proofs.Bits.{true-false}
 use Rattle.problem.specs.Records.{Whole}
 use Rattle.layout.specs.Layout.{sourceAt}
 use Rattle.groups.specs.Sources.{Source, sourceProblem}
@@ -21,17 +20,9 @@ use Rattle.passes.proofs.Since.{says-since}
 use Rattle.directions.specs.declared.Directions as DD
 use Rattle.exploring.specs.States.{taskProblem, Ready, ExploredSays}
 use Rattle.exploring.specs.declared.Explored as DE
-use Rattle.listing.specs.Says.{Plannable, Kept, PlanSays, SecondSays}
+use Rattle.listing.specs.Says.{Plannable, Kept, PlanSays, foundOf}
 use Rattle.listing.proofs.PlacesKept.{behindAt}
 use Rattle.listing.proofs.PlanKept.{behind-all}
-
--- it says nothing where it gave up
-pub gave-up : (p n : ℕ) (fs : List Point) (room : ℕ) (work : List ℕ) (e : DE.Explored) → e .decided ≡ false → SecondSays p n fs room work e
-gave-up p n fs room work e none = record { full = λ t. absurd (true-false t none); count = λ t. absurd (true-false t none); list = λ t. absurd (true-false t none) }
-
--- where it is decided, its finding is that of the list
-pub second-found : {p n : ℕ} {fs : List Point} {room r : ℕ} {work work′ : List ℕ} {e : DE.Explored} → Kept r work work′ → SecondSays p n fs room work′ e → e .decided ≡ true → FoundSays p n fs room work work′ (record { full = e .full; count = e .count })
-second-found kept says t = record { full = says .full t; count = says .count t; list = says .list t; long = kept .long }
 
 module _ {p r : ℕ} {ceilings ds s work : List ℕ} (source : Source p r ceilings ds s work) where
   pub source-plannable : Plannable r ds s work
@@ -81,13 +72,14 @@ module _ {p r : ℕ} {ceilings ds s work : List ℕ} (source : Source p r ceilin
             long = omega (arith, kept .long, source .long);
           }
 
-      pub explored-says :
-          (after : List ℕ) (e : DE.Explored) →
-          ExploredSays task (length ds) (coreFrontier (taskProblem task ds s work′)) work′ after e →
-          Kept r work after
-          × SecondSays p (length ds) (coreFrontier (sourceProblem p r ceilings ds s work)) room after e
-      explored-says after e says = (
-        record { long = says .still .long ∙ kept .long; source = says .still .source ∙ kept .source },
-        subst (λ (fs : List Point). SecondSays p (length ds) fs room after e) (ap coreFrontier same-problem)
-            (record { full = says .full; count = says .count; list = says .list }),
-      )
+      pub explored-says : (after : List ℕ) (e : DE.Explored)
+          → ExploredSays task (length ds) (coreFrontier (taskProblem task ds s work′)) work′ after e
+          → Kept r work after × (e .decided ≡ true → FoundSays p (length ds)
+          (coreFrontier (sourceProblem p r ceilings ds s work)) room work after (foundOf e))
+      explored-says after e says =
+          let long : length after ≡ length work = says .still .long ∙ kept .long in (
+            record { long = long; source = says .still .source ∙ kept .source },
+            λ t. subst (λ (fs : List Point). FoundSays p (length ds) fs room work after (foundOf e))
+                (ap coreFrontier same-problem)
+                (record { full = says .full t; count = says .count t; list = says .list t; long = long }),
+          )

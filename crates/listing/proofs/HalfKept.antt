@@ -8,10 +8,12 @@ use lib.ListN.{length, take, drop}
 use Rattle.model.specs.Basics.{All}
 use Rattle.model.specs.Limits.{maxObjectives, maxTables, maxPoints}
 use Rattle.model.specs.Reading.{tablesAt, placesAt}
-use Rattle.model.specs.Core.{coreTables, coreFrontier}
+use Rattle.model.specs.Problems.{Problem}
+use Rattle.model.specs.Core.{coreTables, coreOf, withCeilings, coreFrontier}
 use Rattle.model.specs.Views.{narrowed, within, kept, view}
 use Rattle.model.specs.Calls.{over as filled}
 use Rattle.problem.specs.Records.{Whole}
+use Rattle.problem.proofs.RecordPlaces.{places-count, places-whole, places-owners}
 use Rattle.layout.specs.Layout.{recordsAt, sourceAt}
 use Rattle.groups.specs.Groups.{tablesOver, placesIn}
 use Rattle.groups.proofs.Overwritten.{over, over-length, over-here}
@@ -20,22 +22,26 @@ use Rattle.views.proofs.Narrowing.{narrowed-length, narrowed-small}
 use Rattle.views.proofs.KeptPlaces.{kept-count, kept-whole, kept-tables}
 use Rattle.views.proofs.KeptTables.{wanted-view}
 use Rattle.groups.specs.Sources.{sourceIn, sourceProblem, Source}
-use Rattle.listing.specs.Says.{coreAt, Accepted}
+use Rattle.listing.specs.Says.{problemAt, Accepted}
 use Rattle.passes.specs.Says.{FoundSays}
 use Rattle.passes.specs.declared.Found as DF
 use Rattle.passes.proofs.Since.{says-since}
-use Rattle.listing.proofs.PlacesKept.{places-count, places-whole, places-tables, places-owners, behindAt, written, written-places, written-length}
+use Rattle.listing.proofs.PlacesKept.{places-tables, core-owners, behindAt, written}
+use Rattle.listing.proofs.PlacesKept.{written-places, written-length}
 
 -- the side's records among some
 abbrev pub onSide : ℕ → List ℕ → List ℕ → List ℕ → List ℕ
 onSide side ss s places = keptPlaces 0 maxObjectives side ss s places
 
-module _ (p r at side : ℕ) (ceilings ds ss s work : List ℕ) (a : Accepted p r at maxPoints ceilings ds s work) (same : length ss ≡ length ds) where
-  side-tables : tablesOver (narrowed side ss ds) s (onSide side ss s (placesAt r ds s at)) ≡ kept (λ t. within side ss (t .scope)) (coreTables (tablesAt r ds s at))
+module _
+    (p r at side : ℕ) (ds ss s work : List ℕ) (a : Accepted p r at ds s work) (same : length ss ≡ length ds) where
+  side-tables : tablesOver (narrowed side ss ds) s (onSide side ss s (placesAt r ds s at))
+      ≡ kept (λ t. within side ss (t .scope)) (coreTables (tablesAt r ds s at))
   side-tables =
+      let owners = core-owners (tablesAt r ds s at) (places-owners ds s r at (a .whole)) in
       kept-tables 0 maxObjectives side ss s ds same (placesAt r ds s at)
       ∙ ap (kept (wantedTable 0 maxObjectives side ss)) (places-tables ds s r at)
-      ∙ wanted-view side ss (coreTables (tablesAt r ds s at)) (places-owners ds s r at (a .whole))
+      ∙ wanted-view side ss (coreTables (tablesAt r ds s at)) owners
 
   -- all records are kept where the search looks
   module _ (all : List ℕ) (says : all ≡ filled (placesAt r ds s at) (behindAt work recordsAt)) where
@@ -80,14 +86,17 @@ module _ (p r at side : ℕ) (ceilings ds ss s work : List ℕ) (a : Accepted p 
       after-length : length after ≡ length work
       after-length = rw is (over-length before sourceAt places (sourceAt + count) ends fits ∙ before-length)
 
-      module _ (narrow : List ℕ) (sizes : narrow ≡ narrowed side ss ds) where
+      -- under ceilings of its own
+      module _ (ceilings narrow : List ℕ) (sizes : narrow ≡ narrowed side ss ds) where
         narrow-length : length narrow ≡ length ds
         narrow-length = rw sizes (narrowed-length side ss ds same)
 
         pub side-source : Source p count ceilings narrow s after
         side-source =
+            let all-whole = places-whole ds s r at (a .whole) in
             record {
-              whole = rw (after-places, sizes) (kept-whole 0 maxObjectives side ss s ds same (placesAt r ds s at) (places-whole ds s r at (a .whole)));
+              whole = rw (after-places, sizes)
+                  (kept-whole 0 maxObjectives side ss s ds same (placesAt r ds s at) all-whole);
               few = omega (arith, few, a .tables);
               small = rw sizes (narrowed-small side ss ds (a .small));
               variables = omega (arith, narrow-length, a .variables);
@@ -95,11 +104,17 @@ module _ (p r at side : ℕ) (ceilings ds ss s work : List ℕ) (a : Accepted p 
               long = omega (arith, after-length, a .memory);
             }
 
-        side-problem : sourceProblem p count ceilings narrow s after ≡ view side (coreAt p ceilings ds s at r) ss
+        abbrev pub half : Problem
+        half = view side (withCeilings (take p ceilings) (coreOf (problemAt p ceilings ds s at r))) ss
+
+        side-problem : sourceProblem p count ceilings narrow s after ≡ half
         unfolding view
         side-problem = rw (sizes, after-places, side-tables)
 
-        pub side-says : (work′ : List ℕ) (f : DF.Found) → FoundSays p (length narrow) (coreFrontier (sourceProblem p count ceilings narrow s after)) maxPoints after work′ f → FoundSays p (length ds) (coreFrontier (view side (coreAt p ceilings ds s at r) ss)) maxPoints work work′ f
+        pub side-says : (work′ : List ℕ) (f : DF.Found)
+            → FoundSays p (length narrow) (coreFrontier (sourceProblem p count ceilings narrow s after)) maxPoints
+            after work′ f
+            → FoundSays p (length ds) (coreFrontier half) maxPoints work work′ f
         side-says work′ f h =
-            subst (λ (n : ℕ). FoundSays p n (coreFrontier (view side (coreAt p ceilings ds s at r) ss)) maxPoints work work′ f) narrow-length
+            subst (λ (n : ℕ). FoundSays p n (coreFrontier half) maxPoints work work′ f) narrow-length
             (says-since after-length (ap coreFrontier side-problem) h)

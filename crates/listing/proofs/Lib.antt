@@ -1,6 +1,7 @@
 -- The laws that the functions' proofs share.
 pub mod FourCeilings
 pub mod PlacesKept
+pub mod ReadRecords
 pub mod HalfKept
 pub mod PlanKept
 pub mod Forms

@@ -1,17 +1,18 @@
 -- The places of accepted records, written over work memory: the records are whole, and their tables are those read.
 use mathlib.Core.Path.{_≡_, refl, sym, ap}
-use mathlib.Core.List.{List, _∷_, _++_, append-assoc, append-nil}
+use mathlib.Core.List.{List, [], _∷_, _++_, append-assoc, append-nil}
 use Prim.Native.Nat.{ℕ, zero, suc, _+_, _-_, _≤_, _<_}
 use native.Mathlib.Omega.{arith}
 use lib.ListN.{length, take, drop, length-drop}
 use lib.Seq.{take-all, drop-drop, drop-length}
 use Rattle.model.specs.Basics.{All}
 use Rattle.model.specs.Limits.{maxObjectives}
+use Rattle.model.specs.Problems.{Table}
 use Rattle.model.specs.Core.{coreTables, coreCeilings, coreOf, coreFrontier}
-use Rattle.model.specs.Reading.{tableLength, tableOf, tablesAt, placesAt}
+use Rattle.model.specs.Reading.{tableLength, tablesAt, placesAt}
 use Rattle.model.proofs.Core.{take-ceilings}
 use Rattle.model.specs.Calls.{over as filled}
-use Rattle.problem.specs.Records.{Whole, AllWhole}
+use Rattle.problem.proofs.RecordPlaces.{places-count, places-whole}
 use Rattle.costs.specs.Entries.{tableAt}
 use Rattle.layout.specs.Layout.{sourceAt}
 use Rattle.groups.specs.Groups.{tablesOver}
@@ -23,26 +24,17 @@ use Rattle.passes.specs.declared.Found as DF
 use Rattle.passes.proofs.Since.{says-since}
 
 module _ (ds s : List ℕ) where
-  pub places-count : (r at : ℕ) → length (placesAt r ds s at) ≡ r
-  unfolding placesAt
-  places-count zero at = refl
-  places-count (suc r) at = ap suc (places-count r (at + tableLength ds (drop at s)))
-
-  pub places-whole : (r at : ℕ) → AllWhole r ds s at → All (Whole ds s) (placesAt r ds s at)
-  unfolding placesAt
-  places-whole zero at h = tt
-  places-whole (suc r) at h = (h .0, places-whole r (at + tableLength ds (drop at s)) (h .1))
-
   pub places-tables : (r at : ℕ) → tablesOver ds s (placesAt r ds s at) ≡ coreTables (tablesAt r ds s at)
   unfolding placesAt tablesAt tablesOver coreTables
   places-tables zero at = refl
   places-tables (suc r) at = ap (_∷_ (tableAt ds s at)) (places-tables r (at + tableLength ds (drop at s)))
 
-  pub places-owners : (r at : ℕ) → AllWhole r ds s at
-      → All (λ t. t .objective < maxObjectives) (coreTables (tablesAt r ds s at))
-  unfolding tablesAt tableOf coreTables
-  places-owners zero at h = tt
-  places-owners (suc r) at h = (h .0 .owner, places-owners r (at + tableLength ds (drop at s)) (h .1))
+-- a record of the core belongs to the same objective
+pub core-owners : (ts : List Table) → All (λ t. t .objective < maxObjectives) ts
+    → All (λ t. t .objective < maxObjectives) (coreTables ts)
+unfolding coreTables
+core-owners [] h = tt
+core-owners (t ∷ ts) h = (h .0, core-owners ts (h .1))
 
 -- they are kept in the part of work memory from `from` on
 abbrev pub behindAt : List ℕ → ℕ → List ℕ
@@ -73,7 +65,10 @@ module _ (r at : ℕ) (ds s work : List ℕ) (from : ℕ) (inside : from + r ≤
   written-length = rw written-over (over-length work from places (from + r) ends inside)
 
 -- they are kept as the problem's records
-module _ (p r at room : ℕ) (ceilings ds s work : List ℕ) (a : Accepted p r at room (coreCeilings ceilings) ds s work) (kept : List ℕ) (says : kept ≡ filled (placesAt r ds s at) (behindAt work sourceAt)) (wide : List ℕ) (same : wide ≡ coreCeilings ceilings) where
+module _
+    (p r at : ℕ) (ceilings ds s work : List ℕ) (a : Accepted p r at ds s work) (kept : List ℕ)
+    (says : kept ≡ filled (placesAt r ds s at) (behindAt work sourceAt))
+    (wide : List ℕ) (same : wide ≡ coreCeilings ceilings) where
   inside : sourceAt + r ≤ length work
   inside = omega (arith, a .tables, a .memory)
 
@@ -91,8 +86,11 @@ module _ (p r at room : ℕ) (ceilings ds s work : List ℕ) (a : Accepted p r a
         long = omega (arith, written-length r at ds s work sourceAt inside kept says, a .memory);
       }
 
-  pub kept-says : (work′ : List ℕ) (f : DF.Found) → FoundSays p (length ds) (coreFrontier (sourceProblem p r wide ds s after)) room after work′ f → FoundSays p (length ds) (coreFrontier (coreOf (problemAt p ceilings ds s at r))) room work work′ f
-  kept-says work′ f =
+  pub kept-says : (room : ℕ) (work′ : List ℕ) (f : DF.Found)
+      → FoundSays p (length ds) (coreFrontier (sourceProblem p r wide ds s after)) room after work′ f
+      → FoundSays p (length ds) (coreFrontier (coreOf (problemAt p ceilings ds s at r))) room work work′ f
+  kept-says room work′ f =
+      let read = written-places r at ds s work sourceAt inside kept says in
       let q : sourceProblem p r wide ds s after ≡ coreOf (problemAt p ceilings ds s at r) =
-      rw (same, written-places r at ds s work sourceAt inside kept says, places-tables ds s r at, take-ceilings p ceilings) in
+      rw (same, read, places-tables ds s r at, take-ceilings p ceilings) in
       says-since (written-length r at ds s work sourceAt inside kept says) (ap coreFrontier q)

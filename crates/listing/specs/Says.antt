@@ -1,20 +1,18 @@
 -- What finding the list of a problem relies on and ensures.
 use mathlib.Core.Path.{_≡_}
-use mathlib.Core.Bool.{true, false, not}
 use mathlib.Core.List.{List}
 use Prim.Native.Nat.{ℕ, _≤_}
-use lib.Dec.{ltb}
 use lib.ListN.{length, take}
-use Rattle.model.specs.Basics.{All, when}
-use Rattle.model.specs.Limits.{maxBytes, maxObjectives, maxTables, maxVariables, maxPoints}
+use Rattle.model.specs.Basics.{All}
+use Rattle.model.specs.Limits.{maxBytes, maxObjectives, maxTables, maxVariables}
 use Rattle.model.specs.Problems.{Problem, DomainSize}
-use Rattle.model.specs.Core.{coreTables}
 use Rattle.model.specs.Reading.{tablesAt}
-use Rattle.model.specs.Frontiers.{Point}
+use Rattle.problem.specs.declared.Reading as DG
 use Rattle.problem.specs.Records.{Whole, AllWhole}
+use Rattle.problem.specs.Says.{ReadSays}
 use Rattle.layout.specs.Layout.{searchEnd}
-use Rattle.rows.specs.Rows.{listIn}
 use Rattle.groups.specs.Sources.{sourceIn}
+use Rattle.passes.specs.declared.Found as DF
 use Rattle.directions.specs.declared.Directions as DD
 use Rattle.buckets.specs.Content.{Planned}
 use Rattle.buckets.specs.Sound.{Sound}
@@ -26,20 +24,20 @@ abbrev pub problemAt : ℕ → List ℕ → List ℕ → List ℕ → ℕ → �
 problemAt p ceilings ds s at r =
     record { objectives = p; ceilings = take p ceilings; domains = ds; tables = tablesAt r ds s at }
 
--- as the core has it, with ceilings of the core
-abbrev pub coreAt : ℕ → List ℕ → List ℕ → List ℕ → ℕ → ℕ → Problem
-coreAt p ceilings ds s at r =
-    record { objectives = p; ceilings = take p ceilings; domains = ds; tables = coreTables (tablesAt r ds s at) }
+-- what is asked for: a problem that was read and is not refused, and work memory
+pub record Searchable (s : List ℕ) (g : DG.Reading) (work : List ℕ) : Type 0 where
+  pub read : ReadSays s g
+  pub none : g .number ≡ 0
+  pub memory : searchEnd ≤ length work
 
--- what is asked for: accepted records, and work memory
-pub record Accepted (p r at room : ℕ) (ceilings ds s work : List ℕ) : Type 0 where
+-- which are accepted records
+pub record Accepted (p r at : ℕ) (ds s work : List ℕ) : Type 0 where
   pub whole : AllWhole r ds s at
   pub small : All DomainSize ds
   pub variables : length ds ≤ maxVariables
   pub objectives : p ≤ maxObjectives
   pub tables : r ≤ maxTables
   pub bytes : length s ≤ maxBytes
-  pub room-small : room ≤ maxPoints
   pub memory : searchEnd ≤ length work
 
 -- r accepted records in work memory, for a plan
@@ -60,8 +58,6 @@ pub record PlanSays (d : DD.Directions) (r : ℕ) (ds s work work′ : List ℕ)
   pub planned : Planned d r ds s (planIn work′)
   pub sound : Sound d r ds s (sourceIn work′ r) (planIn work′)
 
--- the second form found the list fs, or that it is longer than the room; or it gave up
-pub record SecondSays (p n : ℕ) (fs : List Point) (room : ℕ) (work′ : List ℕ) (e : DE.Explored) : Type 0 where
-  pub full : e .decided ≡ true → e .full ≡ ltb room (length fs)
-  pub count : e .decided ≡ true → e .count ≡ when (not (e .full)) (length fs)
-  pub list : e .decided ≡ true → e .full ≡ false → listIn p n work′ 0 (e .count) ≡ fs
+-- what the second form found where it is decided, as a finding of the first
+abbrev pub foundOf : DE.Explored → DF.Found
+foundOf e = record { full = e .full; count = e .count }

@@ -2,15 +2,16 @@
 ghost use mathlib.Core.Path.{_≡_};
 ghost use mathlib.Core.Bool.{true, false};
 ghost use Prim.Native.Nat.{_≤_};
-ghost use lib.ListN.{length};
+ghost use lib.ListN.{length, take};
 ghost use Rattle.model.specs.Basics.{All};
 ghost use Rattle.model.specs.Limits.{maxPoints};
-ghost use Rattle.model.specs.Core.{WordCeiling, coreCeiling, coreCeilings, coreOf, coreFrontier};
+ghost use Rattle.model.specs.Reading.{problemOf};
+ghost use Rattle.model.specs.Core.{WordCeiling, coreCeiling, coreCeilings, coreOf, withCeilings, coreFrontier};
 ghost use Rattle.model.specs.Views.{view};
 ghost use Rattle.groups.specs.Sources.{Source, sourceProblem};
-ghost use Rattle.passes.specs.Says.{FoundSays};
+ghost use Rattle.passes.specs.Says.{FoundSays, FoundFor};
 ghost use Rattle.directions.specs.Directions.{Sensible};
-ghost use Rattle.listing.specs.Says.{problemAt, coreAt, Accepted, Plannable, Kept, PlanSays, SecondSays};
+ghost use Rattle.listing.specs.Says.{Searchable, Plannable, Kept, PlanSays, foundOf};
 
 // The core's ceiling, which a cost stays below, in eight bytes as the sums are.
 fn wide(ceiling: u32) -> u64
@@ -85,9 +86,9 @@ fn explore_source(
 ) -> exploring::Explored
     requires { ⌜ Source p r ceilings (now sizes) (now s) (now work) × (room ≤ maxPoints) ⌝ }
     ensures { λ e. ⌜ Kept r (now (work .entry)) (now (work .exit))
-        × SecondSays p (length (now (sizes .entry)))
+        × (e .decided ≡ true → FoundSays p (length (now (sizes .entry)))
         (coreFrontier (sourceProblem p r ceilings (now (sizes .entry)) (now (s .entry)) (now (work .entry))))
-        room (now (work .exit)) e ⌝ }
+        room (now (work .entry)) (now (work .exit)) (foundOf e)) ⌝ }
 {
     let n = sizes.len();
     if n == 0 {
@@ -143,52 +144,56 @@ pub fn find_source(
     passes::find_source(s, sizes, r, p, ceilings, room, work)
 }
 
-// The frontier list of `r` accepted records from `at` on, in work memory;
-// only by the first form where that is asked for.
+// The frontier list of a problem that was read, in work memory; only by the first form where that is asked for.
 pub fn find_list(
     s: &[u8],
-    at: usize,
-    r: u32,
-    sizes: &[u8],
-    p: usize,
-    ceilings: [u32; 4],
+    g: problem::Reading,
     room: usize,
     by_passes: bool,
     work: &mut [u32],
 ) -> passes::Found
-    requires { ⌜ Accepted p r at room (coreCeilings ceilings) (now sizes) (now s) (now work) ⌝ }
-    ensures { λ f. ⌜ FoundSays p (length (now (sizes .entry)))
-        (coreFrontier (coreOf (problemAt p ceilings (now (sizes .entry)) (now (s .entry)) at r)))
-        room (now (work .entry)) (now (work .exit)) f ⌝ }
+    requires { ⌜ Searchable (now s) g (now work) × (room ≤ maxPoints) ⌝ }
+    ensures { λ f. ⌜ FoundFor (problemOf (now (s .entry))) room (now (work .entry)) (now (work .exit)) f ⌝ }
 {
-    problem::keep_places(s, at, r, sizes, &mut work[layout::SOURCE_AT..]);
-    find_source(s, sizes, r as usize, p, widened(ceilings), room, by_passes, work)
+    let head = g.head;
+    let n = head.variables as usize;
+    let p = head.objectives as usize;
+    let r = head.tables;
+    let sizes = g.sizes;
+    let at = problem::tables_start(head);
+    problem::keep_places(s, at, r, &sizes[..n], &mut work[layout::SOURCE_AT..]);
+    let ceilings = head.ceilings;
+    let wide = widened(ceilings);
+    find_source(s, &sizes[..n], r as usize, p, wide, room, by_passes, work)
 }
 
-// The frontier list of one half, in work memory: the records on the side, over the domain sizes that it leaves, under
-// the half's own ceilings.
+// The list of one half, in work memory: the records on the side, over the domain sizes that it leaves, under the half's
+// own ceilings.
 pub fn find_half(
     s: &[u8],
-    at: usize,
-    r: u32,
-    sizes: &[u8],
+    g: problem::Reading,
     sides: &[u8],
     side: u8,
-    p: usize,
     ceilings: [u64; 4],
     work: &mut [u32],
 ) -> passes::Found
-    requires { ⌜ Accepted p r at maxPoints ceilings (now sizes) (now s) (now work)
-        × (length (now sides) ≡ length (now sizes)) ⌝ }
-    ensures { λ f. ⌜ FoundSays p (length (now (sizes .entry)))
-        (coreFrontier (view side (coreAt p ceilings (now (sizes .entry)) (now (s .entry)) at r) (now (sides .entry))))
+    requires { ⌜ Searchable (now s) g (now work) × (length (problemOf (now s) .domains) ≡ length (now sides)) ⌝ }
+    ensures { λ f. ⌜ FoundSays (g .head .objectives) (g .head .variables)
+        (coreFrontier (view side
+        (withCeilings (take (g .head .objectives) ceilings) (coreOf (problemOf (now (s .entry))))) (now (sides .entry))))
         maxPoints (now (work .entry)) (now (work .exit)) f ⌝ }
 {
-    problem::keep_places(s, at, r, sizes, &mut work[layout::RECORDS_AT..]);
-    let narrow = views::narrow(sizes, sides, side);
+    let head = g.head;
+    let n = head.variables as usize;
+    let p = head.objectives as usize;
+    let r = head.tables;
+    let sizes = g.sizes;
+    let at = problem::tables_start(head);
+    problem::keep_places(s, at, r, &sizes[..n], &mut work[layout::RECORDS_AT..]);
+    let narrow = views::narrow(&sizes[..n], sides, side);
     let count = views::keep_records(
         s,
-        sizes,
+        &sizes[..n],
         sides,
         side,
         0,
@@ -198,6 +203,5 @@ pub fn find_half(
         layout::SOURCE_AT,
         work,
     );
-    let n = sizes.len();
     find_source(s, &narrow[..n], count, p, ceilings, 64, false, work)
 }

@@ -1,53 +1,46 @@
--- The cut of a problem: the sums of the halves' lists that were kept give its frontier list, and what each end of the cut says.
-use mathlib.Core.Path.{_≡_, refl, sym, ap, _∙_, subst}
-use mathlib.Core.Bool.{true, false}
-use mathlib.Core.List.{List}
+-- The cut of a problem that was read: the sums of the halves' lists that were kept give its frontier list, and what each
+-- end of the cut says. Lists are found in the core; what is said is of the problem itself.
+use mathlib.Core.Path.{_≡_, refl, sym, ap, _∙_}
+use mathlib.Core.Bool.{true, false, _||_}
+use mathlib.Core.List.{List, [], _∷_}
 use Prim.Native.Nat.{ℕ, _≤_}
 use native.Mathlib.Omega.{arith}
 use lib.Dec.{ltb}
 use lib.ListN.{length, take}
-use lib.Seq.{length-take-le}
 use Rattle.model.specs.Basics.{All}
 use Rattle.model.specs.Limits.{maxPoints, workNeed}
-use Rattle.model.specs.Problems.{Problem}
-use Rattle.model.specs.Frontiers.{Point, best}
-use Rattle.model.specs.Core.{coreCeilings, coreOf, withCeilings, coreFrontier}
-use Rattle.model.specs.Cuts.{sidesOk, uncrossed}
+use Rattle.model.specs.Problems.{Table, Problem, Word}
+use Rattle.model.specs.Encoding.{Byte}
+use Rattle.model.specs.Reading.{problemOf}
+use Rattle.model.specs.Frontiers.{Point, best, frontier}
+use Rattle.model.specs.Core.{coreTables, coreCeilings, coreOf, withCeilings, coreFrontier}
+use Rattle.model.specs.Cuts.{sidesOk, uncrossed, halfSize}
 use Rattle.model.specs.Views.{view}
-use Rattle.layout.specs.Layout.{searchEnd, firstRow, secondRow}
 use Rattle.model.proofs.Bits.{true-false}
-use Rattle.model.proofs.Elements.{all-take}
-use Rattle.model.proofs.Core.{take-ceilings, core-sides, core-uncrossed}
-use Rattle.model.proofs.Cut.{sides-with}
+use Rattle.model.proofs.Elements.{all-in, all-map}
+use Rattle.model.proofs.Reading.{accepted-rules}
+use Rattle.model.proofs.Frontier.{frontier-best}
+use Rattle.model.proofs.Core.{take-ceilings, core-frontier, core-half-list, core-sides, core-uncrossed}
+use Rattle.model.proofs.Core.{Light, weighed-limit, view-sums}
 use Rattle.model.proofs.Views.{view-size}
 use Rattle.model.proofs.Merging.{sums-best, sums-bytes}
-use Rattle.rows.specs.Rows.{WordCosts}
+use Rattle.layout.specs.Layout.{firstRow, secondRow}
+use Rattle.problem.specs.declared.Reading as DG
+use Rattle.problem.proofs.Accepted.{AcceptedReading}
+use Rattle.problem.proofs.Readings.{ceilings-are, domains-small}
 use Rattle.passes.specs.declared.Found as DF
-use Rattle.listing.specs.Says.{problemAt, Accepted}
-use Rattle.model.specs.Vectors.{under}
 use Rattle.passes.specs.Says.{FoundSays}
-use Rattle.sums.specs.Sums.{firstIn, secondIn, sumsIn, Halved}
-use Rattle.merge.specs.Says.{KeptSays, noLists, halfCount, longer, CutFound}
+use Rattle.sums.specs.Sums.{firstIn, secondIn, sumsIn, SmallCosts, Halved}
+use Rattle.answers.specs.Cuts.{noLists, CutFound}
+use Rattle.answers.proofs.FoundRows.{rows-read}
+use Rattle.merge.specs.Says.{KeptSays}
 use Rattle.merge.proofs.Keeping.{kept-few, first-same}
 
--- a half's list may have as many points as a list may, in memory that is long enough
-pub half-accepted : {p r at room : ℕ} {ceilings ds s work : List ℕ} → Accepted p r at room ceilings ds s work → (work′ : List ℕ) → searchEnd ≤ length work′ → Accepted p r at maxPoints ceilings ds s work′
-half-accepted a work′ long =
-    record {
-      whole = a .whole;
-      small = a .small;
-      variables = a .variables;
-      objectives = a .objectives;
-      tables = a .tables;
-      bytes = a .bytes;
-      room-small = omega arith;
-      memory = long;
-    }
-
 -- a list on the way is too long
-pub cut-full : (q : Problem) (hs ss : List ℕ) (room : ℕ) (work work′ : List ℕ) → longer hs q ss room ≡ true
-    → length work′ ≡ length work → CutFound q hs ss room work work′ noLists
-cut-full q hs ss room work work′ h long =
+cut-full : (q : Problem) (ss : List ℕ) (room : ℕ) (work work′ : List ℕ)
+    → (ltb maxPoints (halfSize 0 q ss) || (ltb maxPoints (halfSize 1 q ss) || ltb room (length (frontier q)))) ≡ true
+    → length work′ ≡ length work → CutFound q ss room work work′ noLists
+cut-full q ss room work work′ h long =
     record {
       full = sym h;
       count = refl;
@@ -57,113 +50,130 @@ cut-full q hs ss room work work′ h long =
       long = long;
     }
 
--- the problem as the core has it, and the ceilings of the halves, which the problem's own imply
-module _
-    {p r at room : ℕ} {ceilings ds s was : List ℕ} (ss halves : List ℕ)
-    (a : Accepted p r at room (coreCeilings ceilings) ds s was)
-    (sides : sidesOk (problemAt p ceilings ds s at r) ss ≡ true)
-    (free : uncrossed ss (problemAt p ceilings ds s at r .tables) ≡ true)
-    (memory : workNeed ≤ length was)
-    (loose : (c : List ℕ) → under c (coreOf (problemAt p ceilings ds s at r) .ceilings) ≡ true
-    → under c (take p halves) ≡ true) where
+-- tables of words have light entries in the core
+core-light : (ts : List Table) → All (λ t. All Word (t .costs)) ts → All Light (coreTables ts)
+unfolding coreTables
+core-light [] h = tt
+core-light (t ∷ ts) h = (weighed-limit (t .costs) (h .0), core-light ts (h .1))
+
+-- the ceilings of the halves and of their sums are the problem's, as the core has them
+module _ {s : List ℕ} {g : DG.Reading} (a : AcceptedReading s g) (room : ℕ) (ss was wide : List ℕ)
+    (same : wide ≡ coreCeilings (g .head .ceilings))
+    (sides : sidesOk (problemOf s) ss ≡ true) (free : uncrossed ss (problemOf s .tables) ≡ true)
+    (memory : workNeed ≤ length was) where
+  abbrev p : ℕ
+  p = g .head .objectives
+
+  abbrev n : ℕ
+  n = g .head .variables
+
   abbrev q : Problem
-  q = coreOf (problemAt p ceilings ds s at r)
+  q = problemOf s
 
   abbrev hs : List ℕ
-  hs = take p halves
+  hs = take p wide
 
-  core-side : sidesOk q ss ≡ true
-  core-side = core-sides (problemAt p ceilings ds s at r) ss ∙ sides
+  ceilings-same : hs ≡ coreOf q .ceilings
+  ceilings-same = rw same (take-ceilings p (g .head .ceilings) ∙ ap coreCeilings (ceilings-are s g a))
 
-  core-free : uncrossed ss (q .tables) ≡ true
-  core-free = core-uncrossed ss (problemAt p ceilings ds s at r .tables) ∙ free
+  half-problem : withCeilings hs (coreOf q) ≡ coreOf q
+  half-problem = ap (λ cs. withCeilings cs (coreOf q)) ceilings-same
+
+  core-side : sidesOk (coreOf q) ss ≡ true
+  core-side = core-sides q ss ∙ sides
+
+  core-free : uncrossed ss (coreOf q .tables) ≡ true
+  core-free = core-uncrossed ss (q .tables) ∙ free
 
   abbrev listOf : ℕ → List Point
-  listOf k = coreFrontier (view k (withCeilings hs q) ss)
+  listOf k = coreFrontier (view k (withCeilings hs (coreOf q)) ss)
 
-  size : (k : ℕ) → length (listOf k) ≡ halfCount k hs q ss
-  size k = view-size (withCeilings hs q) ss (sides-with hs q ss core-side) core-free k
+  size : (k : ℕ) → length (listOf k) ≡ halfSize k q ss
+  size k =
+      ap (λ u. length (coreFrontier (view k u ss))) half-problem
+      ∙ view-size (coreOf q) ss core-side core-free k
+      ∙ ap length (core-half-list k ss q)
 
   half-told : (k : ℕ) {row : ℕ} {before after : List ℕ} {f : DF.Found}
-      → KeptSays p (length ds) (listOf k) row before after f → ltb maxPoints (halfCount k hs q ss) ≡ f .full
+      → KeptSays p n (listOf k) row before after f → ltb maxPoints (halfSize k q ss) ≡ f .full
   half-told k h = ap (ltb maxPoints) (sym (size k)) ∙ sym (h .full)
 
-  -- a half has the ceilings of the whole, so that its costs are words
-  half-words : p ≤ length ceilings → (k : ℕ) → All WordCosts (listOf k)
-  half-words wide k =
-      let v = view k q ss in
-      all-in WordCosts (listOf k) (λ t m.
-      let long = reached-width v t (frontier-best v .listed .sound t m) ∙ sym (length-take-le p ceilings wide) in
-      under-words (t .costs) (take p ceilings) long (listed-under v t m) (all-take Word p ceilings (a .words)))
+  -- costs of a half are sums of the core, of which two can be added
+  half-small : All Byte s → (k : ℕ) → All SmallCosts (listOf k)
+  half-small bytes k =
+      let rules = accepted-rules s bytes (a .none) in
+      let light =
+      core-light (q .tables) (all-map _ (λ t. All Word (t .costs)) (λ t r. r .words) (q .tables) (rules .table-rules)) in
+      let part = withCeilings hs (coreOf q) in
+      all-in SmallCosts (listOf k) (λ t m.
+      view-sums part ss k (omega (arith, rules .few-tables, core-many (q .tables))) light t
+      (frontier-best _ (view k part ss) .listed .sound t m))
+    where
+      core-many : (ts : List Table) → length (coreTables ts) ≡ length ts
+      unfolding coreTables
+      core-many [] = refl
+      core-many (t ∷ ts) = ap Prim.Native.Nat.suc (core-many ts)
 
   -- the first half's list is kept
-  module _ {one : List ℕ} {f : DF.Found} (first : KeptSays p (length ds) (listOf 0) firstRow was one f) where
-    pub first-full : f .full ≡ true → CutFound q hs ss room was one noLists
-    first-full t = cut-full q hs ss room was one (rw (half-told 0 first, t)) (first .long)
+  module _ {one : List ℕ} {f : DF.Found} (first : KeptSays p n (listOf 0) firstRow was one f) where
+    pub first-full : f .full ≡ true → CutFound q ss room was one noLists
+    first-full t = cut-full q ss room was one (rw (half-told 0 first, t)) (first .long)
 
     -- and the second half's
-    module _
-        (t : f .full ≡ false) {two : List ℕ} {g : DF.Found}
-        (second : KeptSays p (length ds) (listOf 1) secondRow one two g) where
+    module _ (t : f .full ≡ false) {two : List ℕ} {j : DF.Found}
+        (second : KeptSays p n (listOf 1) secondRow one two j) where
       kept-long : length two ≡ length was
       kept-long = second .long ∙ first .long
 
-      pub second-full : g .full ≡ true → CutFound q hs ss room was two noLists
-      second-full u = cut-full q hs ss room was two (rw (half-told 0 first, t, half-told 1 second, u)) kept-long
+      pub second-full : j .full ≡ true → CutFound q ss room was two noLists
+      second-full u = cut-full q ss room was two (rw (half-told 0 first, t, half-told 1 second, u)) kept-long
 
-      module _ (u : g .full ≡ false) where
-        first-is : firstIn p (length ds) two (f .count) ≡ listOf 0
-        first-is =
-            first-same p (length ds) (a .objectives) (a .variables) one two (second .behind (omega arith)) (f .count)
-            ∙ first .list t
+      module _ (u : j .full ≡ false) where
+        first-is : firstIn p n two (f .count) ≡ listOf 0
+        first-is = first-same p n one two (second .behind (omega arith)) (f .count) ∙ first .list t
 
-        second-is : secondIn p (length ds) two (g .count) ≡ listOf 1
+        second-is : secondIn p n two (j .count) ≡ listOf 1
         second-is = second .list u
 
         -- the sums of the two
-        pub cut-halved : p ≤ length ceilings → Halved p (length ds) 0 (f .count) (g .count) two
-        cut-halved wide =
+        pub cut-halved : All Byte s → Halved p n 0 (f .count) (j .count) two
+        cut-halved bytes =
             record {
               long = omega (arith, kept-long, memory);
-              objectives = a .objectives;
-              variables = a .variables;
+              objectives = a .few-objectives .1;
+              variables = a .few-variables .1;
               count = omega arith;
               first-count = kept-few first;
               second-count = kept-few second;
-              values = rw (first-is, second-is) (sums-bytes (withCeilings hs q) ss (a .small));
+              first-small = rw first-is (half-small bytes 0);
+              second-small = rw second-is (half-small bytes 1);
+              values = rw (first-is, second-is) (sums-bytes (withCeilings hs (coreOf q)) ss (domains-small s g a));
             }
 
-        module _ {wide : List ℕ} (same : wide ≡ coreCeilings ceilings) where
-          module _
-              {three : List ℕ} {m : DF.Found}
-              (merged : FoundSays p (length ds) (best (sumsIn p (length ds) wide two (f .count) (g .count)))
-              room two three m) where
-            sums-are : best (sumsIn p (length ds) wide two (f .count) (g .count)) ≡ coreFrontier q
-            sums-are =
-                rw (same, first-is, second-is, take-ceilings p ceilings) (sums-best q ss core-side core-free hs loose)
+        module _ {three : List ℕ} {m : DF.Found}
+            (merged : FoundSays p n (best (sumsIn p n wide two (f .count) (j .count))) room two three m) where
+          sums-are : best (sumsIn p n wide two (f .count) (j .count)) ≡ frontier q
+          sums-are =
+              rw (first-is, second-is, ceilings-same)
+              (sums-best (coreOf q) ss core-side core-free (coreOf q .ceilings) (λ c under. under))
+              ∙ core-frontier q
 
-            merged-told : ltb room (length (coreFrontier q)) ≡ m .full
-            merged-told = ap (λ ps. ltb room (length ps)) (sym sums-are) ∙ sym (merged .full)
+          merged-told : ltb room (length (frontier q)) ≡ m .full
+          merged-told = ap (λ ps. ltb room (length ps)) (sym sums-are) ∙ sym (merged .full)
 
-            pub merged-full : m .full ≡ true → CutFound q hs ss room was three noLists
-            merged-full v =
-                cut-full q hs ss room was three
-                (rw (half-told 0 first, t, half-told 1 second, u, merged-told, v)) (merged .long ∙ kept-long)
+          pub merged-full : m .full ≡ true → CutFound q ss room was three noLists
+          merged-full v =
+              cut-full q ss room was three (rw (half-told 0 first, t, half-told 1 second, u, merged-told, v))
+              (merged .long ∙ kept-long)
 
-            pub cut-end : m .full ≡ false
-                → CutFound q hs ss room was three
-                (record { full = false; count = m .count; first = f .count; second = g .count })
-            cut-end v =
-                record {
-                  full = rw (half-told 0 first, t, half-told 1 second, u, merged-told, v) refl;
-                  count = rw v at (merged .count) ∙ ap length sums-are;
-                  first = rw t at (first .count) ∙ size 0;
-                  second = rw u at (second .count) ∙ size 1;
-                  list = λ e. merged .list v ∙ sums-are;
-                  long = merged .long ∙ kept-long;
-                }
-
--- the halves may have the ceilings of the sums
-pub same-ceilings : (p : ℕ) (cs c : List ℕ) → under c (coreCeilings (take p cs)) ≡ true
-    → under c (take p (coreCeilings cs)) ≡ true
-same-ceilings p cs c u = subst (λ (l : List ℕ). under c l ≡ true) (sym (take-ceilings p cs)) u
+          pub cut-end : m .full ≡ false → CutFound q ss room was three
+              (record { full = false; count = m .count; first = f .count; second = j .count })
+          cut-end v =
+              record {
+                full = rw (half-told 0 first, t, half-told 1 second, u, merged-told, v) refl;
+                count = rw v at (merged .count) ∙ ap length sums-are;
+                first = rw t at (first .count) ∙ size 0;
+                second = rw u at (second .count) ∙ size 1;
+                list = λ e. sym (rows-read s g a three (m .count)) ∙ merged .list v ∙ sums-are;
+                long = merged .long ∙ kept-long;
+              }

@@ -1,15 +1,11 @@
 -- A half's list kept behind the list that is made: rows copied to other rows, and rows before them as they were.
 use mathlib.Core.Path.{_≡_, sym, ap, _∙_}
 use mathlib.Core.Logic.{_⊎_, inl}
-use mathlib.Core.Bool.{Bool, true, false, not}
 use mathlib.Core.List.{List, _++_}
 use Prim.Native.Nat.{ℕ, _+_, _-_, _*_, _≤_}
 use native.Mathlib.Omega.{arith}
-use lib.Dec.{ltb}
 use lib.ListN.{length, take, drop, length-drop, length-append}
 use lib.Seq.{length-take-le, take-take, take-append-le, drop-at}
-use borrow.Author.Tests.{ltb-false}
-use Rattle.model.specs.Basics.{when}
 use Rattle.model.specs.Limits.{maxObjectives, maxVariables, maxPoints, workNeed}
 use Rattle.model.specs.Frontiers.{Point}
 use Rattle.layout.specs.Layout.{listAt, searchEnd, rowWidth, firstRow, secondRow}
@@ -19,15 +15,13 @@ use Rattle.rows.proofs.RowsKept.{behind-rows, copied-rows}
 use Rattle.passes.specs.declared.Found as DF
 use Rattle.passes.specs.Says.{FoundSays}
 use Rattle.sums.specs.Sums.{firstIn}
+use Rattle.answers.proofs.FoundRows.{found-few}
 use Rattle.merge.specs.Says.{KeptSays}
 
 -- a list that is not longer than its room
-few-points : (t : Bool) (room c k : ℕ) → t ≡ ltb room k → c ≡ when (not t) k → c ≤ room
-few-points true room c k h e = omega arith
-few-points false room c k h e = omega (arith, ltb-false room k (sym h))
-
-pub kept-few : {p n row : ℕ} {fs : List Point} {was work : List ℕ} {f : DF.Found} → KeptSays p n fs row was work f → f .count ≤ maxPoints
-kept-few {fs = fs} {f = f} h = few-points (f .full) maxPoints (f .count) (length fs) (h .full) (h .count)
+pub kept-few : {p n row : ℕ} {fs : List Point} {was work : List ℕ} {f : DF.Found} → KeptSays p n fs row was work f
+    → f .count ≤ maxPoints
+kept-few {fs = fs} {f = f} h = found-few (f .full) maxPoints (f .count) (length fs) (h .full) (h .count)
 
 -- equal fronts have equal parts
 part-same : (m k a : ℕ) (x y : List ℕ) → a + k ≤ m → take m x ≡ take m y → take k (drop a x) ≡ take k (drop a y)
@@ -56,7 +50,7 @@ module _ {p n : ℕ} {fs : List Point} (was : List ℕ) {front : List ℕ} {f : 
   size = rowWidth * f .count
 
   pub copied-count : f .count ≤ maxPoints
-  copied-count = few-points (f .full) maxPoints (f .count) (length fs) (says .full) (says .count)
+  copied-count = found-few (f .full) maxPoints (f .count) (length fs) (says .full) (says .count)
 
   pub copied-asked : (listAt + size ≤ length work) × (rowAt row + size ≤ length work) × ((listAt + size ≤ rowAt row) ⊎ (rowAt row + size ≤ listAt))
   copied-asked = (omega (arith, copied-count, work-length), omega (arith, copied-count, work-length), inl (omega (arith, copied-count)))

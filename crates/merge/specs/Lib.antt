@@ -1,2 +1,2 @@
--- What keeping a half's list and the whole cut ensure.
+-- What keeping a half's list ensures.
 pub mod Says

@@ -2,126 +2,72 @@
 ghost use mathlib.Core.Path.{_≡_};
 ghost use mathlib.Core.Bool.{true};
 ghost use Prim.Native.Nat.{_≤_};
-ghost use lib.ListN.{length};
+ghost use lib.ListN.{length, take};
 ghost use Rattle.model.specs.Limits.{maxPoints, workNeed};
-ghost use Rattle.model.specs.Core.{coreCeilings, coreOf, coreFrontier};
+ghost use Rattle.model.specs.Reading.{problemOf};
+ghost use Rattle.model.specs.Core.{coreOf, withCeilings, coreFrontier};
 ghost use Rattle.model.specs.Cuts.{sidesOk, uncrossed};
 ghost use Rattle.model.specs.Views.{view};
-ghost use Rattle.listing.specs.Says.{problemAt, coreAt, Accepted};
+ghost use Rattle.problem.specs.Says.{ReadSays};
 ghost use Rattle.layout.specs.Layout.{firstRow, secondRow};
-ghost use Rattle.merge.specs.Says.{KeptSays, noLists, CutFound};
+ghost use Rattle.answers.specs.Cuts.{CutFound};
+ghost use Rattle.merge.specs.Says.{KeptSays};
 
 // Finds the list of one half, under its ceilings, and keeps it from the row `row` on.
 fn keep_half(
     s: &[u8],
-    at: usize,
-    r: u32,
-    sizes: &[u8],
+    g: problem::Reading,
     sides: &[u8],
     side: u8,
-    p: usize,
     ceilings: [u64; 4],
     row: usize,
     work: &mut [u32],
 ) -> passes::Found
-    requires { ⌜ Accepted p r at maxPoints ceilings (now sizes) (now s) (now work)
-        × (length (now sides) ≡ length (now sizes)) × (secondRow ≤ row) × (row ≤ firstRow)
-        × (workNeed ≤ length (now work)) ⌝ }
-    ensures { λ f. ⌜ KeptSays p (length (now (sizes .entry)))
-        (coreFrontier (view side (coreAt p ceilings (now (sizes .entry)) (now (s .entry)) at r) (now (sides .entry))))
+    requires { ⌜ ReadSays (now s) g × (g .number ≡ 0) × (length (problemOf (now s) .domains) ≡ length (now sides))
+        × (secondRow ≤ row) × (row ≤ firstRow) × (workNeed ≤ length (now work)) ⌝ }
+    ensures { λ f. ⌜ KeptSays (g .head .objectives) (g .head .variables)
+        (coreFrontier (view side
+        (withCeilings (take (g .head .objectives) ceilings) (coreOf (problemOf (now (s .entry))))) (now (sides .entry))))
         row (now (work .entry)) (now (work .exit)) f ⌝ }
 {
-    let found = listing::find_half(
-        s,
-        at,
-        r,
-        sizes,
-        sides,
-        side,
-        p,
-        ceilings,
-        &mut work[..layout::SEARCH_END],
-    );
+    let found = listing::find_half(s, g, sides, side, ceilings, &mut work[..layout::SEARCH_END]);
     let to = layout::LIST_AT + layout::ROW_WIDTH * row;
     groups::copy_numbers(layout::LIST_AT, to, layout::ROW_WIDTH * found.count, work);
     found
 }
 
-// What the cut finds: whether a list is longer than its room, and else how many points it has and how many each half.
-pub struct Lists {
-    pub full: bool,
-    pub count: usize,
-    pub first: usize,
-    pub second: usize,
-}
-
-fn no_lists() -> Lists
-    ensures { λ f. ⌜ f ≡ noLists ⌝ }
-{
-    Lists {
-        full: true,
-        count: 0,
-        first: 0,
-        second: 0,
-    }
-}
-
-// The frontier list of `r` accepted records from `at` on, in work memory, from the lists of the two halves.
+// The frontier list of a problem that was read, in work memory, from the lists of the two halves.
 pub fn cut_lists(
     s: &[u8],
-    at: usize,
-    r: u32,
-    sizes: &[u8],
+    g: problem::Reading,
     sides: &[u8],
-    p: usize,
-    ceilings: [u32; 4],
     room: usize,
     work: &mut [u32],
-) -> Lists
-    requires { ⌜ Accepted p r at room (coreCeilings ceilings) (now sizes) (now s) (now work)
-        × (sidesOk (problemAt p ceilings (now sizes) (now s) at r) (now sides) ≡ true)
-        × (uncrossed (now sides) (problemAt p ceilings (now sizes) (now s) at r .tables) ≡ true)
+) -> answers::Lists
+    requires { ⌜ ReadSays (now s) g × (g .number ≡ 0) × (sidesOk (problemOf (now s)) (now sides) ≡ true)
+        × (uncrossed (now sides) (problemOf (now s) .tables) ≡ true) × (room ≤ maxPoints)
         × (workNeed ≤ length (now work)) ⌝ }
-    ensures { λ f. ⌜ CutFound (coreOf (problemAt p ceilings (now (sizes .entry)) (now (s .entry)) at r))
-        (take p (coreCeilings ceilings)) (now (sides .entry)) room (now (work .entry)) (now (work .exit)) f ⌝ }
+    ensures { λ f. ⌜ CutFound (problemOf (now (s .entry))) (now (sides .entry)) room
+        (now (work .entry)) (now (work .exit)) f ⌝ }
 {
+    let head = g.head;
+    let ceilings = head.ceilings;
     let wide = listing::widened(ceilings);
-    let first = keep_half(
-        s,
-        at,
-        r,
-        sizes,
-        sides,
-        0,
-        p,
-        wide,
-        layout::FIRST_ROW,
-        work,
-    );
+    let first = keep_half(s, g, sides, 0, wide, layout::FIRST_ROW, work);
     if first.full {
-        return no_lists();
+        return answers::no_lists();
     }
-    let second = keep_half(
-        s,
-        at,
-        r,
-        sizes,
-        sides,
-        1,
-        p,
-        wide,
-        layout::SECOND_ROW,
-        work,
-    );
+    let second = keep_half(s, g, sides, 1, wide, layout::SECOND_ROW, work);
     if second.full {
-        return no_lists();
+        return answers::no_lists();
     }
-    let n = sizes.len();
+    let n = head.variables as usize;
+    let p = head.objectives as usize;
     let merged = sums::merge_points(first.count, second.count, n, p, wide, room, work);
     if merged.full {
-        return no_lists();
+        return answers::no_lists();
     }
-    Lists {
+    answers::Lists {
         full: false,
         count: merged.count,
         first: first.count,

@@ -1,7 +1,7 @@
 -- What callers get of an accepted problem: whole cost records, sizes of domains, and the plain facts of a reading with number 0.
 use mathlib.Core.Path.{_≡_, sym, _∙_}
 use mathlib.Core.List.{List}
-use Prim.Native.Nat.{ℕ, _+_, _*_, _≤_}
+use Prim.Native.Nat.{ℕ, _≤_}
 use lib.ListN.{length, take}
 use Rattle.model.specs.Basics.{All}
 use Rattle.model.specs.Limits.{maxBytes, maxVariables, maxObjectives, maxTables}
@@ -12,7 +12,7 @@ use Rattle.model.proofs.DomainRecords.{domain-sizes, domains-end}
 use Rattle.model.proofs.Reading.{accepted-parts, accepted-place}
 use Rattle.problem.specs.declared.Reading as DG
 use Rattle.problem.specs.Records.{AllWhole}
-use Rattle.problem.specs.Says.{ReadSays}
+use Rattle.problem.specs.Says.{startOf, ReadSays}
 use Rattle.problem.proofs.DomainSteps.{domains-taken, domains-room}
 use Rattle.problem.proofs.TableSteps.{all-whole}
 
@@ -39,7 +39,7 @@ pub record AcceptedReading (s : List ℕ) (r : DG.Reading) : Type 0 where
   pub room : length (r .sizes) ≡ maxVariables
   pub domains : take (r .head .variables) (r .sizes) ≡ domainsOf s
   pub small : All DomainSize (take (r .head .variables) (r .sizes))
-  pub whole : AllWhole (r .head .tables) (take (r .head .variables) (r .sizes)) s (6 + 4 * r .head .objectives + 3 * r .head .variables)
+  pub whole : AllWhole (r .head .tables) (take (r .head .variables) (r .sizes)) s (startOf (r .head))
 
 pub read-accepted : (s : List ℕ) (r : DG.Reading) → ReadSays s r → r .number ≡ 0 → AcceptedReading s r
 unfolding problemOf

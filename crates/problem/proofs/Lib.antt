@@ -13,6 +13,7 @@ pub mod WholeRecord
 -- records in a row
 pub mod DomainSteps
 pub mod TableSteps
+pub mod RecordPlaces
 -- walks by hand, of a reader
 pub mod Walks
 pub mod Readers
@@ -20,3 +21,4 @@ pub mod ByReader
 -- the whole
 pub mod Parts
 pub mod Accepted
+pub mod Readings

@@ -18,7 +18,7 @@ use Rattle.model.proofs.DomainRecords.{domain-sizes, domains-end}
 use Rattle.model.proofs.Reading.{accepted-place}
 use Rattle.problem.specs.declared.Domains as DD
 use Rattle.problem.specs.declared.Refusal as DR
-use Rattle.problem.specs.Says.{HeadSays, DomainsSays, RefusalSays, refusal, ReadSays}
+use Rattle.problem.specs.Says.{HeadSays, startOf, DomainsSays, RefusalSays, refusal, ReadSays}
 use Rattle.problem.proofs.Chains.{pass-verdict, stop-verdict, pass-record, stop-record}
 use Rattle.problem.proofs.DomainSteps.{domains-taken, domains-room}
 
@@ -63,7 +63,7 @@ pub record Begun (s : List ℕ) (h : DH.Header) (d : DD.Domains) : Type 0 where
   pub room : length (d .sizes) ≡ maxVariables
   pub taken : take (h .variables) (d .sizes) ≡ domainsOf s
   pub small : All DomainSize (take (h .variables) (d .sizes))
-  pub end : 6 + 4 * h .objectives + 3 * h .variables ≤ length s
+  pub end : startOf h ≤ length s
 
 module _ (s : List ℕ) (h : DH.Header) (d : DD.Domains) (says : HeadSays s h) where
   pub domains-said : DomainsSays s (6 + 4 * h .objectives) (h .variables) d → DomainsSays s (headLength s) (headVariables s) d
@@ -87,7 +87,9 @@ module _ (s : List ℕ) (h : DH.Header) (d : DD.Domains) (says : HeadSays s h) w
         end = rw (says .variables, says .objectives) (domains-end n s start (good .long) none);
       }
 
-  pub tables-said : {t : DR.Refusal} → Begun s h d → RefusalSays (tablesVerdict (h .tables) (h .objectives) (take (h .variables) (d .sizes)) s (6 + 4 * h .objectives + 3 * h .variables)) t → RefusalSays (tablesPart s) t
+  pub tables-said : {t : DR.Refusal} → Begun s h d
+      → RefusalSays (tablesVerdict (h .tables) (h .objectives) (take (h .variables) (d .sizes)) s (startOf h)) t
+      → RefusalSays (tablesPart s) t
   tables-said b x = rw (b .taken, says .variables, says .objectives, says .tables) at x
 
 -- ## what `read_problem` answers

@@ -1,7 +1,7 @@
 -- What the reading functions ensure, with a name for each part. After a refusal every other number is 0.
 use mathlib.Core.Path.{_≡_}
 use mathlib.Core.List.{List, []}
-use Prim.Native.Nat.{ℕ}
+use Prim.Native.Nat.{ℕ, _+_, _*_}
 use lib.Dec.{eqb}
 use lib.ListN.{drop, replicate}
 use Rattle.model.specs.Basics.{pick, when}
@@ -23,6 +23,10 @@ pub record HeadSays (s : List ℕ) (h : DH.Header) : Type 0 where
   pub objectives : h .objectives ≡ headObjectives s
   pub tables : h .tables ≡ headTables s
   pub ceilings : h .ceilings ≡ padded maxObjectives (wordsIn (headObjectives s) (drop 6 s))
+
+-- where the cost records start: behind the header's single fields, its ceilings and the domain records
+abbrev pub startOf : DH.Header → ℕ
+startOf h = 6 + 4 * h .objectives + 3 * h .variables
 
 -- n domain records from `at` on
 pub record DomainsSays (s : List ℕ) (at n : ℕ) (r : DD.Domains) : Type 0 where

@@ -9,7 +9,8 @@ ghost use Rattle.model.specs.Reading.{word2, word4, wordsIn, startNumber, headN
 ghost use Rattle.model.specs.Reading.{tablesVerdict, placesAt};
 ghost use Rattle.model.specs.Calls.{padded, over};
 ghost use Rattle.problem.specs.Records.{Whole, AllWhole};
-ghost use Rattle.problem.specs.Says.{HeadSays, DomainsSays, ScanSays, RefusalSays, RecordSays, refusal, ReadSays};
+ghost use Rattle.problem.specs.Says.{HeadSays, startOf, DomainsSays, ScanSays, RefusalSays, RecordSays};
+ghost use Rattle.problem.specs.Says.{refusal, ReadSays};
 
 pub fn wide(x: u8) -> u32
     ensures { λ r. ⌜ r ≡ x ⌝ }
@@ -111,6 +112,15 @@ pub fn read_head(s: &[u8]) -> model::Header
         tables,
         ceilings,
     }
+}
+
+// Where the cost records start, behind the header and its domain records.
+pub fn tables_start(head: model::Header) -> usize
+    ensures { λ r. ⌜ r ≡ startOf head ⌝ }
+{
+    let p = head.objectives as usize;
+    let n = head.variables as usize;
+    6 + 4 * p + 3 * n
 }
 
 // The number of the domain record at `at`, else 0.
@@ -336,7 +346,7 @@ pub fn read_problem(s: &[u8]) -> Reading
         return refused(d.number, d.place);
     }
     let sizes = d.sizes;
-    let t = scan_tables(s, start + 3 * n, head.tables, p, &sizes[..n]);
+    let t = scan_tables(s, tables_start(head), head.tables, p, &sizes[..n]);
     if t.number != 0 {
         return refused(t.number, t.place);
     }

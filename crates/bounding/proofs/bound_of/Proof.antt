@@ -19,89 +19,110 @@ use Rattle.bounding.proofs.bound_of.Tie as tie
 within : {s : List ℕ} {r : DG.Reading} → AcceptedReading s r → r .head .variables ≤ length (r .sizes)
 within a = omega (arith, a .room, a .few-variables)
 
-taken : {s : List ℕ} {r : DG.Reading} → AcceptedReading s r → r .head .variables ≡ length (take (r .head .variables) (r .sizes))
+taken : {s : List ℕ} {r : DG.Reading} → AcceptedReading s r
+    → r .head .variables ≡ length (take (r .head .variables) (r .sizes))
 taken {r = r} a = sym (length-take-le (r .head .variables) (r .sizes) (within a))
+
+-- ## the places: read, accepted, and the domain sizes lent to the test of the prefix
+
+abbrev bytes : tie.After-read-problem → List ℕ
+bytes c = now (c .before .before .before .args .problem)
+
+abbrev prefix : tie.After-read-problem → List ℕ
+prefix c = now (c .before .before .before .args .prefix)
+
+abbrev read-of : tie.Else1 → tie.After-read-problem
+read-of c = c .before .before
+
+accepted : (c : tie.Else1) → AcceptedReading (bytes (read-of c)) (read-of c .read-problem .result)
+accepted c =
+    let g = read-of c .read-problem in
+    read-accepted (bytes (read-of c)) (g .result) (g .ensures) (c .if1 .left)
+
+abbrev opened : tie.After-sizes → tie.Else1
+opened c = c .before .before .before
+
+abbrev tested : tie.After-prefix-ok → tie.Else1
+tested c = opened (c .before .before)
+
+-- ## a refused problem
 
 read-problem-requires : tie.Need-read-problem-requires
 read-problem-requires c κs = search needs
 
-cast-t11 : tie.Need-cast-t11
-cast-t11 c =
-    let g = c .before .before .before .read-problem in
-    let s = now (c .before .before .before .before .before .before .args .problem) in
-    omega (arith, g .ensures .place, place-limit s)
+cast-t10 : tie.Need-cast-t10
+cast-t10 c =
+    let read : tie.After-read-problem = c .before .before .before in
+    omega (arith, read .read-problem .ensures .place, place-limit (bytes read))
 
 returns : tie.Need-returns
 returns c =
-    let g = c .before .before .before .read-problem in
-    let start = c .before .before .before .before .before .before in
-    refused-answer (now (start .args .problem)) (now (start .args .prefix)) (g .result .number) (g .result .place) (g .ensures .number) (g .ensures .place) (c .before .if1 .taken)
+    let read : tie.After-read-problem = c .before .before .before in
+    let g = read .read-problem in
+    refused-answer (bytes read) (prefix read) (g .result .number) (g .result .place) (g .ensures .number)
+    (g .ensures .place) (c .before .if1 .taken)
+
+-- ## the prefix
 
 cast-n : tie.Need-cast-n
 cast-n c = search needs
 
-cast-p : tie.Need-cast-p
-cast-p c = search needs
-
 array-share-prefix-sizes : tie.Need-array-share-prefix-sizes
-array-share-prefix-sizes c = within (read-accepted _ (c .before .before .before .before .before .before .read-problem .result) (c .before .before .before .before .before .before .read-problem .ensures) (c .before .before .before .before .if1 .left))
+array-share-prefix-sizes c = within (accepted (opened c))
 
 slice-aggregate-prefix-ok : tie.Need-slice-aggregate-prefix-ok
-slice-aggregate-prefix-ok c = taken (read-accepted _ (c .before .before .before .before .before .before .before .read-problem .result) (c .before .before .before .before .before .before .before .read-problem .ensures) (c .before .before .before .before .before .if1 .left))
+slice-aggregate-prefix-ok c = taken (accepted (opened (c .before)))
 
 prefix-ok-requires : tie.Need-prefix-ok-requires
 prefix-ok-requires c κs = search needs
 
 returns-2 : tie.Need-returns-2
 returns-2 c =
-    let a = read-accepted _ (c .before .before .before .before .before .before .before .before .before .read-problem .result) (c .before .before .before .before .before .before .before .before .before .read-problem .ensures) (c .before .before .before .before .before .before .before .if1 .left) in
+    let a = accepted (tested (c .before)) in
     prefix-answer _ (a .none) _ (rw (← a .domains) (sym (c .before .prefix-ok .ensures) ∙ not-true _ (c .if2 .taken)))
 
-mul-start : tie.Need-mul-start
-mul-start c = search needs
+-- ## the bound
 
-add-start : tie.Need-add-start
-add-start c = search needs
-
-mul-start-2 : tie.Need-mul-start-2
-mul-start-2 c = search needs
-
-add-start-2 : tie.Need-add-start-2
-add-start-2 c = search needs
+tables-start-requires : tie.Need-tables-start-requires
+tables-start-requires c κs = search needs
 
 array-share-prefix-sizes-2 : tie.Need-array-share-prefix-sizes-2
-array-share-prefix-sizes-2 c = within (read-accepted _ (c .before .before .before .before .before .before .before .before .before .read-problem .result) (c .before .before .before .before .before .before .before .before .before .read-problem .ensures) (c .before .before .before .before .before .before .before .if1 .left))
+array-share-prefix-sizes-2 c = within (accepted (tested (c .before .before)))
 
 slice-aggregate-bounds-of : tie.Need-slice-aggregate-bounds-of
-slice-aggregate-bounds-of c = taken (read-accepted _ (c .before .before .before .before .before .before .before .before .before .before .read-problem .result) (c .before .before .before .before .before .before .before .before .before .before .read-problem .ensures) (c .before .before .before .before .before .before .before .before .if1 .left))
+slice-aggregate-bounds-of c = taken (accepted (tested (c .before .before .before)))
 
 bounds-of-requires : tie.Need-bounds-of-requires
 bounds-of-requires c κs =
-    let a = read-accepted _ (c .before .before .before .before .before .before .before .before .before .before .read-problem .result) (c .before .before .before .before .before .before .before .before .before .before .read-problem .ensures) (c .before .before .before .before .before .before .before .before .if1 .left) in
-    (a .whole, a .few-tables, a .small, sym (c .before .before .prefix-ok .ensures) ∙ not-false _ (c .before .if2 .left))
+    let started : tie.After-tables-start = c .before in
+    let good : tie.Else2 = started .before in
+    let a = accepted (tested (good .before)) in
+    let ok = sym (good .before .prefix-ok .ensures) ∙ not-false _ (good .if2 .left) in
+    (rw (started .tables-start .ensures) (a .whole), a .few-tables, a .small, ok)
 
 returns-3 : tie.Need-returns-3
 returns-3 c =
-    let a = read-accepted _ (c .before .before .before .before .before .before .before .before .before .before .before .read-problem .result) (c .before .before .before .before .before .before .before .before .before .before .before .read-problem .ensures) (c .before .before .before .before .before .before .before .before .before .if1 .left) in
-    bound-answer _ (a .none) _ (c .bounds-of .result) (rw (← a .domains) (sym (c .before .before .before .prefix-ok .ensures) ∙ not-false _ (c .before .before .if2 .left))) (rw (← a .domains, ← a .tables, ← a .objectives, ← a .variables) (c .bounds-of .ensures))
+    let started : tie.After-tables-start = c .before .before in
+    let good : tie.Else2 = started .before in
+    let a = accepted (tested (good .before)) in
+    let ok = sym (good .before .prefix-ok .ensures) ∙ not-false _ (good .if2 .left) in
+    let said = rw (started .tables-start .ensures) at (c .bounds-of .ensures) in
+    bound-answer _ (a .none) _ (c .bounds-of .result) (rw (← a .domains) ok)
+    (rw (← a .domains, ← a .tables, ← a .objectives, ← a .variables) said)
 
 pub bound-of-spec : {M : Type 1} → statement M
 bound-of-spec =
     tie.close
     (tie.spec
     read-problem-requires
-    cast-t11
+    cast-t10
     returns
     cast-n
-    cast-p
     array-share-prefix-sizes
     slice-aggregate-prefix-ok
     prefix-ok-requires
     returns-2
-    mul-start
-    add-start
-    mul-start-2
-    add-start-2
+    tables-start-requires
     array-share-prefix-sizes-2
     slice-aggregate-bounds-of
     bounds-of-requires

@@ -7,8 +7,8 @@ use Rattle.frontier.proofs.frontier_cut.Tie as tie
 solve-cut-requires : tie.Need-solve-cut-requires
 solve-cut-requires c κs = search needs
 
-tell-requires : tie.Need-tell-requires
-tell-requires c κs = search needs
+tell-halves-requires : tie.Need-tell-halves-requires
+tell-halves-requires c κs = search needs
 
 same-length : tie.Need-same-length
 same-length c = search needs
@@ -21,11 +21,12 @@ same-length-3 c = search needs
 
 returns : tie.Need-returns
 returns c =
-    let copied : tie.After-work = c .before .before .before .before in
-    let known : tie.After-slice-known4 = copied .before .before .before in
-    let cut : tie.After-solve-cut = known .before .before in
-    cut-export (cut .solve-cut .result) (cut .solve-cut .ensures) _ _ _ (c .tell .ensures)
+    let lent : tie.After-tell-halves-arg = c .before .before .before .before in
+    let worked : tie.After-work = lent .before .before in
+    let chosen : tie.After-choices = worked .before .before in
+    let cut : tie.After-solve-cut = chosen .before .before .before in
+    cut-export (cut .solve-cut .result) (cut .solve-cut .ensures) _ _ _ _ _ (c .tell-halves .ensures)
 
 pub frontier-cut-spec : {M : Type 1} → statement M
 frontier-cut-spec =
-    tie.close (tie.spec solve-cut-requires tell-requires same-length same-length-2 same-length-3 returns)
+    tie.close (tie.spec solve-cut-requires tell-halves-requires same-length same-length-2 same-length-3 returns)

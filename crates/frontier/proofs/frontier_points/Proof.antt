@@ -40,20 +40,20 @@ use Rattle.model.specs.Calls.{listOutcome}
 use Rattle.model.specs.declared.Point.{Point}
 use Rattle.model.proofs.Point as P
 use Rattle.problem.proofs.Walks.{sliceOf, OwnedSlice, twice}
-use Rattle.solving.specs.declared.Answer.{Answer}
+use Rattle.answers.specs.declared.Answer.{Answer}
 use Rattle.frontier.specs.Says.{asPoints, ListExports}
-use Rattle.solving.proofs.Answer as N
-use Rattle.solving.proofs.Answer.Laws as N′
+use Rattle.answers.proofs.Answer as N
+use Rattle.answers.proofs.Answer.Laws as N′
 use Rattle.frontier.proofs.ListAnswers.{list-export}
 use Rattle.frontier.proofs.Lent.{sliceAt}
 use Rattle.frontier.proofs.list_points as list
 use Rattle.frontier.proofs.list_points.Symbol as list-def
 use Rattle.frontier.proofs.list_points.Symbol.{name as #list-points}
 use Rattle.frontier.proofs.list_points.Met as list-thm
-use Rattle.frontier.proofs.tell as tell
-use Rattle.frontier.proofs.tell.Symbol as tell-def
-use Rattle.frontier.proofs.tell.Symbol.{name as #tell}
-use Rattle.frontier.proofs.tell.Met as tell-thm
+use Rattle.answers.proofs.tell as tell
+use Rattle.answers.proofs.tell.Symbol as tell-def
+use Rattle.answers.proofs.tell.Symbol.{name as #tell}
+use Rattle.answers.proofs.tell.Met as tell-thm
 use Rattle.frontier.proofs.frontier_points.Key.{name as #frontier-points}
 use Rattle.frontier.proofs.frontier_points as f
 use Rattle.frontier.proofs.frontier_points.Statement as stated
@@ -232,4 +232,4 @@ frontier-points-spec 𝓤 H 𝓜 𝓖 𝓡 =
     (tables 𝓤 H 𝓜 𝓡 code.env .C) (tables 𝓤 H 𝓜 𝓡 code.env .Λ) #frontier-points code.function (code.unfolded 𝓤 H 𝓜 𝓡)
     (meets 𝓤 H A W (𝓜 .mem) (𝓡 .run) (tablesOf 𝓤 H 𝓜 (tables 𝓤 H 𝓜 𝓡 code.env))
     (cited 𝓤 H (Listing 𝓤 H A W (𝓜 .mem) (𝓡 .run)) 𝓜 𝓡 code.env #list-points list-def.routine code.calls-frontier·list-points (list-thm.met 𝓤 H 𝓜 𝓖 𝓡))
-    (cited 𝓤 H (Tell 𝓤 H A W (𝓜 .mem) (𝓡 .run)) 𝓜 𝓡 code.env #tell tell-def.routine code.calls-frontier·tell (tell-thm.met 𝓤 H 𝓜 𝓖 𝓡)))
+    (cited 𝓤 H (Tell 𝓤 H A W (𝓜 .mem) (𝓡 .run)) 𝓜 𝓡 code.env #tell tell-def.routine code.calls-answers·tell (tell-thm.met 𝓤 H 𝓜 𝓖 𝓡)))

@@ -49,24 +49,24 @@ use Rattle.rows.proofs.copy_points as copy
 use Rattle.rows.proofs.copy_points.Symbol as copy-def
 use Rattle.rows.proofs.copy_points.Symbol.{name as #copy-points}
 use Rattle.rows.proofs.copy_points.Met as copy-thm
-use Rattle.solving.specs.declared.Answer.{Answer}
-use Rattle.solving.specs.declared.Listed.{Listed}
-use Rattle.solving.specs.Says.{answerOf, ListedSays}
+use Rattle.answers.specs.declared.Answer.{Answer}
+use Rattle.answers.specs.declared.Listed.{Listed}
+use Rattle.answers.specs.Says.{answerOf, ListedSays}
 use Rattle.frontier.specs.Says.{asPoints, ListExports}
-use Rattle.solving.proofs.Answer as N
-use Rattle.solving.proofs.Answer.Laws as N′
-use Rattle.solving.proofs.Listed as L
-use Rattle.solving.proofs.Listed.Laws as L′
+use Rattle.answers.proofs.Answer as N
+use Rattle.answers.proofs.Answer.Laws as N′
+use Rattle.answers.proofs.Listed as L
+use Rattle.answers.proofs.Listed.Laws as L′
 use Rattle.frontier.proofs.ListAnswers.{list-end}
 use Rattle.frontier.proofs.Lent.{sliceAt, lends, comes-back, shares, shared-back}
 use Rattle.solving.proofs.list_rows as find
 use Rattle.solving.proofs.list_rows.Symbol as find-def
 use Rattle.solving.proofs.list_rows.Symbol.{name as #list-rows}
 use Rattle.solving.proofs.list_rows.Met as find-thm
-use Rattle.solving.proofs.settle as end
-use Rattle.solving.proofs.settle.Symbol as end-def
-use Rattle.solving.proofs.settle.Symbol.{name as #settle}
-use Rattle.solving.proofs.settle.Met as end-thm
+use Rattle.answers.proofs.settle as end
+use Rattle.answers.proofs.settle.Symbol as end-def
+use Rattle.answers.proofs.settle.Symbol.{name as #settle}
+use Rattle.answers.proofs.settle.Met as end-thm
 use Rattle.frontier.proofs.list_points.Key.{name as #list-points}
 use Rattle.frontier.proofs.list_points as f
 use Rattle.frontier.proofs.list_points.Statement as stated
@@ -276,4 +276,4 @@ list-points-spec 𝓤 H 𝓜 𝓖 𝓡 =
     (meets 𝓤 H A W (𝓜 .mem) (𝓡 .run) (tablesOf 𝓤 H 𝓜 (tables 𝓤 H 𝓜 𝓡 code.env))
     (cited 𝓤 H (Find 𝓤 H A W (𝓜 .mem) (𝓡 .run)) 𝓜 𝓡 code.env #list-rows find-def.routine code.calls-solving·list-rows (find-thm.met 𝓤 H 𝓜 𝓖 𝓡))
     (cited 𝓤 H (Copy 𝓤 H A W (𝓜 .mem) (𝓡 .run)) 𝓜 𝓡 code.env #copy-points copy-def.routine code.calls-rows·copy-points (copy-thm.met 𝓤 H 𝓜 𝓖 𝓡))
-    (cited 𝓤 H (End 𝓤 H A W (𝓜 .mem) (𝓡 .run)) 𝓜 𝓡 code.env #settle end-def.routine code.calls-solving·settle (end-thm.met 𝓤 H 𝓜 𝓖 𝓡)))
+    (cited 𝓤 H (End 𝓤 H A W (𝓜 .mem) (𝓡 .run)) 𝓜 𝓡 code.env #settle end-def.routine code.calls-answers·settle (end-thm.met 𝓤 H 𝓜 𝓖 𝓡)))

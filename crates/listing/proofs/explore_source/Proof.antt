@@ -4,7 +4,8 @@ use mathlib.Core.Path.{refl}
 use native.Mathlib.Omega.{arith}
 use borrow.Author.Needs.{needs}
 use borrow.Author.Tests.{not-false}
-use Rattle.listing.proofs.Forms.{gave-up, source-plannable, spreads-asked, plan-ready, explored-says}
+use Rattle.model.proofs.Bits.{true-false}
+use Rattle.listing.proofs.Forms.{source-plannable, spreads-asked, plan-ready, explored-says}
 use Rattle.listing.proofs.explore_source.Statement.{statement}
 use Rattle.listing.proofs.explore_source.Tie as tie
 
@@ -37,13 +38,13 @@ given-up-requires : tie.Need-given-up-requires
 given-up-requires c κs = search needs
 
 returns : tie.Need-returns
-returns c = (record { long = refl; source = refl }, gave-up _ _ _ _ _ _ (c .given-up .ensures))
+returns c = (record { long = refl; source = refl }, λ t. absurd (true-false t (c .given-up .ensures)))
 
 given-up-requires-2 : tie.Need-given-up-requires-2
 given-up-requires-2 c κs = search needs
 
 returns-2 : tie.Need-returns-2
-returns-2 c = (record { long = refl; source = refl }, gave-up _ _ _ _ _ _ (c .given-up2 .ensures))
+returns-2 c = (record { long = refl; source = refl }, λ t. absurd (true-false t (c .given-up2 .ensures)))
 
 are-short-requires : tie.Need-are-short-requires
 are-short-requires c κs = search needs
@@ -52,7 +53,7 @@ given-up-requires-3 : tie.Need-given-up-requires-3
 given-up-requires-3 c κs = search needs
 
 returns-3 : tie.Need-returns-3
-returns-3 c = (record { long = refl; source = refl }, gave-up _ _ _ _ _ _ (c .given-up3 .ensures))
+returns-3 c = (record { long = refl; source = refl }, λ t. absurd (true-false t (c .given-up3 .ensures)))
 
 sub-spreads-of : tie.Need-sub-spreads-of
 sub-spreads-of c = search needs
@@ -85,7 +86,7 @@ same-length c = search needs
 returns-4 : tie.Need-returns-4
 returns-4 c =
     let failed : tie.Then4 = c .before in
-    (planned (failed .before) .plan-source .ensures .0, gave-up _ _ _ _ _ _ (c .given-up4 .ensures))
+    (planned (failed .before) .plan-source .ensures .0, λ t. absurd (true-false t (c .given-up4 .ensures)))
 
 explore-requires : tie.Need-explore-requires
 explore-requires c κs =

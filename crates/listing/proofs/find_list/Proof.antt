@@ -1,9 +1,61 @@
--- `listing::find_list` meets its contract: the records that are kept make the problem that was accepted.
+-- `listing::find_list` meets its contract: the records that are kept make the problem that was read.
+use mathlib.Core.Path.{sym}
+use mathlib.Core.List.{List}
+use Prim.Native.Nat.{ℕ}
+use native.Mathlib.Omega.{arith}
 use denote.Ref.{now}
 use borrow.Author.Needs.{needs}
+use Rattle.layout.specs.Layout.{sourceAt}
+use Rattle.problem.proofs.Accepted.{AcceptedReading, read-accepted}
+use Rattle.problem.proofs.Readings.{sized}
 use Rattle.listing.proofs.PlacesKept.{kept-source, kept-says}
+use Rattle.listing.proofs.ReadRecords.{RecordsRead, places-fit, places-at, records-read, list-found}
 use Rattle.listing.proofs.find_list.Statement.{statement}
 use Rattle.listing.proofs.find_list.Tie as tie
+
+-- ## the places: what was read, where its records start, the records kept
+
+abbrev start : tie.After-head → tie.Start
+start c = c .before .before .before
+
+abbrev bytes : tie.After-head → List ℕ
+bytes c = now (start c .args .s)
+
+accepted : (c : tie.After-head) → AcceptedReading (bytes c) (start c .args .g)
+accepted c = read-accepted (bytes c) (start c .args .g) (start c .pre .0 .read) (start c .pre .0 .none)
+
+records : (c : tie.After-head) → RecordsRead (bytes c) (start c .args .g) (now (start c .args .work))
+records c =
+    let s = start c in
+    records-read (bytes c) (s .args .g) (accepted c) (now (s .args .work)) (s .pre .0 .memory)
+
+abbrev headed : tie.After-tables-start → tie.After-head
+headed c = c .before .before .before .before
+
+abbrev started : tie.After-keep-places → tie.After-tables-start
+started c = c .before .before .before
+
+abbrev kept : tie.After-widened → tie.After-keep-places
+kept c = c .before .before .before .before
+
+-- ## the records
+
+cast-n : tie.Need-cast-n
+cast-n c = search needs
+
+cast-p : tie.Need-cast-p
+cast-p c = search needs
+
+tables-start-requires : tie.Need-tables-start-requires
+tables-start-requires c κs = search needs
+
+array-share-prefix-sizes : tie.Need-array-share-prefix-sizes
+array-share-prefix-sizes c =
+    let a = accepted (headed c) in
+    omega (arith, a .room, a .few-variables)
+
+slice-aggregate-keep-places : tie.Need-slice-aggregate-keep-places
+slice-aggregate-keep-places c = sym (sized _ _ (accepted (headed (c .before))))
 
 sub-keep-places : tie.Need-sub-keep-places
 sub-keep-places c = search needs
@@ -15,36 +67,67 @@ part-keep-places-end : tie.Need-part-keep-places-end
 part-keep-places-end c = search needs
 
 keep-places-requires : tie.Need-keep-places-requires
-keep-places-requires c κs = search needs
+keep-places-requires c κs =
+    let begun : tie.After-tables-start = c .before .before in
+    let a = records (headed begun) in
+    let s = start (headed begun) .args in
+    let fits = places-fit (s .g .head .tables) sourceAt (now (s .work)) (omega (arith, a .tables, a .memory)) in
+    (rw (begun .tables-start .ensures) (a .whole), a .small, fits, a .bytes)
 
 widened-requires : tie.Need-widened-requires
 widened-requires c κs = search needs
 
+-- ## the search
+
+array-share-prefix-sizes-2 : tie.Need-array-share-prefix-sizes-2
+array-share-prefix-sizes-2 c =
+    let a = accepted (headed (started (kept c))) in
+    omega (arith, a .room, a .few-variables)
+
+slice-aggregate-find-source : tie.Need-slice-aggregate-find-source
+slice-aggregate-find-source c = sym (sized _ _ (accepted (headed (started (kept (c .before))))))
+
+cast-find-source : tie.Need-cast-find-source
+cast-find-source c = search needs
+
 find-source-requires : tie.Need-find-source-requires
 find-source-requires c κs =
-    let s = c .before .before .before .before .before .before .before .before .before in
-    let a = s .args in
-    (kept-source (a .p) (a .r) (a .at) (a .room) (a .ceilings) (now (a .sizes)) (now (a .s)) (now (a .work)) (s .pre) _ (c .before .before .before .before .keep-places .ensures) _ (c .before .widened .ensures), s .pre .room-small)
+    let wide : tie.After-widened = c .before .before in
+    let begun = started (kept wide) in
+    let says = places-at _ _ _ _ (begun .tables-start .ensures) (kept wide .keep-places .ensures) in
+    let source = kept-source _ _ _ _ _ _ _ (records (headed begun)) _ says _ (wide .widened .ensures) in
+    (source, start (headed begun) .pre .1)
 
 same-length : tie.Need-same-length
 same-length c = search needs
 
 returns : tie.Need-returns
 returns c =
-    let s = c .before .before .before .before .before .before .before .before .before .before .before .before in
-    let a = s .args in
-    let f = c .before .before .find-source in
-    kept-says (a .p) (a .r) (a .at) (a .room) (a .ceilings) (now (a .sizes)) (now (a .s)) (now (a .work)) (s .pre) _ (c .before .before .before .before .before .before .before .keep-places .ensures) _ (c .before .before .before .before .widened .ensures) _ (f .result) (f .ensures)
+    let found : tie.After-find-source = c .before .before in
+    let wide : tie.After-widened = found .before .before .before in
+    let begun = started (kept wide) in
+    let says = places-at _ _ _ _ (begun .tables-start .ensures) (kept wide .keep-places .ensures) in
+    let f = found .find-source in
+    list-found _ _ (accepted (headed begun))
+    (kept-says _ _ _ _ _ _ _ (records (headed begun)) _ says _ (wide .widened .ensures) _ _ (f .result) (f .ensures))
 
 pub find-list-spec : {M : Type 1} → statement M
 find-list-spec =
     tie.close
     (tie.spec
+    cast-n
+    cast-p
+    tables-start-requires
+    array-share-prefix-sizes
+    slice-aggregate-keep-places
     sub-keep-places
     part-keep-places-start
     part-keep-places-end
     keep-places-requires
     widened-requires
+    array-share-prefix-sizes-2
+    slice-aggregate-find-source
+    cast-find-source
     find-source-requires
     same-length
     returns)

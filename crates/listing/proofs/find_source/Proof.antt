@@ -1,6 +1,6 @@
 -- `listing::find_source` meets its contract: both forms find the same list, and the first one is right whatever the second has left in memory.
 use borrow.Author.Needs.{needs}
-use Rattle.listing.proofs.Forms.{second-found, source-kept, first-after}
+use Rattle.listing.proofs.Forms.{source-kept, first-after}
 use Rattle.listing.proofs.find_source.Statement.{statement}
 use Rattle.listing.proofs.find_source.Tie as tie
 
@@ -22,7 +22,7 @@ same-length-2 c = search needs
 returns-2 : tie.Need-returns-2
 returns-2 c =
     let says = c .before .before .before .explore-source .ensures in
-    second-found (says .0) (says .1) (c .if2 .taken)
+    says .1 (c .if2 .taken)
 
 find-source-requires-2 : tie.Need-find-source-requires-2
 find-source-requires-2 c κs =

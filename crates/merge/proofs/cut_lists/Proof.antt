@@ -1,6 +1,173 @@
 -- `merge::cut_lists` meets its contract: each return hands what the callees ensure to one law of Cutting.
-use mathlib.Core.Path.{refl, sym, subst}
+use mathlib.Core.Path.{sym, _∙_}
+use mathlib.Core.List.{List}
+use Prim.Native.Nat.{ℕ}
 use native.Mathlib.Omega.{arith}
-use lib.ListN.{length}
 use denote.Ref.{now}
 use borrow.Author.Needs.{needs}
+use Rattle.model.specs.Reading.{problemOf}
+use Rattle.model.proofs.Cut.{sides-long}
+use Rattle.problem.proofs.Accepted.{AcceptedReading, read-accepted}
+use Rattle.merge.proofs.Cutting.{first-full, second-full, cut-halved, cut-words, merged-full, cut-end}
+use Rattle.merge.proofs.cut_lists.Statement.{statement}
+use Rattle.merge.proofs.cut_lists.Tie as tie
+
+-- ## the places: each half kept, the ceilings widened, the sums merged
+
+abbrev known : tie.After-keep-half → tie.After-shared-slice-known
+known c = c .before .before .before .before
+
+abbrev start : tie.After-keep-half → tie.Start
+start c = known c .before
+
+accepted : (s : tie.Start) → AcceptedReading (now (s .args .s)) (s .args .g)
+accepted s = read-accepted (now (s .args .s)) (s .args .g) (s .pre .0) (s .pre .1)
+
+abbrev first : tie.Else1 → tie.After-keep-half
+first c = c .before .before .before
+
+abbrev opened : tie.After-keep-half2 → tie.Else1
+opened c = c .before .before
+
+abbrev second : tie.Else2 → tie.After-keep-half2
+second c = c .before .before .before
+
+abbrev kept : tie.After-widened → tie.Else2
+kept c = let head : tie.After-head = c .before .before .before .before in head .before
+
+-- ## the first half
+
+keep-half-requires : tie.Need-keep-half-requires
+keep-half-requires c κs =
+    let s : tie.Start = c .before .before .before .before in
+    let long = sides-long (problemOf (now (s .args .s))) (now (s .args .sides)) (s .pre .2) in
+    (s .pre .0, s .pre .1, long, omega arith, omega arith, s .pre .5)
+
+no-lists-requires : tie.Need-no-lists-requires
+no-lists-requires c κs = search needs
+
+same-length : tie.Need-same-length
+same-length c = search needs
+
+returns : tie.Need-returns
+returns c =
+    let full : tie.Then1 = c .before in
+    let half : tie.After-keep-half = full .before .before .before in
+    let s = start half in
+    let p = s .pre in
+    rw (c .no-lists .ensures)
+    (first-full (accepted s) (s .args .room) (now (s .args .sides)) (now (s .args .work)) (p .2) (p .3) (p .5)
+    (half .keep-half .ensures) (full .if1 .taken))
+
+-- ## the second half
+
+keep-half-requires-2 : tie.Need-keep-half-requires-2
+keep-half-requires-2 c κs =
+    let half = first (c .before) in
+    let s = start half in
+    let long = sides-long (problemOf (now (s .args .s))) (now (s .args .sides)) (s .pre .2) in
+    (s .pre .0, s .pre .1, long, omega arith, omega arith, omega (arith, s .pre .5, half .keep-half .ensures .long))
+
+no-lists-requires-2 : tie.Need-no-lists-requires-2
+no-lists-requires-2 c κs = search needs
+
+same-length-2 : tie.Need-same-length-2
+same-length-2 c = search needs
+
+returns-2 : tie.Need-returns-2
+returns-2 c =
+    let full : tie.Then2 = c .before in
+    let other : tie.After-keep-half2 = full .before .before .before in
+    let half = first (opened other) in
+    let s = start half in
+    let p = s .pre in
+    rw (c .no-lists2 .ensures)
+    (second-full (accepted s) (s .args .room) (now (s .args .sides)) (now (s .args .work)) (p .2) (p .3) (p .5)
+    (half .keep-half .ensures) (opened other .if1 .left) (other .keep-half2 .ensures) (full .if2 .taken))
+
+-- ## the sums
+
+cast-n : tie.Need-cast-n
+cast-n c = search needs
+
+cast-p : tie.Need-cast-p
+cast-p c = search needs
+
+widened-requires : tie.Need-widened-requires
+widened-requires c κs = search needs
+
+merge-points-requires : tie.Need-merge-points-requires
+merge-points-requires c κs =
+    let wide : tie.After-widened = c .before in
+    let both = kept wide in
+    let other = second both in
+    let half = first (opened other) in
+    let s = start half in
+    let p = s .pre in
+    let halved =
+    cut-halved (accepted s) (s .args .room) (now (s .args .sides)) (now (s .args .work)) (p .2) (p .3) (p .5)
+    (half .keep-half .ensures) (opened other .if1 .left) (other .keep-half2 .ensures) (both .if2 .left) in
+    let words =
+    cut-words (accepted s) (s .args .room) (now (s .args .sides)) (now (s .args .work)) (p .2) (p .3) (p .5)
+    (half .keep-half .ensures) (opened other .if1 .left) (other .keep-half2 .ensures) (both .if2 .left)
+    (wide .widened .ensures) (λ i. omega (arith, known half .shared-slice-known .given i)) in
+    (halved, words, p .4)
+
+no-lists-requires-3 : tie.Need-no-lists-requires-3
+no-lists-requires-3 c κs = search needs
+
+same-length-3 : tie.Need-same-length-3
+same-length-3 c = search needs
+
+returns-3 : tie.Need-returns-3
+returns-3 c =
+    let full : tie.Then3 = c .before in
+    let merged : tie.After-merge-points = full .before .before .before in
+    let wide : tie.After-widened = merged .before .before in
+    let both = kept wide in
+    let other = second both in
+    let half = first (opened other) in
+    let s = start half in
+    let p = s .pre in
+    rw (c .no-lists3 .ensures)
+    (merged-full (accepted s) (s .args .room) (now (s .args .sides)) (now (s .args .work)) (p .2) (p .3) (p .5)
+    (half .keep-half .ensures) (opened other .if1 .left) (other .keep-half2 .ensures) (both .if2 .left)
+    (wide .widened .ensures) (merged .merge-points .ensures) (full .if3 .taken))
+
+same-length-4 : tie.Need-same-length-4
+same-length-4 c = search needs
+
+returns-4 : tie.Need-returns-4
+returns-4 c =
+    let merged : tie.After-merge-points = c .before .before .before in
+    let wide : tie.After-widened = merged .before .before in
+    let both = kept wide in
+    let other = second both in
+    let half = first (opened other) in
+    let s = start half in
+    let p = s .pre in
+    cut-end (accepted s) (s .args .room) (now (s .args .sides)) (now (s .args .work)) (p .2) (p .3) (p .5)
+    (half .keep-half .ensures) (opened other .if1 .left) (other .keep-half2 .ensures) (both .if2 .left)
+    (wide .widened .ensures) (merged .merge-points .ensures) (c .if3 .left)
+
+pub cut-lists-spec : {M : Type 1} → statement M
+cut-lists-spec =
+    tie.close
+    (tie.spec
+    keep-half-requires
+    no-lists-requires
+    same-length
+    returns
+    keep-half-requires-2
+    no-lists-requires-2
+    same-length-2
+    returns-2
+    cast-n
+    cast-p
+    widened-requires
+    merge-points-requires
+    no-lists-requires-3
+    same-length-3
+    returns-3
+    same-length-4
+    returns-4)

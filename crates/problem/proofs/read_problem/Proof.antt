@@ -18,6 +18,10 @@ use Rattle.problem.proofs.Parts.{tablesPart, part-long, part-head, part
 use Rattle.problem.proofs.read_problem.Statement.{statement}
 use Rattle.problem.proofs.read_problem.Tie as tie
 
+-- where the cost records start is known
+abbrev counted : tie.After-scan-tables → tie.After-tables-start
+counted c = c .before .before
+
 -- the bytes, past each part
 abbrev bytes₁ : tie.Else1 → List ℕ
 bytes₁ c = now (c .before .before .before .args .s)
@@ -29,7 +33,7 @@ abbrev bytes₃ : tie.After-read-domains → List ℕ
 bytes₃ c = bytes₂ (c .before .before .before)
 
 abbrev bytes₄ : tie.After-scan-tables → List ℕ
-bytes₄ c = bytes₃ (c .before .before .before .before .before)
+bytes₄ c = bytes₃ (counted c .before .before .before .before)
 
 -- what each part says of them
 short : (c : tie.Else1) → length (bytes₁ c) ≤ maxBytes
@@ -50,9 +54,10 @@ here c =
 
 scanned : (c : tie.After-scan-tables) → RefusalSays (tablesPart (bytes₄ c)) (c .scan-tables .result)
 scanned c =
-    let e = c .before .before .before in
+    let e = counted c .before .before in
     let h = e .before .before .before .before .read-head in
-    tables-said _ (h .result) (e .before .before .read-domains .result) (h .ensures) (here e) (c .scan-tables .ensures)
+    let said = rw (counted c .tables-start .ensures) at (c .scan-tables .ensures) in
+    tables-said _ (h .result) (e .before .before .read-domains .result) (h .ensures) (here e) said
 
 allows-bytes-requires : tie.Need-allows-bytes-requires
 allows-bytes-requires c κs = search needs
@@ -109,22 +114,24 @@ returns-3 c =
     rw (c .refused3 .ensures)
     (reads-refused _ _ _ (ne-eqb _ _ t) (part-domains _ (short (e₂ .before .before)) (good e₂) (λ z. t (said r .number ∙ z)) ∙ same-verdict (said r .number) (said r .place)))
 
-mul-scan-tables : tie.Need-mul-scan-tables
-mul-scan-tables c = search needs
-
-add-scan-tables : tie.Need-add-scan-tables
-add-scan-tables c = search needs
+tables-start-requires : tie.Need-tables-start-requires
+tables-start-requires c κs = search needs
 
 array-share-prefix-sizes : tie.Need-array-share-prefix-sizes
-array-share-prefix-sizes c = omega (arith, here (c .before) .few, here (c .before) .room)
+array-share-prefix-sizes c =
+    let b = here (c .before .before) in
+    omega (arith, b .few, b .room)
 
 slice-aggregate-scan-tables : tie.Need-slice-aggregate-scan-tables
 slice-aggregate-scan-tables c =
-    let b = here (c .before .before) in
+    let b = here (c .before .before .before) in
     sym (length-take-le _ _ (omega (arith, b .few, b .room)))
 
 scan-tables-requires : tie.Need-scan-tables-requires
-scan-tables-requires c κs = (here (c .before .before) .end, here (c .before .before) .small)
+scan-tables-requires c κs =
+    let counted : tie.After-tables-start = c .before in
+    let b = here (counted .before .before) in
+    (rw (counted .tables-start .ensures) (b .end), b .small)
 
 refused-requires-4 : tie.Need-refused-requires-4
 refused-requires-4 c κs = search needs
@@ -132,7 +139,7 @@ refused-requires-4 c κs = search needs
 returns-4 : tie.Need-returns-4
 returns-4 c =
     let a = c .before .before .before in
-    let e₃ = a .before .before .before in
+    let e₃ = counted a .before .before in
     let e₂ = e₃ .before .before .before .before .before in
     let t = c .before .if4 .taken in
     rw (c .refused4 .ensures)
@@ -141,7 +148,7 @@ returns-4 c =
 returns-5 : tie.Need-returns-5
 returns-5 c =
     let a = c .before .before in
-    let e₃ = a .before .before .before in
+    let e₃ = counted a .before .before in
     let e₂ = e₃ .before .before .before .before .before in
     let v = part-tables (bytes₂ e₂) (short (e₂ .before .before)) (good e₂) (here e₃ .none) in
     reads-accepted _ _ _ (ap (λ x. x .number) v ∙ sym (scanned a .number) ∙ c .if4 .left) (e₃ .before .before .before .before .read-head .ensures) (here e₃ .filled)
@@ -164,8 +171,7 @@ read-problem-spec =
     read-domains-requires
     refused-requires-3
     returns-3
-    mul-scan-tables
-    add-scan-tables
+    tables-start-requires
     array-share-prefix-sizes
     slice-aggregate-scan-tables
     scan-tables-requires

@@ -1,100 +1,133 @@
--- `solve_with` meets its contract: each return hands what the callees ensure to one law of SolveAnswers or SolveEnds.
-use mathlib.Core.Path.{refl}
+-- `solving::solve_with` meets its contract: what is refused before the search changes nothing, and what was found is
+-- handed to one law of SolveEnds.
+use mathlib.Core.Path.{_≡_, _∙_}
+use mathlib.Core.List.{List}
+use Prim.Native.Nat.{ℕ, _≤_}
 use native.Mathlib.Omega.{arith}
+use lib.ListN.{length}
 use denote.Ref.{now}
 use borrow.Author.Needs.{needs}
-use Rattle.model.proofs.Places.{place-limit, refused-number}
-use Rattle.problem.proofs.Accepted.{read-accepted}
-use Rattle.solving.proofs.ListVerdicts.{refused-verdict, short-verdict}
-use Rattle.solving.proofs.SolveAnswers.{unchanged-solve}
+use Rattle.model.specs.Basics.{All}
+use Rattle.model.specs.Limits.{workNeed}
 use Rattle.model.specs.Encoding.{Byte}
 use Rattle.model.proofs.Elements.{all-each}
-use Rattle.solving.proofs.SolveEnds.{full-end, costs-asked, choices-asked, list-end}
+use Rattle.problem.proofs.Accepted.{AcceptedReading}
+use Rattle.answers.proofs.Early.{early-said, early-place, early-accepted, early-enough, early-none}
+use Rattle.answers.proofs.SolveAnswers.{unchanged-solve}
+use Rattle.answers.proofs.SolveEnds.{solve-few, solve-asked, solve-end}
 use Rattle.solving.proofs.solve_with.Statement.{statement}
 use Rattle.solving.proofs.solve_with.Tie as tie
+
+-- ## the places: read, accepted, searched
+
+abbrev lent : tie.After-read-problem → tie.After-slice-known
+lent c = c .before .before .before
+
+abbrev start : tie.After-read-problem → tie.Start
+start c = lent c .before .before
+
+abbrev bytes : tie.After-read-problem → List ℕ
+bytes c = now (start c .args .problem)
+
+are-bytes : (c : tie.After-read-problem) → All Byte (bytes c)
+are-bytes c = all-each Byte 0 (bytes c) (λ i. omega (arith, lent c .before .shared-slice-known .given i))
+
+abbrev memory : tie.After-read-problem → List ℕ
+memory c = now (start c .args .work)
+
+abbrev told : tie.Else1 → tie.After-early-refusal
+told c = c .before .before
+
+abbrev read : tie.Else1 → tie.After-read-problem
+read c = told c .before
+
+accepted : (c : tie.Else1) → AcceptedReading (bytes (read c)) (read c .read-problem .result)
+accepted c =
+    let g = read c .read-problem in
+    early-accepted (bytes (read c)) (length (memory (read c))) (g .result) (g .ensures) (told c .early-refusal .ensures)
+    (c .if1 .left)
+
+enough : (c : tie.Else1) → workNeed ≤ length (memory (read c))
+enough c =
+    let g = read c .read-problem in
+    early-enough (bytes (read c)) (length (memory (read c))) (g .result) (g .ensures) (told c .early-refusal .ensures)
+    (c .if1 .left)
+
+abbrev opened : tie.After-flat-room → tie.Else1
+opened c = c .before .before
+
+abbrev roomed : tie.After-find-list → tie.After-flat-room
+roomed c = c .before .before
+
+abbrev searched : tie.After-slice-known4 → tie.After-find-list
+searched c = c .before .before
+
+abbrev copied : tie.After-slice-known7 → tie.After-copy-out
+copied c = let chosen : tie.After-slice-known5 = c .before .before .before .before in chosen .before .before
+
+-- ## refused before the search
 
 read-problem-requires : tie.Need-read-problem-requires
 read-problem-requires c κs = search needs
 
-cast-refused : tie.Need-cast-refused
-cast-refused c = omega (arith, c .before .before .before .read-problem .ensures .place, place-limit (now (c .before .before .before .before .before .before .before .before .args .problem)))
+early-refusal-requires : tie.Need-early-refusal-requires
+early-refusal-requires c κs = search needs
 
 refused-requires : tie.Need-refused-requires
-refused-requires c κs = search needs
+refused-requires c κs =
+    let early : tie.After-early-refusal = c .before .before in
+    let g = early .before .read-problem in
+    early-place (bytes (early .before)) (length (memory (early .before))) (g .result) (g .ensures)
+    (early .early-refusal .ensures)
 
 returns : tie.Need-returns
 returns c =
-    let g = c .before .before .before .before .read-problem in
-    let s = now (c .before .before .before .before .before .before .before .before .before .args .problem) in
-    let taken = c .before .before .if1 .taken in
-    rw (c .refused .ensures) (unchanged-solve s _ _ _ _ (refused-verdict s _ _ (g .result .number) (g .ensures .number) taken) (g .result .number) (g .result .place) (g .ensures .number) (g .ensures .place) taken (λ z. omega (arith, z, g .ensures .number, refused-number s)))
+    let stopped : tie.Then1 = c .before in
+    let early : tie.After-early-refusal = stopped .before .before in
+    let g = early .before .read-problem in
+    let a = start (early .before) .args in
+    let said =
+    early-said (bytes (early .before)) (length (memory (early .before))) (g .result) (g .ensures)
+    (early .early-refusal .ensures) in
+    rw (c .refused .ensures)
+    (unchanged-solve (now (a .problem)) (now (a .costs)) (now (a .choices)) (now (a .work))
+    (early .early-refusal .result) said (stopped .if1 .taken))
 
-refused-requires-2 : tie.Need-refused-requires-2
-refused-requires-2 c κs = search needs
+-- ## the search
 
-returns-2 : tie.Need-returns-2
-returns-2 c =
-    let a = read-accepted _ (c .before .before .before .before .read-problem .result) (c .before .before .before .before .read-problem .ensures) (c .before .before .if1 .left) in
-    rw (c .refused2 .ensures) (unchanged-solve _ _ _ _ _ (short-verdict _ _ _ (a .none) (c .before .if2 .taken)) _ _ refl refl (λ z. omega arith) (λ z. omega arith))
-
-cast-n : tie.Need-cast-n
-cast-n c = search needs
-
-cast-p : tie.Need-cast-p
-cast-p c = search needs
-
-room-of-requires : tie.Need-room-of-requires
-room-of-requires c κs =
-    let a = read-accepted _ (c .before .before .before .before .before .before .read-problem .result) (c .before .before .before .before .before .before .read-problem .ensures) (c .before .before .before .before .if1 .left) in
+flat-room-requires : tie.Need-flat-room-requires
+flat-room-requires c κs =
+    let a = accepted (c .before) in
     (a .few-objectives .0, a .few-variables .0)
 
-find-rows-requires : tie.Need-find-rows-requires
-find-rows-requires c κs = search needs
+find-list-requires : tie.Need-find-list-requires
+find-list-requires c κs =
+    let room : tie.After-flat-room = c .before in
+    let g = read (opened room) .read-problem in
+    let none = g .ensures .number ∙ accepted (opened room) .none in
+    let long = enough (opened room) in
+    (record { read = g .ensures; none = none; memory = omega (arith, long) }, omega (arith, room .flat-room .ensures))
 
-clear-requires : tie.Need-clear-requires
-clear-requires c κs = search needs
+copy-out-requires : tie.Need-copy-out-requires
+copy-out-requires c κs =
+    let found = searched (c .before .before .before) in
+    let open-at = opened (roomed found) in
+    let a = start (read open-at) .args in
+    solve-asked (accepted open-at) (now (a .costs)) (now (a .choices)) (now (a .work)) (enough open-at)
+    (roomed found .flat-room .ensures) (found .find-list .ensures) (are-bytes (read open-at))
 
-refused-requires-3 : tie.Need-refused-requires-3
-refused-requires-3 c κs = search needs
+-- ## the answer
+
+answer-of-requires : tie.Need-answer-of-requires
+answer-of-requires c κs =
+    let found = searched (copied c .before .before .before .before) in
+    let open-at = opened (roomed found) in
+    let a = start (read open-at) .args in
+    solve-few (accepted open-at) (now (a .costs)) (now (a .choices)) (now (a .work)) (enough open-at)
+    (roomed found .flat-room .ensures) (found .find-list .ensures)
 
 same-length : tie.Need-same-length
 same-length c = search needs
-
-returns-3 : tie.Need-returns-3
-returns-3 c =
-    let a = read-accepted _ (c .before .before .before .before .before .before .before .before .before .before .before .before .before .before .before .before .before .read-problem .result) (c .before .before .before .before .before .before .before .before .before .before .before .before .before .before .before .before .before .read-problem .ensures) (c .before .before .before .before .before .before .before .before .before .before .before .before .before .before .before .if1 .left) in
-    rw (c .refused3 .ensures) (full-end _ _ a _ _ _ (c .before .before .before .before .before .before .before .before .before .before .before .before .before .before .if2 .left) _ (c .before .before .before .before .before .before .before .before .before .before .room-of .ensures) _ _ (c .before .before .before .before .before .before .before .before .find-rows .ensures) _ (c .before .before .before .before .before .if3 .taken) (c .before .before .before .clear .ensures))
-
-copy-costs-requires : tie.Need-copy-costs-requires
-copy-costs-requires c κs =
-    let if3 = c .before .before in
-    let found = if3 .before .before .before in
-    let room = found .before .before in
-    let if2 = room .before .before .before .before in
-    let if1 = if2 .before in
-    let read = if1 .before .before in
-    let known = read .before .before .before .before in
-    let s = known .before .args in
-    let a = read-accepted _ (read .read-problem .result) (read .read-problem .ensures) (if1 .if1 .left) in
-    let bytes = all-each Byte 0 (now (s .problem)) (λ i. omega (arith, known .shared-slice-known .given i)) in
-    costs-asked _ _ a (now (s .costs)) (now (s .choices)) _ (if2 .if2 .left) _ (room .room-of .ensures) _ _
-    (found .find-rows .ensures) (if3 .if3 .left) bytes
-
-copy-choices-requires : tie.Need-copy-choices-requires
-copy-choices-requires c κs =
-    let s = c .before .before .before .before .before .before .before .before .before .before .before .before .before .before .before .before .before .before .before .before .before .before .before .before .args in
-    let a = read-accepted _ (c .before .before .before .before .before .before .before .before .before .before .before .before .before .before .before .before .before .before .before .read-problem .result) (c .before .before .before .before .before .before .before .before .before .before .before .before .before .before .before .before .before .before .before .read-problem .ensures) (c .before .before .before .before .before .before .before .before .before .before .before .before .before .before .before .before .before .if1 .left) in
-    choices-asked _ _ a (now (s .costs)) (now (s .choices)) _ (c .before .before .before .before .before .before .before .before .before .before .before .before .before .before .before .before .if2 .left) _ (c .before .before .before .before .before .before .before .before .before .before .before .before .room-of .ensures) _ _ (c .before .before .before .before .before .before .before .before .before .before .find-rows .ensures) (c .before .before .before .before .before .before .before .if3 .left)
-
-clear-requires-2 : tie.Need-clear-requires-2
-clear-requires-2 c κs = search needs
-
-cast-t33 : tie.Need-cast-t33
-cast-t33 c =
-    let s = c .before .before .before .before .before .before .before .before .before .before .before .before .before .before .before .before .before .before .before .before .before .before .before .before .before .before .before .before .before .before .before .args in
-    let a = read-accepted _ (c .before .before .before .before .before .before .before .before .before .before .before .before .before .before .before .before .before .before .before .before .before .before .before .before .before .before .read-problem .result) (c .before .before .before .before .before .before .before .before .before .before .before .before .before .before .before .before .before .before .before .before .before .before .before .before .before .before .read-problem .ensures) (c .before .before .before .before .before .before .before .before .before .before .before .before .before .before .before .before .before .before .before .before .before .before .before .before .if1 .left) in
-    let k = choices-asked _ _ a (now (s .costs)) (now (s .choices)) _ (c .before .before .before .before .before .before .before .before .before .before .before .before .before .before .before .before .before .before .before .before .before .before .before .if2 .left) _ (c .before .before .before .before .before .before .before .before .before .before .before .before .before .before .before .before .before .before .before .room-of .ensures) _ _ (c .before .before .before .before .before .before .before .before .before .before .before .before .before .before .before .before .before .find-rows .ensures) (c .before .before .before .before .before .before .before .before .before .before .before .before .before .before .if3 .left) in
-    omega (arith, k .1)
 
 same-length-2 : tie.Need-same-length-2
 same-length-2 c = search needs
@@ -102,37 +135,33 @@ same-length-2 c = search needs
 same-length-3 : tie.Need-same-length-3
 same-length-3 c = search needs
 
-same-length-4 : tie.Need-same-length-4
-same-length-4 c = search needs
-
-returns-4 : tie.Need-returns-4
-returns-4 c =
-    let a = read-accepted _ (c .before .before .before .before .before .before .before .before .before .before .before .before .before .before .before .before .before .before .before .before .before .before .before .before .before .before .read-problem .result) (c .before .before .before .before .before .before .before .before .before .before .before .before .before .before .before .before .before .before .before .before .before .before .before .before .before .before .read-problem .ensures) (c .before .before .before .before .before .before .before .before .before .before .before .before .before .before .before .before .before .before .before .before .before .before .before .before .if1 .left) in
-    list-end _ _ a _ _ _ (c .before .before .before .before .before .before .before .before .before .before .before .before .before .before .before .before .before .before .before .before .before .before .before .if2 .left) _ (c .before .before .before .before .before .before .before .before .before .before .before .before .before .before .before .before .before .before .before .room-of .ensures) _ _ (c .before .before .before .before .before .before .before .before .before .before .before .before .before .before .before .before .before .find-rows .ensures) (c .before .before .before .before .before .before .before .before .before .before .before .before .before .before .if3 .left) _ _ _ (c .before .before .before .before .before .before .before .before .before .before .before .copy-costs .ensures) (c .before .before .before .before .before .before .copy-choices .ensures) (c .before .before .clear2 .ensures)
+returns-2 : tie.Need-returns-2
+returns-2 c =
+    let out = copied (c .before) in
+    let found = searched (out .before .before .before .before) in
+    let open-at = opened (roomed found) in
+    let g = read open-at .read-problem in
+    let a = start (read open-at) .args in
+    let none =
+    early-none (now (a .problem)) (length (now (a .work))) (g .result) (g .ensures)
+    (told open-at .early-refusal .ensures) (open-at .if1 .left) in
+    rw (c .answer-of .ensures)
+    (solve-end (accepted open-at) (now (a .costs)) (now (a .choices)) (now (a .work)) (enough open-at)
+    (roomed found .flat-room .ensures) (found .find-list .ensures) none (out .copy-out .ensures))
 
 pub solve-with-spec : {M : Type 1} → statement M
 solve-with-spec =
     tie.close
     (tie.spec
     read-problem-requires
-    cast-refused
+    early-refusal-requires
     refused-requires
     returns
-    refused-requires-2
-    returns-2
-    cast-n
-    cast-p
-    room-of-requires
-    find-rows-requires
-    clear-requires
-    refused-requires-3
+    flat-room-requires
+    find-list-requires
+    copy-out-requires
+    answer-of-requires
     same-length
-    returns-3
-    copy-costs-requires
-    copy-choices-requires
-    clear-requires-2
-    cast-t33
     same-length-2
     same-length-3
-    same-length-4
-    returns-4)
+    returns-2)

@@ -1,4 +1,0 @@
--- Laws of the cut call.
-pub mod CutRefusals
-pub mod CutAnswers
-pub mod CutEnds

@@ -1,2 +1,0 @@
--- What the cut promises.
-pub mod Says

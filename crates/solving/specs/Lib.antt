@@ -1,2 +1,0 @@
--- What listing a problem promises.
-pub mod Says
