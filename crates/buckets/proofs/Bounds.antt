@@ -21,7 +21,8 @@ use Rattle.directions.specs.declared.Directions as DD
 use Rattle.directions.proofs.DirectionLaws.{directions-limit}
 use Rattle.buckets.specs.Places.{maxMessages, positionIn, recordEnd, childEnd, messageEnd}
 use Rattle.buckets.specs.Messages.{sumOver, countFrom, messageAt, sentOver, receivedOver}
-use Rattle.buckets.specs.Bounds.{costsOver, recordsOver, spanAt, baseSpan, contentAt, sentAt, baseAt, boundAt, Agree}
+use Rattle.buckets.specs.Bounds.{costsOver, recordsOver, spanAt, baseSpan}
+use Rattle.buckets.specs.Bounds.{contentAt, sentAt, baseAt, boundAt, Agree}
 use Rattle.buckets.specs.Sound.{ReadsBefore, ScopeBefore, Tested, Sound}
 use Rattle.buckets.specs.Content.{Planned}
 use Rattle.buckets.proofs.Sums.{placesOver-all, childrenOver-all, sent-split, received-split}
@@ -78,7 +79,8 @@ module _ {d : DD.Directions} {r : ℕ} {ds s plan : List ℕ} (t : Tested d r ds
   -- a bucket, what it sends and the bound of the positions before it
   pub content-local : (k : ℕ) → k < length ds → (x y : List ℕ) → length x ≡ length ds → length y ≡ length ds → Agree plan (k + 1) x y → (j : ℕ) → contentAt d ds s plan k x j ≡ contentAt d ds s plan k y j
   content-local k l x y e f h j =
-      content-reads (λ v. positionIn plan v < k + 1) x y (agree-reads plan (k + 1) x y (e ∙ sym f) h) d ds s plan (spanAt plan k)
+      content-reads (λ v. positionIn plan v < k + 1) x y (agree-reads plan (k + 1) x y (e ∙ sym f) h) d ds s plan
+      (spanAt plan k)
       (placesOver-all (ScopeBefore s plan (k + 1)) plan (recordEnd plan (k + 1)) (recordEnd plan k) r (records-inside k (omega arith)) (t .early .records (k + 1) (omega arith)))
       (childrenOver-all (ReadsBefore plan (k + 1)) plan (childEnd plan (k + 1)) (childEnd plan k) maxMessages (children-inside k (omega arith)) (t .early .children (k + 1) (omega arith)))
       j
@@ -90,7 +92,8 @@ module _ {d : DD.Directions} {r : ℕ} {ds s plan : List ℕ} (t : Tested d r ds
 
   base-local : (x y : List ℕ) → length x ≡ length ds → length y ≡ length ds → Agree plan 0 x y → (j : ℕ) → baseAt d ds s plan r x j ≡ baseAt d ds s plan r y j
   base-local x y e f h j =
-      content-reads (λ v. positionIn plan v < 0) x y (agree-reads plan 0 x y (e ∙ sym f) h) d ds s plan (baseSpan plan r)
+      content-reads (λ v. positionIn plan v < 0) x y (agree-reads plan 0 x y (e ∙ sym f) h) d ds s plan
+      (baseSpan plan r)
       (t .early .records 0 (omega arith)) (rw (t .ends .messages-first) (t .early .children 0 (omega arith))) j
 
   bound-reads : (k : ℕ) → k ≤ length ds → (x y : List ℕ) → length x ≡ length ds → length y ≡ length ds → Agree plan k x y → (j : ℕ) → boundAt d ds s plan r k x j ≡ boundAt d ds s plan r k y j

@@ -91,7 +91,11 @@ module _ (x y z u : ℕ) where
   counted-sum (suc (suc (suc (suc zero)))) h a b c e = omega arith
   counted-sum (suc (suc (suc (suc (suc p))))) h a b c e = absurd (omega arith)
 
-  pub sum-counted : (p : ℕ) → p ≤ 4 → (ws : List ℕ) (i : ℕ) → 4 * i + 4 ≤ length ws → fourSum ws (record { one = when (ltb 0 p) x; two = when (ltb 1 p) y; three = when (ltb 2 p) z; four = when (ltb 3 p) u }) i ≡ weighted (take p (drop (4 * i) ws)) (fore p)
+  pub sum-counted :
+      (p : ℕ) → p ≤ 4 → (ws : List ℕ) (i : ℕ) → 4 * i + 4 ≤ length ws
+      → fourSum ws
+      (record { one = when (ltb 0 p) x; two = when (ltb 1 p) y; three = when (ltb 2 p) z; four = when (ltb 3 p) u })
+      i ≡ weighted (take p (drop (4 * i) ws)) (fore p)
   sum-counted p h ws i l =
       let row : take p (getD ws (4 * i) 0 ∷ getD ws (4 * i + 1) 0 ∷ getD ws (4 * i + 2) 0 ∷ getD ws (4 * i + 3) 0 ∷ []) ≡ take p (drop (4 * i) ws) = rw (row-read ws (4 * i) l) (take-take p 4 (drop (4 * i) ws) h) in
       rw (← row) (counted-sum p h (getD ws (4 * i) 0) (getD ws (4 * i + 1) 0) (getD ws (4 * i + 2) 0) (getD ws (4 * i + 3) 0))
@@ -153,7 +157,8 @@ pub value-directed :
     → t .one ≡ when (ltb 0 p) (getD totals (4 * a) 0) → t .two ≡ when (ltb 1 p) (getD totals (4 * a + 1) 0)
     → t .three ≡ when (ltb 2 p) (getD totals (4 * a + 2) 0) → t .four ≡ when (ltb 3 p) (getD totals (4 * a + 3) 0)
     → PartFilled (fourSum ws t) (8 * a + p) sums
-    (set (set (set (set rows (8 * a) (t .one)) (8 * a + 1) (t .two)) (8 * a + 2) (t .three)) (8 * a + 3) (t .four)) rows′
+    (set (set (set (set rows (8 * a) (t .one)) (8 * a + 1) (t .two)) (8 * a + 2) (t .three)) (8 * a + 3) (t .four))
+    rows′
     → RowFilled (λ j. getD (directionsOf (record { objectives = p; sums = sums; weights = ws })
     (take p (take 4 (drop (4 * a) totals)))) j 0) (8 * a) rows rows′
 value-directed p sums ws totals a rows rows′ t few few-sums table inside room blank e f g h put =

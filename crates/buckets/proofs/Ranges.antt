@@ -51,6 +51,7 @@ module _ (w : ℕ) (plan : List ℕ) (i to : ℕ) (y : List ℕ) (j : ℕ) where
   unfolding sumOver
   sent-none h = rw (count-none i to h) refl
 
-pub sent-one : (w : ℕ) (plan : List ℕ) (g : ℕ) (y : List ℕ) (j : ℕ) → sentOver w plan g (g + 1) y j ≡ messageAt w plan y j g
+pub sent-one :
+    (w : ℕ) (plan : List ℕ) (g : ℕ) (y : List ℕ) (j : ℕ) → sentOver w plan g (g + 1) y j ≡ messageAt w plan y j g
 sent-one w plan g y j =
     omega (arith, sent-next w plan g (g + 1) y j (omega arith), sent-none w plan (g + 1) (g + 1) y j (omega arith))

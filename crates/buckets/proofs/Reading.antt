@@ -96,7 +96,9 @@ pub content-split :
     → contentOver d ds s plan a y j + contentOver d ds s plan b y j ≡ contentOver d ds s plan (joined a b) y j
 content-split d ds s plan a b u w e f y j =
     let records = records-split d ds s plan (a .from) (a .to) (b .to) (u .records) (omega (arith, w .records)) y j in
-    let received = received-split (widthOf d) plan (a .first) (a .last) (b .last) (u .children) (omega (arith, w .children)) y j in
+    let received =
+    received-split (widthOf d) plan (a .first) (a .last) (b .last) (u .children) (omega (arith, w .children)) y
+    j in
     rw (← e, ← f) (omega (arith, records, received))
 
 -- what begins at the same place and ends earlier holds at most as much

@@ -59,7 +59,11 @@ module _ (w : ℕ) (plan : List ℕ) (g n u t u′ t′ : ℕ) (start : n ≡ ge
       let first : fieldIn plan g 0 ≡ getD plan (messagesAt + messageWidth * g) 0 = rw add-zero refl in
       cc
 
-  pub message-runs : n < wordEnd → t < wordEnd → t′ < wordEnd → w ≤ 8 → (v : ℕ) (x : List ℕ) (a b : DP.Progression) → TermSays u t v x a → TermSays u′ t′ v x b → MessageSays w plan g v x (record { first = n + w * (a .first + b .first); stride = w * (a .stride + b .stride) })
+  pub message-runs :
+      n < wordEnd → t < wordEnd → t′ < wordEnd → w ≤ 8 → (v : ℕ) (x : List ℕ) (a b : DP.Progression)
+      → TermSays u t v x a → TermSays u′ t′ v x b
+      → MessageSays w plan g v x
+      (record { first = n + w * (a .first + b .first); stride = w * (a .stride + b .stride) })
   message-runs small narrow narrow′ few v x a b p q =
       record {
         start = λ k. sym (message-start-is (set x v k) (getD (set x v k) u 0) (getD (set x v k) u′ 0) refl refl) ∙ rw (p .term k, q .term k) (scaled n w k (a .first) (b .first) (a .stride) (b .stride));

@@ -57,13 +57,20 @@ module _ {n r : ℕ} {s plan marks : List ℕ} {to last k : ℕ} (t : Testing n 
   testing-bucket : BucketIn (Marked marks) s plan tested → BucketIn (Before plan k) s plan (behindSpan plan r k)
   testing-bucket b =
       let rest : DS.Span = record { from = to; to = r; first = last; last = maxMessages } in
-      let ranged : Ranged tested = record { records = t .records .0; children = t .children .0; children-end = t .children .1 } in
-      let ranged′ : Ranged rest = record { records = t .records .1; children = t .children .1; children-end = omega arith } in
+      let ranged : Ranged tested =
+      record { records = t .records .0; children = t .children .0; children-end = t .children .1 } in
+      let ranged′ : Ranged rest =
+      record { records = t .records .1; children = t .children .1; children-end = omega arith } in
       bucket-join (Before plan k) s plan tested rest ranged ranged′ refl refl
       (bucket-map (Marked marks) (Before plan k) (t .marked) s plan tested b)
       (t .behind)
 
-  pub testing-next : Ordered n plan → Ends n r plan → k < n → BucketIn (Marked marks) s plan tested → All (Reads (Marked marks) plan) (countFrom (messageEnd plan (k + 1)) (messageEnd plan k - messageEnd plan (k + 1))) → (marks′ : List ℕ) → marks′ ≡ set marks (orderIn plan k) 1 → Testing n r s plan marks′ (recordEnd plan k) (childEnd plan k) (k + 1)
+  pub testing-next :
+      Ordered n plan → Ends n r plan → k < n → BucketIn (Marked marks) s plan tested
+      → All (Reads (Marked marks) plan)
+      (countFrom (messageEnd plan (k + 1)) (messageEnd plan k - messageEnd plan (k + 1)))
+      → (marks′ : List ℕ) → marks′ ≡ set marks (orderIn plan k) 1
+      → Testing n r s plan marks′ (recordEnd plan k) (childEnd plan k) (k + 1)
   testing-next o e more b m marks′ is =
       let own : (v : ℕ) → Marked marks′ v → Before plan (k + 1) v = λ v h.
       ⊎-elim
@@ -77,20 +84,26 @@ module _ {n r : ℕ} {s plan marks : List ℕ} {to last k : ℕ} (t : Testing n 
         marked = own;
         records = (e .records k more, omega (arith, t .records .0, t .records .1));
         children = (e .children k more, omega (arith, t .children .0, t .children .1));
-        behind = bucket-map (Before plan k) (Before plan (k + 1)) (λ v h. omega arith) s plan (behindSpan plan r k) whole;
+        behind =
+            bucket-map (Before plan k) (Before plan (k + 1)) (λ v h. omega arith) s plan (behindSpan plan r k)
+            whole;
         done = below-more (λ m. BucketIn (Before plan m) s plan (behindSpan plan r m)) k (t .done) whole;
         sent = below-more (λ m. All (ReadsBefore plan m) (countFrom (messageEnd plan (m + 1)) (messageEnd plan m - messageEnd plan (m + 1)))) k (t .sent) (all-map (Reads (Marked marks) plan) (ReadsBefore plan k) (λ g. reads-map (Marked marks) (Before plan k) (t .marked) plan g) (countFrom (messageEnd plan (k + 1)) (messageEnd plan k - messageEnd plan (k + 1))) m);
       }
 
-  pub testing-end : Ends n r plan → n ≤ k → BucketIn (Marked marks) s plan (record { from = 0; to = to; first = 0; last = last }) → Early n r s plan
+  pub testing-end :
+      Ends n r plan → n ≤ k → BucketIn (Marked marks) s plan (record { from = 0; to = to; first = 0; last = last })
+      → Early n r s plan
   testing-end e all b =
       let same : k ≡ n = omega (arith, t .few) in
       let records-zero : 0 ≡ recordEnd plan k = sym (ap (recordEnd plan) same ∙ e .records-last) in
       let children-zero : 0 ≡ childEnd plan k = sym (ap (childEnd plan) same ∙ e .children-last) in
+      let span : ℕ → ℕ → DS.Span = λ from first. record { from = from; to = to; first = first; last = last } in
       let front =
-      subst (λ (i : ℕ). BucketIn (Marked marks) s plan (record { from = i; to = to; first = childEnd plan k; last = last })) records-zero
-      (subst (λ (i : ℕ). BucketIn (Marked marks) s plan (record { from = 0; to = to; first = i; last = last })) children-zero b) in
-      let each = below-more (λ m. BucketIn (Before plan m) s plan (behindSpan plan r m)) k (t .done) (testing-bucket front) in
+      subst (λ (i : ℕ). BucketIn (Marked marks) s plan (span i (childEnd plan k))) records-zero
+      (subst (λ (i : ℕ). BucketIn (Marked marks) s plan (span 0 i)) children-zero b) in
+      let each =
+      below-more (λ m. BucketIn (Before plan m) s plan (behindSpan plan r m)) k (t .done) (testing-bucket front) in
       record {
         records = λ m h. each m (omega arith) .records;
         children = λ m h. each m (omega arith) .children;

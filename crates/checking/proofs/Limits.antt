@@ -3,7 +3,7 @@ use mathlib.Core.List.{List}
 use Prim.Native.Nat.{ℕ, _<_}
 use native.Mathlib.Omega.{arith}
 use lib.ListN.{length, getD}
-use Rattle.groups.proofs.ScopeSteps.{whole-inside}
+use Rattle.problem.proofs.Scopes.{whole-inside}
 use Rattle.directions.specs.declared.Directions as DD
 use Rattle.buckets.specs.Content.{Planned}
 use Rattle.buckets.specs.Sound.{Ordered, Ends}

@@ -37,8 +37,12 @@ module _ (P Q : ℕ → Type 0) (f : (v : ℕ) → P v → Q v) where
   pub bucket-map : (s plan : List ℕ) (span : DS.Span) → BucketIn P s plan span → BucketIn Q s plan span
   bucket-map s plan span b =
       record {
-        records = all-map (ScopeIn P s) (ScopeIn Q s) (λ at. all-map P Q f (tableScope (drop at s))) (placesOver plan (span .from) (span .to)) (b .records);
-        children = all-map (Reads P plan) (Reads Q plan) (λ g. reads-map plan g) (childrenOver plan (span .first) (span .last)) (b .children);
+        records =
+            all-map (ScopeIn P s) (ScopeIn Q s) (λ at. all-map P Q f (tableScope (drop at s)))
+            (placesOver plan (span .from) (span .to)) (b .records);
+        children =
+            all-map (Reads P plan) (Reads Q plan) (λ g. reads-map plan g)
+            (childrenOver plan (span .first) (span .last)) (b .children);
       }
 
 -- two spans that follow each other
@@ -53,10 +57,12 @@ bucket-join P s plan a b u w e f p q =
     record {
       records =
           rw (placesOver-split plan (a .from) (a .to) (b .to) (u .records) rise)
-          (all-append (ScopeIn P s) (placesOver plan (a .from) (a .to)) (placesOver plan (a .to) (b .to)) (p .records) records);
+          (all-append (ScopeIn P s) (placesOver plan (a .from) (a .to)) (placesOver plan (a .to) (b .to))
+          (p .records) records);
       children =
           rw (childrenOver-split plan (a .first) (a .last) (b .last) (u .children) rise′)
-          (all-append (Reads P plan) (childrenOver plan (a .first) (a .last)) (childrenOver plan (a .last) (b .last)) (p .children) children);
+          (all-append (Reads P plan) (childrenOver plan (a .first) (a .last)) (childrenOver plan (a .last) (b .last))
+          (p .children) children);
     }
 
 -- the marks of a part are on its own variable and on those of its message

@@ -38,16 +38,25 @@ most-at (suc n) (suc i) = most-at n i
 
 module _ (d : DD.Directions) (ds s plan : List ℕ) (p : DP.Part) where
   -- the rows of a choice
-  pub choice-leaves : (x left rows number : List ℕ) → Filled d ds s plan (p .span) (p .own) x rows → Summed (widthOf d) plan (p .message) (p .message + 1) x number → ((a : ℕ) → a < getD ds (p .own) 0 → RowLeft (widthOf d) (8 * a) number (p .rest) rows left) → ChoiceLeaves d ds s plan p left x
+  pub choice-leaves :
+      (x left rows number : List ℕ) → Filled d ds s plan (p .span) (p .own) x rows
+      → Summed (widthOf d) plan (p .message) (p .message + 1) x number
+      → ((a : ℕ) → a < getD ds (p .own) 0 → RowLeft (widthOf d) (8 * a) number (p .rest) rows left)
+      → ChoiceLeaves d ds s plan p left x
   choice-leaves x left rows number filled summed h a j l m =
       omega (arith, h a l j m, filled a j l m .0, summed j m .0, sent-one (widthOf d) plan (p .message) x j)
 
   -- what is less still does
-  pub pair-lowered : (i j : ℕ) (left left′ : List ℕ) → Lowered left left′ → PairLeaves d ds s plan p i j left → PairLeaves d ds s plan p i j left′
+  pub pair-lowered :
+      (i j : ℕ) (left left′ : List ℕ) → Lowered left left′ → PairLeaves d ds s plan p i j left
+      → PairLeaves d ds s plan p i j left′
   pair-lowered i j left left′ less h y c e f k l = omega (arith, h y c e f k l, less (8 * getD y (p .own) 0 + k))
 
   -- a choice that has the values i and j of the message's variables has, but for its own variable, all that the part reads as the choice x has it
-  pub pair-leaves : (i j : ℕ) (x left : List ℕ) → p .own < length ds → Fits s plan p → x ≡ set (set (replicate (length ds) 0) (fieldIn plan (p .message) 1) i) (fieldIn plan (p .message) 3) j → ChoiceLeaves d ds s plan p left x → PairLeaves d ds s plan p i j left
+  pub pair-leaves :
+      (i j : ℕ) (x left : List ℕ) → p .own < length ds → Fits s plan p
+      → x ≡ set (set (replicate (length ds) 0) (fieldIn plan (p .message) 1) i) (fieldIn plan (p .message) 3) j
+      → ChoiceLeaves d ds s plan p left x → PairLeaves d ds s plan p i j left
   pair-leaves i j x left own fits is h y c e f k l =
       let u = fieldIn plan (p .message) 1 in
       let v = fieldIn plan (p .message) 3 in
@@ -63,7 +72,11 @@ module _ (d : DD.Directions) (ds s plan : List ℕ) (p : DP.Part) where
       let at-third : (w : ℕ) → PartReads plan p w → getD third w 0 ≡ getD y w 0 = λ w. ⊎-elim (λ (q : w ≡ p .own). set-toward second y long″ (p .own) w (inl q)) (λ (q : (w ≡ u) ⊎ (w ≡ v)). set-toward second y long″ (p .own) w (inr (at-second w q))) in
       let x-is : x ≡ second = rw (e, f) is in
       let number : messageAt (widthOf d) plan x k (p .message) ≡ messageAt (widthOf d) plan y k (p .message) = rw x-is (message-reads (λ w. (w ≡ u) ⊎ (w ≡ v)) second y at-second (widthOf d) plan k (p .message) (inr (inl refl), inr (inr refl))) in
-      let held : contentOver d ds s plan (p .span) (set x (p .own) (getD y (p .own) 0)) k ≡ contentOver d ds s plan (p .span) y k = rw x-is (content-reads (PartReads plan p) third y at-third d ds s plan (p .span) (fits .records) (fits .children) k) in
+      let third-reads =
+      content-reads (PartReads plan p) third y at-third d ds s plan (p .span) (fits .records) (fits .children) k in
+      let held :
+      contentOver d ds s plan (p .span) (set x (p .own) (getD y (p .own) 0)) k
+      ≡ contentOver d ds s plan (p .span) y k = rw x-is third-reads in
       omega (arith, h (getD y (p .own) 0) k (value-below ds y c (p .own) own) l, number, held)
 
 -- the first c pairs of values are done, eight to each value of the first variable
@@ -77,14 +90,17 @@ module _ {d : DD.Directions} {ds s plan : List ℕ} {p : DP.Part} where
   part-start = record { few = omega arith; rows = record { long = refl; small = λ i. most-at 64 i }; pairs = λ i j l h. absurd (omega arith) }
 
   module _ {c : ℕ} {left : List ℕ} (t : PartSteps d ds s plan p c left) where
-    pub part-next : c < 64 → (left′ : List ℕ) → length left′ ≡ length left → Lowered left left′ → PairLeaves d ds s plan p (c / 8) (c % 8) left′ → PartSteps d ds s plan p (c + 1) left′
+    pub part-next :
+        c < 64 → (left′ : List ℕ) → length left′ ≡ length left → Lowered left left′
+        → PairLeaves d ds s plan p (c / 8) (c % 8) left′ → PartSteps d ds s plan p (c + 1) left′
     part-next more left′ same less pair =
         record {
           few = omega arith;
           rows = record { long = same ∙ t .rows .long; small = λ i. omega (arith, less i, t .rows .small i) };
           pairs = λ i j l h.
               ⊎-elim
-              (λ (q : ltb (8 * i + j) c ≡ true). pair-lowered d ds s plan p i j left left′ less (t .pairs i j l (ltb-true (8 * i + j) c q)))
+              (λ (q : ltb (8 * i + j) c ≡ true).
+              pair-lowered d ds s plan p i j left left′ less (t .pairs i j l (ltb-true (8 * i + j) c q)))
               (λ (q : ltb (8 * i + j) c ≡ false).
               let first : c / 8 ≡ i = omega (arith, ltb-false (8 * i + j) c q) in
               let second : c % 8 ≡ j = omega (arith, ltb-false (8 * i + j) c q) in
@@ -92,7 +108,8 @@ module _ {d : DD.Directions} {ds s plan : List ℕ} {p : DP.Part} where
               (test (ltb (8 * i + j) c));
         }
 
-    pub part-end : All DomainSize ds → 64 ≤ c → (h : DH.Held) → h .span ≡ p .span → h .rest ≡ left → PartLeaves d ds s plan p h
+    pub part-end :
+        All DomainSize ds → 64 ≤ c → (h : DH.Held) → h .span ≡ p .span → h .rest ≡ left → PartLeaves d ds s plan p h
     part-end sizes all h span is =
         record {
           rows = rw is (t .rows);
@@ -112,14 +129,20 @@ message-outside w plan y j g h =
 
 module _ (d : DD.Directions) (ds s plan : List ℕ) (k : ℕ) where
   -- nothing is sent yet
-  pub holding-start : (r : ℕ) (h : DH.Held) → Ends (length ds) r plan → k < length ds → h .span .to ≡ recordEnd plan (k + 1) → h .span .last ≡ childEnd plan (k + 1) → h .rest ≡ replicate 64 0 → Holding d ds s plan k (messageEnd plan (k + 1)) h
+  pub holding-start :
+      (r : ℕ) (h : DH.Held) → Ends (length ds) r plan → k < length ds → h .span .to ≡ recordEnd plan (k + 1)
+      → h .span .last ≡ childEnd plan (k + 1) → h .rest ≡ replicate 64 0
+      → Holding d ds s plan k (messageEnd plan (k + 1)) h
   holding-start r h e less to last none =
       let zero : (i : ℕ) → getD (h .rest) i 0 ≡ 0 = λ i. rw none (zeros-at 64 i) in
       record {
         records = (omega (arith, to), omega (arith, to, e .records k less));
         children = (omega (arith, last), omega (arith, last, e .children k less));
         rows = record { long = rw none refl; small = λ i. omega (arith, zero i) };
-        sum = λ y c j l. omega (arith, sent-none (widthOf d) plan (messageEnd plan (k + 1)) (messageEnd plan (k + 1)) y j (omega arith), zero (8 * getD y (orderIn plan k) 0 + j));
+        sum = λ y c j l.
+            let end = messageEnd plan (k + 1) in
+            let none = sent-none (widthOf d) plan end end y j (omega arith) in
+            omega (arith, none, zero (8 * getD y (orderIn plan k) 0 + j));
       }
 
   module _ (g : ℕ) (more : messageEnd plan (k + 1) ≤ g) (h : DH.Held) (t : Holding d ds s plan k g h) where
@@ -161,7 +184,8 @@ module _ (d : DD.Directions) (ds s plan : List ℕ) (k : ℕ) where
               ≤ getD (h .rest) (8 * getD y (orderIn plan k) 0 + j) 0 + contentOver d ds s plan (p .span) y j =
               rw (m, own, rest) at (w .leaves y c j l) in
               let both =
-              content-split d ds s plan (takenSpan plan k (h .span)) (p .span) taken ranged (sym from) (sym first) y j in
+              content-split d ds s plan (takenSpan plan k (h .span)) (p .span) taken ranged (sym from) (sym first) y
+              j in
               let all :
               contentOver d ds s plan (takenSpan plan k (h′ .span)) y j
               ≡ contentOver d ds s plan (takenSpan plan k (p .span)) y j =
@@ -171,7 +195,8 @@ module _ (d : DD.Directions) (ds s plan : List ℕ) (k : ℕ) where
 
   -- all is sent
   pub holding-end :
-      (h : DH.Held) → childEnd plan k ≤ maxMessages → Holding d ds s plan k (messageEnd plan k) h → HoldsAt d ds s plan k
+      (h : DH.Held) → childEnd plan k ≤ maxMessages → Holding d ds s plan k (messageEnd plan k) h
+      → HoldsAt d ds s plan k
   holding-end h few t y c j l =
       let taken : Ranged (takenSpan plan k (h .span)) =
       record { records = t .records .0; children = t .children .0; children-end = omega (arith, t .children .1) } in

@@ -1,12 +1,10 @@
 -- The variables of a whole record's scope by their number: they exist, and a scope is read from the front.
-use mathlib.Core.Path.{_≡_, _∙_}
+use mathlib.Core.Path.{_≡_}
 use mathlib.Core.Bool.{true}
 use mathlib.Core.List.{List, [], _∷_}
 use Prim.Native.Nat.{ℕ, _+_, _≤_, _<_}
 use native.Mathlib.Omega.{arith}
-use native.Mathlib.Numerals.{add-one}
-use lib.ListN.{length, getD, drop, length-drop, drop-of-length-le}
-use lib.Seq.{length-take-le, getD-take, getD-drop, drop-cons}
+use lib.ListN.{length, getD, drop}
 use Rattle.model.specs.Basics.{All}
 use Rattle.model.specs.Problems.{DomainSize}
 use Rattle.model.specs.Costs.{isChoice}
@@ -15,27 +13,23 @@ use Rattle.model.proofs.Choices.{choice-length}
 use Rattle.model.proofs.Prefixes.{choice-prefix, prefix-below}
 use Rattle.problem.specs.Records.{Whole}
 use Rattle.problem.proofs.Sizes.{domain-size}
-use Rattle.problem.proofs.WholeRecord.{scope-place, whole-long}
+use Rattle.problem.proofs.Scopes as scopes
+use Rattle.problem.proofs.Scopes.{scope-variable, scope-many, whole-inside}
 use Rattle.costs.specs.Entries.{scopeAt}
 
 module _ (ds s : List ℕ) (at : ℕ) (w : Whole ds s at) where
-  scope-length : length (scopeAt s at) ≡ getD s (at + 3) 0
-  scope-length = rw (scope-place s at) (length-take-le _ (drop (at + 4) s) (omega (arith, length-drop (at + 4) s, whole-long ds s at w)))
-
   pub scope-end : drop (getD s (at + 3) 0) (scopeAt s at) ≡ []
-  scope-end =
-      let h : length (scopeAt s at) ≤ getD s (at + 3) 0 = omega (arith, scope-length) in
-      drop-of-length-le (scopeAt s at) h
+  scope-end = scopes.scope-end s at (getD s (at + 3) 0) (omega arith)
 
   module _ (k : ℕ) (h : k < getD s (at + 3) 0) where
-    scope-variable : getD (scopeAt s at) k 0 ≡ getD s (at + 4 + k) 0
-    scope-variable = rw (scope-place s at) (getD-take _ (drop (at + 4) s) k 0 h ∙ getD-drop (at + 4) s k 0)
-
     pub scope-next : drop k (scopeAt s at) ≡ getD s (at + 4 + k) 0 ∷ drop (k + 1) (scopeAt s at)
-    scope-next = rw (add-one, ← scope-variable) (drop-cons (scopeAt s at) k 0 (omega (arith, scope-length)))
+    scope-next = scopes.scope-next s at (whole-inside ds s at w) k h
 
     pub variable-exists : getD s (at + 4 + k) 0 < length ds
-    variable-exists = rw scope-variable at (all-below (λ v. v < length ds) (scopeAt s at) (w .range) k 0 (omega (arith, scope-length)))
+    variable-exists =
+        let many = scope-many s at (whole-inside ds s at w) in
+        rw (scope-variable s at k h)
+        at (all-below (λ v. v < length ds) (scopeAt s at) (w .range) k 0 (omega (arith, many)))
 
     pub variable-size : All DomainSize ds → DomainSize (getD ds (getD s (at + 4 + k) 0) 0)
     variable-size sizes = domain-size ds sizes (getD s (at + 4 + k) 0) variable-exists

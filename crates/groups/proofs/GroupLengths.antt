@@ -15,7 +15,7 @@ use Rattle.model.specs.Reading.{tableScope}
 use Rattle.problem.specs.Records.{Whole}
 use Rattle.groups.specs.Groups.{hasVariable, groupOf}
 use Rattle.groups.proofs.Keeping.{keep-length}
-use Rattle.groups.proofs.ScopeSteps.{scope-few}
+use Rattle.problem.proofs.Scopes.{scope-few}
 
 unfoldable pub lengthTo : List ℕ → List ℕ → ℕ → ℕ
 lengthTo s places zero = 0

@@ -1,5 +1,4 @@
 -- The laws that the functions' proofs share.
-pub mod ScopeSteps
 pub mod SumsOver
 pub mod Overwritten
 pub mod Keeping

@@ -10,6 +10,7 @@ pub mod Sizes
 pub mod SizeSteps
 pub mod TableFields
 pub mod WholeRecord
+pub mod Scopes
 -- records in a row
 pub mod DomainSteps
 pub mod TableSteps

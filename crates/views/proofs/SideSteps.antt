@@ -14,7 +14,7 @@ use Rattle.model.specs.Cuts.{allSides, inHalf}
 use Rattle.model.specs.Views.{allOn, within}
 use Rattle.model.proofs.Elements.{all-drop}
 use Rattle.problem.specs.Records.{Whole}
-use Rattle.groups.proofs.ScopeSteps.{arity-inside, scope-next, whole-inside}
+use Rattle.problem.proofs.Scopes.{arity-inside, scope-next, whole-inside}
 
 -- a variable of a scope has a side
 pub variable-inside : (s : List ℕ) (at n : ℕ) → at + 4 + tableArity (drop at s) ≤ length s → InRange n (tableScope (drop at s)) → (i : ℕ) → i < getD s (at + 3) 0 → (at + 4 + i < length s) × (getD s (at + 4 + i) 0 < n)

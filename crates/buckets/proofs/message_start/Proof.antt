@@ -6,21 +6,31 @@ use Rattle.buckets.proofs.Runs.{byte-times, start-small, message-start-
 use borrow.Author.Needs.{needs}
 use Rattle.buckets.proofs.message_start.Statement.{statement}
 use Rattle.buckets.proofs.message_start.Tie as tie
-use Rattle.buckets.proofs.message_start.Reads as reads
-use Rattle.buckets.proofs.message_start.Lts as lts
-use Rattle.buckets.proofs.number_at.Reads as number-at-reads
-use Rattle.buckets.proofs.byte_at.Reads as byte-at-reads
 
 -- both products are small, and so is the whole
-small : (c : lts.After-byte-at2 (number-at-reads.Asked, number-at-reads.Learnt, byte-at-reads.Asked, byte-at-reads.Learnt) reads.Pre reads.Post) → let s = c .before .before .before .before .before .before .before .before .before in let p = c .before .byte-at .result * c .before .before .before .before .number-at3 .result in let q = c .byte-at2 .result * c .before .before .number-at5 .result in (p + q < 35184372088832) × (c .before .before .before .before .before .before .number-at .result + s .args .width * (p + q) < 35184372088832)
+small :
+    (c : tie.After-byte-at2)
+    → let stride = c .before .before in
+    let first-stride = stride .before .before in
+    let start = first-stride .before .before in
+    let s = start .before .before .before in
+    let p = c .before .byte-at .result * first-stride .number-at3 .result in
+    let q = c .byte-at2 .result * stride .number-at5 .result in
+    (p + q < 35184372088832) × (start .number-at .result + s .args .width * (p + q) < 35184372088832)
 small c =
-    let s = c .before .before .before .before .before .before .before .before .before in
-    let n = c .before .before .before .before .before .before .number-at in
-    let t = c .before .before .before .before .number-at3 in
-    let t′ = c .before .before .number-at5 in
+    let stride = c .before .before in
+    let first-stride = stride .before .before in
+    let start = first-stride .before .before in
+    let s = start .before .before .before in
+    let n = start .number-at in
+    let t = first-stride .number-at3 in
+    let t′ = stride .number-at5 in
     let p = byte-times (c .before .byte-at .result) (t .result) (c .before .byte-at .ensures .1) in
-    let q = byte-times (c .byte-at2 .result) (t′ .result) (c .byte-at2 .ensures .1) in
-    (omega (arith, p, q, t .ensures, t′ .ensures), start-small (s .args .width) (n .result) (t .result) (t′ .result) (n .ensures .1) (t .ensures .1) (t′ .ensures .1) (s .pre .1) _ _ p q)
+    let q = byte-times (c .byte-at2 .result) (t′ .result) (c .byte-at2 .ensures .1) in (
+      omega (arith, p, q, t .ensures, t′ .ensures),
+      start-small (s .args .width) (n .result) (t .result) (t′ .result) (n .ensures .1) (t .ensures .1) (t′ .ensures .1)
+          (s .pre .1) _ _ p q,
+    )
 
 mul-at : tie.Need-mul-at
 mul-at c = search needs
@@ -82,13 +92,24 @@ add-result-2 c = omega (arith, small c)
 
 returns : tie.Need-returns
 returns c =
-    let s = c .before .before .before .before .before .before .before .before .before in
-    let n = c .before .before .before .before .before .before .number-at in
-    let u = c .before .before .before .before .before .number-at2 in
-    let t = c .before .before .before .before .number-at3 in
-    let u′ = c .before .before .before .number-at4 in
-    let t′ = c .before .before .number-at5 in
-    (message-start-is (s .args .width) (now (s .args .plan)) (s .args .g) (n .result) (u .result) (t .result) (u′ .result) (t′ .result) (n .ensures .0) (u .ensures .0) (t .ensures .0) (u′ .ensures .0) (t′ .ensures .0) (now (s .args .choice)) (c .before .byte-at .result) (c .byte-at2 .result) (c .before .byte-at .ensures .0) (c .byte-at2 .ensures .0), omega (arith, small c))
+    let stride = c .before .before in
+    let second = stride .before in
+    let first-stride = second .before in
+    let first = first-stride .before in
+    let start = first .before in
+    let s = start .before .before .before in
+    let n = start .number-at in
+    let u = first .number-at2 in
+    let t = first-stride .number-at3 in
+    let u′ = second .number-at4 in
+    let t′ = stride .number-at5 in
+    let one = c .before .byte-at in
+    let two = c .byte-at2 in
+    let is =
+    message-start-is (s .args .width) (now (s .args .plan)) (s .args .g) (n .result) (u .result) (t .result)
+    (u′ .result) (t′ .result) (n .ensures .0) (u .ensures .0) (t .ensures .0) (u′ .ensures .0) (t′ .ensures .0)
+    (now (s .args .choice)) (one .result) (two .result) (one .ensures .0) (two .ensures .0) in
+    (is, omega (arith, small c))
 
 pub message-start-spec : {M : Type 1} → statement M
 message-start-spec =

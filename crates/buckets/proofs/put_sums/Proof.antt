@@ -28,7 +28,8 @@ mul-rows : tie.Need-mul-rows Inv-loop μ-loop
 mul-rows c = omega arith
 
 slice-write-rows : tie.Need-slice-write-rows Inv-loop μ-loop
-slice-write-rows c = omega (arith, c .before .before .loop .inv .long, c .before .before .before .before .before .pre .3)
+slice-write-rows c =
+    omega (arith, c .before .before .loop .inv .long, c .before .before .before .before .before .pre .3)
 
 add-i : tie.Need-add-i Inv-loop μ-loop
 add-i c = omega arith
@@ -37,7 +38,9 @@ loop-less : tie.Need-loop-less Inv-loop μ-loop
 loop-less c = omega arith
 
 loop-again : tie.Need-loop-again Inv-loop μ-loop
-loop-again c = filling-next (c .before .before .loop .inv) (c .before .before .before .before .before .pre .3) (omega arith) _ (c .sum-at .ensures) _ refl
+loop-again c =
+    filling-next (c .before .before .loop .inv) (c .before .before .before .before .before .pre .3) (omega arith) _
+    (c .sum-at .ensures) _ refl
 
 same-length : tie.Need-same-length Inv-loop μ-loop
 same-length c = c .before .loop .inv .long

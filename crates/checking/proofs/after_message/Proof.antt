@@ -77,7 +77,8 @@ returns c =
     let known = c .before .before in
     let s = known .before .before .before in
     let a = s .args in
-    λ _. holding-skip (a .d) (now (a .sizes)) (now (a .s)) (now (a .plan)) (a .k) (a .g) (s .pre .3) (a .held) (s .pre .4)
+    λ _. holding-skip (a .d) (now (a .sizes)) (now (a .s)) (now (a .plan)) (a .k) (a .g) (s .pre .3) (a .held)
+    (s .pre .4)
     (rw add-zero (c .if1 .taken))
 
 add-larger : tie.Need-add-larger

@@ -110,7 +110,8 @@ returns-2 c =
     let w = at-loop .loop in
     let same : w .g ≡ messageEnd (now (a .plan)) (a .k) = omega arith in
     let all =
-    subst (λ (g : ℕ). Holding (a .d) (now (a .sizes)) (now (a .s)) (now (a .plan)) (a .k) g (w .held)) same (w .inv .2) in
+    subst (λ (g : ℕ). Holding (a .d) (now (a .sizes)) (now (a .s)) (now (a .plan)) (a .k) g (w .held)) same
+    (w .inv .2) in
     λ _. holding-end (a .d) (now (a .sizes)) (now (a .s)) (now (a .plan)) (a .k) (w .held)
     (child-limit (s .pre .4) (a .k) (omega (arith, s .pre .2))) all
 

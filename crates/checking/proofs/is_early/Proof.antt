@@ -138,7 +138,8 @@ loop-again c =
     let marked = begin .before .before .is-bucket-marked .ensures (not-false _ (begin .before .if1 .left)) in
     let sent-marked = sent .are-sent-marked .ensures (not-false _ (tested .if2 .left)) in
     let own = ap (λ (v : ℕ). set (at-loop .loop .marks) v 1) (variable .variable-at .ensures .0) in
-    testing-next (at-loop .loop .inv) (q .4) (q .5) (bucket .before .before .before .loop-test .taken) marked sent-marked _
+    testing-next (at-loop .loop .inv) (q .4) (q .5) (bucket .before .before .before .loop-test .taken) marked
+    sent-marked _
     (c .with-value .ensures ∙ own)
 
 slice-aggregate-is-bucket-marked-2 : tie.Need-slice-aggregate-is-bucket-marked-2 Inv-loop μ-loop
@@ -158,7 +159,8 @@ is-bucket-marked-requires-2 c κs =
 returns-3 : tie.Need-returns-3 Inv-loop μ-loop
 returns-3 c =
     let at-loop = c .before .before .before in
-    λ h. testing-end (at-loop .loop .inv) (start at-loop .pre .5) (c .before .before .loop-test .left) (c .is-bucket-marked2 .ensures h)
+    λ h. testing-end (at-loop .loop .inv) (start at-loop .pre .5) (c .before .before .loop-test .left)
+    (c .is-bucket-marked2 .ensures h)
 
 pub is-early-spec : {M : Type 1} → statement M
 is-early-spec =

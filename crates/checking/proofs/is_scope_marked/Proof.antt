@@ -8,7 +8,7 @@ use lib.ListN.{drop}
 use denote.Ref.{now}
 use Rattle.model.specs.Basics.{All}
 use Rattle.model.specs.Reading.{tableScope}
-use Rattle.groups.proofs.ScopeSteps.{arity-inside, scope-next, scope-end}
+use Rattle.problem.proofs.Scopes.{arity-inside, scope-next, scope-end}
 use Rattle.checking.specs.Marks.{Marked, ScopeIn}
 use Rattle.checking.proofs.is_scope_marked.Statement.{statement}
 use Rattle.checking.proofs.is_scope_marked.Tie as tie

@@ -40,7 +40,9 @@ looped c =
     lent .before .before .before .before
 
 -- a variable has at most eight values, and there are at most eight directions
-few : (c : tie.Start Inv-loop μ-loop) → (getD (now (c .args .sizes)) (c .args .p .own) 0 ≤ 8) × (widthOf (c .args .d) ≤ 8)
+few :
+    (c : tie.Start Inv-loop μ-loop)
+    → (getD (now (c .args .sizes)) (c .args .p .own) 0 ≤ 8) × (widthOf (c .args .d) ≤ 8)
 few c =
     let a = c .args in
     (domain-size (now (a .sizes)) (c .pre .0 .small) (a .p .own) (c .pre .1 .variable) .1, planned-width (c .pre .0))
@@ -106,7 +108,8 @@ returns c =
     let at-loop = looped lowered in
     let row = lowered .lower-row in
     let left = now (begun at-loop .args .left) in (
-      lowered-twice left (at-loop .loop .left) (row .last .1 .1 .1 .1 .1 .0) (at-loop .loop .inv .lowered) (row .ensures .0),
+      lowered-twice left (at-loop .loop .left) (row .last .1 .1 .1 .1 .1 .0) (at-loop .loop .inv .lowered)
+          (row .ensures .0),
       λ h. absurd (false≢true h),
     )
 
@@ -138,7 +141,8 @@ returns-2 c =
     let rows = held at-loop .content in
     let number = at-loop .before .before .sent in (
       w .lowered,
-      λ _. choice-leaves (a .d) (now (a .sizes)) (now (a .s)) (now (a .plan)) (a .p) (now (a .choice)) (at-loop .loop .left)
+      λ _. choice-leaves (a .d) (now (a .sizes)) (now (a .s)) (now (a .plan)) (a .p) (now (a .choice))
+          (at-loop .loop .left)
           (rows .result) (number .result) (rows .ensures) (number .ensures) (λ b l. w .done b (omega arith)),
     )
 

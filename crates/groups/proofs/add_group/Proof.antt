@@ -8,7 +8,7 @@ use denote.Ref.{now}
 use Rattle.problem.specs.Records.{Whole}
 use Rattle.layout.specs.Layout.{recordsAt}
 use Rattle.groups.specs.Groups.{groupOf}
-use Rattle.groups.proofs.ScopeSteps.{whole-inside}
+use Rattle.problem.proofs.Scopes.{whole-inside}
 use Rattle.groups.proofs.Keeping.{touches, group-keeps}
 use Rattle.groups.proofs.Adding.{Adding, adding-start, adding-length, adding-end, adding-has, adding-skip, adding-below, adding-next}
 use Rattle.groups.proofs.PlacedRecords.{group-apart}

@@ -7,7 +7,7 @@ use lib.ListN.{drop}
 use denote.Ref.{now}
 use Rattle.model.specs.Reading.{tableScope}
 use Rattle.groups.specs.Groups.{hasVariable}
-use Rattle.groups.proofs.ScopeSteps.{arity-inside, scope-next, scope-end}
+use Rattle.problem.proofs.Scopes.{arity-inside, scope-next, scope-end}
 use Rattle.groups.proofs.has_variable.Statement.{statement}
 use Rattle.groups.proofs.has_variable.Tie as tie
 

@@ -21,7 +21,9 @@ returns : tie.Need-returns
 returns c = search needs
 
 mul-if2 : tie.Need-mul-if2
-mul-if2 c = omega (arith, product-small 8 8 (c .before .args .width) (c .before .args .u .values) (omega arith) (omega arith))
+mul-if2 c =
+    omega
+    (arith, product-small 8 8 (c .before .args .width) (c .before .args .u .values) (omega arith) (omega arith))
 
 one-shape-requires : tie.Need-one-shape-requires
 one-shape-requires c κs = search needs

@@ -7,7 +7,7 @@ use lib.ListN.{length, drop}
 use denote.Ref.{now}
 use Rattle.model.specs.Reading.{tableScope}
 use Rattle.model.specs.Cuts.{hasSide}
-use Rattle.groups.proofs.ScopeSteps.{arity-inside, scope-next, scope-end}
+use Rattle.problem.proofs.Scopes.{arity-inside, scope-next, scope-end}
 use Rattle.views.proofs.SideSteps.{variable-inside}
 use Rattle.views.proofs.has_side.Statement.{statement}
 use Rattle.views.proofs.has_side.Tie as tie

@@ -7,7 +7,7 @@ use lib.ListN.{length, drop}
 use denote.Ref.{now}
 use Rattle.model.specs.Reading.{tableScope}
 use Rattle.model.specs.Views.{allOn, within}
-use Rattle.groups.proofs.ScopeSteps.{arity-inside, scope-next, scope-end}
+use Rattle.problem.proofs.Scopes.{arity-inside, scope-next, scope-end}
 use Rattle.views.proofs.SideSteps.{variable-inside, within-none, within-some}
 use Rattle.views.proofs.lies_on.Statement.{statement}
 use Rattle.views.proofs.lies_on.Tie as tie

@@ -1,4 +1,4 @@
--- The scope of a record, one variable at a time, and how many it has.
+-- The scope of a record by the places of its variables, and how many it has.
 use mathlib.Core.Path.{_≡_, _∙_}
 use mathlib.Core.List.{List, [], _∷_}
 use Prim.Native.Nat.{ℕ, _+_, _≤_, _<_}
@@ -8,11 +8,11 @@ use lib.ListN.{length, getD, drop, length-take, length-drop, drop-of-length-le}
 use lib.Seq.{length-take-le, getD-take, getD-drop, drop-cons}
 use Rattle.model.specs.Limits.{maxArity}
 use Rattle.model.specs.Reading.{tableArity, tableScope}
 use Rattle.problem.specs.Records.{Whole}
 use Rattle.problem.proofs.WholeRecord.{scope-place, whole-few, whole-long}
 
 module _ (s : List ℕ) (at : ℕ) where
-  arity-place : tableArity (drop at s) ≡ getD s (at + 3) 0
+  pub arity-place : tableArity (drop at s) ≡ getD s (at + 3) 0
   arity-place = getD-drop at s 3 0
 
   -- a scope has at most as many variables as its arity says
@@ -23,14 +23,23 @@ module _ (s : List ℕ) (at : ℕ) where
   pub scope-end : (i : ℕ) → getD s (at + 3) 0 ≤ i → drop i (tableScope (drop at s)) ≡ []
   scope-end i h = drop-of-length-le (tableScope (drop at s)) {i = i} (omega (arith, scope-length))
 
+  pub scope-variable : (i : ℕ) → i < getD s (at + 3) 0 → getD (tableScope (drop at s)) i 0 ≡ getD s (at + 4 + i) 0
+  scope-variable i h = rw (scope-place s at) (getD-take _ (drop (at + 4) s) i 0 h ∙ getD-drop (at + 4) s i 0)
+
   module _ (inside : at + 4 + tableArity (drop at s) ≤ length s) where
     pub arity-inside : at + 4 + getD s (at + 3) 0 ≤ length s
     arity-inside = rw arity-place at inside
 
-    pub scope-next : (i : ℕ) → i < getD s (at + 3) 0 → drop i (tableScope (drop at s)) ≡ getD s (at + 4 + i) 0 ∷ drop (i + 1) (tableScope (drop at s))
+    pub scope-many : length (tableScope (drop at s)) ≡ getD s (at + 3) 0
+    scope-many =
+        rw (scope-place s at)
+        (length-take-le (getD s (at + 3) 0) (drop (at + 4) s) (omega (arith, length-drop (at + 4) s, arity-inside)))
+
+    pub scope-next :
+        (i : ℕ) → i < getD s (at + 3) 0
+        → drop i (tableScope (drop at s)) ≡ getD s (at + 4 + i) 0 ∷ drop (i + 1) (tableScope (drop at s))
     scope-next i h =
-        let long = length-take-le (getD s (at + 3) 0) (drop (at + 4) s) (omega (arith, length-drop (at + 4) s, arity-inside)) in
-        rw (scope-place s at, add-one) (drop-cons _ i 0 (omega (arith, long)) ∙ rw (getD-take, getD-drop))
+        rw (add-one, ← scope-variable i h) (drop-cons (tableScope (drop at s)) i 0 (omega (arith, scope-many)))
 
 -- the first bytes of a whole record are all there
 pub whole-inside : (ds s : List ℕ) (at : ℕ) → Whole ds s at → at + 4 + tableArity (drop at s) ≤ length s
