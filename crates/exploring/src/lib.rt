@@ -185,7 +185,15 @@ fn open_position(
     let v = buckets::variable_at(k, &work[layout::PLAN_AT..]);
     let size = sizes[v] as usize;
     let rows = branching::bucket_at(k, v, &x[..n], s, sizes, d, &work[layout::PLAN_AT..]);
-    let away = branching::away_at(k, &x[..n], s, sizes, task.records, d, &work[layout::PLAN_AT..]);
+    let away = branching::away_at(
+        k,
+        &x[..n],
+        s,
+        sizes,
+        task.records,
+        d,
+        &work[layout::PLAN_AT..],
+    );
     let mut leads = branching::leads_of(&rows, bound, away, size, d);
     let mut a = branching::least_value(&leads, size);
     let mut t = run;

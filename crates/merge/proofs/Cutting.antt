@@ -3,7 +3,7 @@
 use mathlib.Core.Path.{_≡_, refl, sym, ap, _∙_}
 use mathlib.Core.Bool.{true, false, _||_}
 use mathlib.Core.List.{List, [], _∷_}
-use Prim.Native.Nat.{ℕ, _≤_}
+use Prim.Native.Nat.{ℕ, suc, _≤_}
 use native.Mathlib.Omega.{arith}
 use lib.Dec.{ltb}
 use lib.ListN.{length, take}
@@ -55,6 +55,11 @@ core-light : (ts : List Table) → All (λ t. All Word (t .costs)) ts → All Li
 unfolding coreTables
 core-light [] h = tt
 core-light (t ∷ ts) h = (weighed-limit (t .costs) (h .0), core-light ts (h .1))
+
+core-many : (ts : List Table) → length (coreTables ts) ≡ length ts
+unfolding coreTables
+core-many [] = refl
+core-many (t ∷ ts) = ap suc (core-many ts)
 
 -- the ceilings of the halves and of their sums are the problem's, as the core has them
 module _ {s : List ℕ} {g : DG.Reading} (a : AcceptedReading s g) (room : ℕ) (ss was wide : List ℕ)
@@ -108,11 +113,6 @@ module _ {s : List ℕ} {g : DG.Reading} (a : AcceptedReading s g) (room : ℕ) 
       all-in SmallCosts (listOf k) (λ t m.
       view-sums part ss k (omega (arith, rules .few-tables, core-many (q .tables))) light t
       (frontier-best _ (view k part ss) .listed .sound t m))
-    where
-      core-many : (ts : List Table) → length (coreTables ts) ≡ length ts
-      unfolding coreTables
-      core-many [] = refl
-      core-many (t ∷ ts) = ap Prim.Native.Nat.suc (core-many ts)
 
   -- the first half's list is kept
   module _ {one : List ℕ} {f : DF.Found} (first : KeptSays p n (listOf 0) firstRow was one f) where

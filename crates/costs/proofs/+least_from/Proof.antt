@@ -258,11 +258,12 @@ module _ (t : ℕ) where
   loop-again c =
       let w = c .before .before .before .loop in
       let next = c .before .least-from3 .ensures in
-      let step = least-next (w .x) (rest (c .before .before .before .before .before .before .before .before)) in
-      ( omega arith
-      , omega arith
-      , rw (step, c .lesser .ensures, w .inv .2, next .0)
-      , omega (arith, c .lesser .ensures, w .inv .3, next .1))
+      let step = least-next (w .x) (rest (c .before .before .before .before .before .before .before .before)) in (
+        omega arith,
+        omega arith,
+        rw (step, c .lesser .ensures, w .inv .2, next .0),
+        omega (arith, c .lesser .ensures, w .inv .3, next .1),
+      )
 
   returns-3 : lts.Need-returns-3 (calls t) (asked t) least-from.Post Inv-loop μ-loop
   returns-3 c =

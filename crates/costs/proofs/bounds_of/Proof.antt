@@ -29,13 +29,14 @@ abbrev μ-loop : tie.MeasureT-loop
 μ-loop s at r sizes prefix sums₀ here₀ left₀ sums here left = left
 
 abbrev calls : lts.Claims
-calls =
-    ( record-at-reads.Asked
-    , record-at-reads.Learnt
-    , least-at-reads.Asked
-    , least-at-reads.Learnt
-    , unweighed-reads.Asked
-    , unweighed-reads.Learnt)
+calls = (
+  record-at-reads.Asked,
+  record-at-reads.Learnt,
+  least-at-reads.Asked,
+  least-at-reads.Learnt,
+  unweighed-reads.Asked,
+  unweighed-reads.Learnt,
+)
 
 -- ## the places, each by its name
 

@@ -29,13 +29,14 @@ abbrev μ-loop : tie.MeasureT-loop
 μ-loop s at r sizes choice sums₀ here₀ left₀ sums here left = left
 
 abbrev calls : lts.Claims
-calls =
-    ( record-at-reads.Asked
-    , record-at-reads.Learnt
-    , cost-at-reads.Asked
-    , cost-at-reads.Learnt
-    , unweighed-reads.Asked
-    , unweighed-reads.Learnt)
+calls = (
+  record-at-reads.Asked,
+  record-at-reads.Learnt,
+  cost-at-reads.Asked,
+  cost-at-reads.Learnt,
+  unweighed-reads.Asked,
+  unweighed-reads.Learnt,
+)
 
 -- ## the places, each by its name
 

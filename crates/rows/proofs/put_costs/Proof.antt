@@ -36,10 +36,11 @@ array-read-costs c = omega arith
 cast-costs : tie.Need-cast-costs Inv-loop μ-loop
 cast-costs c =
     let s = c .before .before in
-    omega
-    (arith,
-    front-each maxObjectives (s .args .count) (s .args .t1) (s .pre .0) (long-row s) Word (s .pre .2)
-    (c .before .loop .i) (omega arith))
+    omega (
+      arith,
+      front-each maxObjectives (s .args .count) (s .args .t1) (s .pre .0) (long-row s) Word (s .pre .2)
+          (c .before .loop .i) (omega arith),
+    )
 
 add-costs : tie.Need-add-costs Inv-loop μ-loop
 add-costs c = omega arith
