@@ -5,23 +5,32 @@ use Prim.Native.Nat.{ℕ}
 use native.Mathlib.Omega.{arith}
 use denote.Ref.{now}
 use borrow.Author.Needs.{needs}
+use Rattle.model.specs.Basics.{All}
+use Rattle.model.specs.Encoding.{Byte}
 use Rattle.model.specs.Reading.{problemOf}
+use Rattle.model.proofs.Elements.{all-each}
 use Rattle.model.proofs.Cut.{sides-long}
 use Rattle.problem.proofs.Accepted.{AcceptedReading, read-accepted}
-use Rattle.merge.proofs.Cutting.{first-full, second-full, cut-halved, cut-words, merged-full, cut-end}
+use Rattle.merge.proofs.Cutting.{first-full, second-full, cut-halved, merged-full, cut-end}
 use Rattle.merge.proofs.cut_lists.Statement.{statement}
 use Rattle.merge.proofs.cut_lists.Tie as tie
 
--- ## the places: each half kept, the ceilings widened, the sums merged
+-- ## the places: the ceilings widened, each half kept, the sums merged
 
-abbrev known : tie.After-keep-half → tie.After-shared-slice-known
-known c = c .before .before .before .before
+abbrev known : tie.After-widened → tie.After-shared-slice-known
+known c = let lent : tie.After-slice-known = c .before .before .before in lent .before .before
 
-abbrev start : tie.After-keep-half → tie.Start
+abbrev start : tie.After-widened → tie.Start
 start c = known c .before
+
+bytes : (c : tie.After-widened) → All Byte (now (start c .args .s))
+bytes c = all-each Byte 0 (now (start c .args .s)) (λ i. omega (arith, known c .shared-slice-known .given i))
 
 accepted : (s : tie.Start) → AcceptedReading (now (s .args .s)) (s .args .g)
 accepted s = read-accepted (now (s .args .s)) (s .args .g) (s .pre .0) (s .pre .1)
+
+abbrev widening : tie.After-keep-half → tie.After-widened
+widening c = c .before .before
 
 abbrev first : tie.Else1 → tie.After-keep-half
 first c = c .before .before .before
@@ -32,14 +41,17 @@ opened c = c .before .before
 abbrev second : tie.Else2 → tie.After-keep-half2
 second c = c .before .before .before
 
-abbrev kept : tie.After-widened → tie.Else2
-kept c = let head : tie.After-head = c .before .before .before .before in head .before
+abbrev kept : tie.After-merge-points → tie.Else2
+kept c = let counted : tie.After-p = c .before .before in counted .before .before
+
+widened-requires : tie.Need-widened-requires
+widened-requires c κs = search needs
 
 -- ## the first half
 
 keep-half-requires : tie.Need-keep-half-requires
 keep-half-requires c κs =
-    let s : tie.Start = c .before .before .before .before in
+    let s = start (c .before) in
     let long = sides-long (problemOf (now (s .args .s))) (now (s .args .sides)) (s .pre .2) in
     (s .pre .0, s .pre .1, long, omega arith, omega arith, s .pre .5)
 
@@ -53,18 +65,19 @@ returns : tie.Need-returns
 returns c =
     let full : tie.Then1 = c .before in
     let half : tie.After-keep-half = full .before .before .before in
-    let s = start half in
+    let w = widening half in
+    let s = start w in
     let p = s .pre in
     rw (c .no-lists .ensures)
-    (first-full (accepted s) (s .args .room) (now (s .args .sides)) (now (s .args .work)) (p .2) (p .3) (p .5)
-    (half .keep-half .ensures) (full .if1 .taken))
+    (first-full (accepted s) (s .args .room) (now (s .args .sides)) (now (s .args .work)) (w .widened .result)
+    (w .widened .ensures) (p .2) (p .3) (p .5) (half .keep-half .ensures) (full .if1 .taken))
 
 -- ## the second half
 
 keep-half-requires-2 : tie.Need-keep-half-requires-2
 keep-half-requires-2 c κs =
     let half = first (c .before) in
-    let s = start half in
+    let s = start (widening half) in
     let long = sides-long (problemOf (now (s .args .s))) (now (s .args .sides)) (s .pre .2) in
     (s .pre .0, s .pre .1, long, omega arith, omega arith, omega (arith, s .pre .5, half .keep-half .ensures .long))
 
@@ -79,11 +92,13 @@ returns-2 c =
     let full : tie.Then2 = c .before in
     let other : tie.After-keep-half2 = full .before .before .before in
     let half = first (opened other) in
-    let s = start half in
+    let w = widening half in
+    let s = start w in
     let p = s .pre in
     rw (c .no-lists2 .ensures)
-    (second-full (accepted s) (s .args .room) (now (s .args .sides)) (now (s .args .work)) (p .2) (p .3) (p .5)
-    (half .keep-half .ensures) (opened other .if1 .left) (other .keep-half2 .ensures) (full .if2 .taken))
+    (second-full (accepted s) (s .args .room) (now (s .args .sides)) (now (s .args .work)) (w .widened .result)
+    (w .widened .ensures) (p .2) (p .3) (p .5) (half .keep-half .ensures) (opened other .if1 .left)
+    (other .keep-half2 .ensures) (full .if2 .taken))
 
 -- ## the sums
 
@@ -93,25 +108,20 @@ cast-n c = search needs
 cast-p : tie.Need-cast-p
 cast-p c = search needs
 
-widened-requires : tie.Need-widened-requires
-widened-requires c κs = search needs
-
 merge-points-requires : tie.Need-merge-points-requires
 merge-points-requires c κs =
-    let wide : tie.After-widened = c .before in
-    let both = kept wide in
+    let counted : tie.After-p = c .before in
+    let both : tie.Else2 = counted .before .before in
     let other = second both in
     let half = first (opened other) in
-    let s = start half in
+    let w = widening half in
+    let s = start w in
     let p = s .pre in
     let halved =
-    cut-halved (accepted s) (s .args .room) (now (s .args .sides)) (now (s .args .work)) (p .2) (p .3) (p .5)
-    (half .keep-half .ensures) (opened other .if1 .left) (other .keep-half2 .ensures) (both .if2 .left) in
-    let words =
-    cut-words (accepted s) (s .args .room) (now (s .args .sides)) (now (s .args .work)) (p .2) (p .3) (p .5)
-    (half .keep-half .ensures) (opened other .if1 .left) (other .keep-half2 .ensures) (both .if2 .left)
-    (wide .widened .ensures) (λ i. omega (arith, known half .shared-slice-known .given i)) in
-    (halved, words, p .4)
+    cut-halved (accepted s) (s .args .room) (now (s .args .sides)) (now (s .args .work)) (w .widened .result)
+    (w .widened .ensures) (p .2) (p .3) (p .5) (half .keep-half .ensures) (opened other .if1 .left)
+    (other .keep-half2 .ensures) (both .if2 .left) (bytes w) in
+    (halved, p .4)
 
 no-lists-requires-3 : tie.Need-no-lists-requires-3
 no-lists-requires-3 c κs = search needs
@@ -123,16 +133,16 @@ returns-3 : tie.Need-returns-3
 returns-3 c =
     let full : tie.Then3 = c .before in
     let merged : tie.After-merge-points = full .before .before .before in
-    let wide : tie.After-widened = merged .before .before in
-    let both = kept wide in
+    let both = kept merged in
     let other = second both in
     let half = first (opened other) in
-    let s = start half in
+    let w = widening half in
+    let s = start w in
     let p = s .pre in
     rw (c .no-lists3 .ensures)
-    (merged-full (accepted s) (s .args .room) (now (s .args .sides)) (now (s .args .work)) (p .2) (p .3) (p .5)
-    (half .keep-half .ensures) (opened other .if1 .left) (other .keep-half2 .ensures) (both .if2 .left)
-    (wide .widened .ensures) (merged .merge-points .ensures) (full .if3 .taken))
+    (merged-full (accepted s) (s .args .room) (now (s .args .sides)) (now (s .args .work)) (w .widened .result)
+    (w .widened .ensures) (p .2) (p .3) (p .5) (half .keep-half .ensures) (opened other .if1 .left)
+    (other .keep-half2 .ensures) (both .if2 .left) (merged .merge-points .ensures) (full .if3 .taken))
 
 same-length-4 : tie.Need-same-length-4
 same-length-4 c = search needs
@@ -140,20 +150,21 @@ same-length-4 c = search needs
 returns-4 : tie.Need-returns-4
 returns-4 c =
     let merged : tie.After-merge-points = c .before .before .before in
-    let wide : tie.After-widened = merged .before .before in
-    let both = kept wide in
+    let both = kept merged in
     let other = second both in
     let half = first (opened other) in
-    let s = start half in
+    let w = widening half in
+    let s = start w in
     let p = s .pre in
-    cut-end (accepted s) (s .args .room) (now (s .args .sides)) (now (s .args .work)) (p .2) (p .3) (p .5)
-    (half .keep-half .ensures) (opened other .if1 .left) (other .keep-half2 .ensures) (both .if2 .left)
-    (wide .widened .ensures) (merged .merge-points .ensures) (c .if3 .left)
+    cut-end (accepted s) (s .args .room) (now (s .args .sides)) (now (s .args .work)) (w .widened .result)
+    (w .widened .ensures) (p .2) (p .3) (p .5) (half .keep-half .ensures) (opened other .if1 .left)
+    (other .keep-half2 .ensures) (both .if2 .left) (merged .merge-points .ensures) (c .if3 .left)
 
 pub cut-lists-spec : {M : Type 1} → statement M
 cut-lists-spec =
     tie.close
     (tie.spec
+    widened-requires
     keep-half-requires
     no-lists-requires
     same-length
@@ -164,7 +175,6 @@ cut-lists-spec =
     returns-2
     cast-n
     cast-p
-    widened-requires
     merge-points-requires
     no-lists-requires-3
     same-length-3
