@@ -9,12 +9,10 @@ use lib.ListN.{length, getD, take, drop, length-drop}
 use lib.Seq.{length-take-le}
 use borrow.Author.Needs.{needs}
 use denote.Ref.{now}
-use mir.Syntax.{w64}
-use Rattle.model.specs.Limits.{maxObjectives, maxDomain, byteEnd}
+use Rattle.model.specs.Limits.{maxDomain, byteEnd}
 use Rattle.model.specs.Problems.{DomainSize}
 use Rattle.model.proofs.Elements.{all-below}
 use Rattle.layout.specs.Layout.{listEnd}
-use Rattle.rows.proofs.Arrays.{array-length}
 use Rattle.directions.specs.Directions.{widthOf, leadAt}
 use Rattle.buckets.specs.Places.{numbersAt, orderIn}
 use Rattle.buckets.specs.Content.{Planned}
@@ -26,6 +24,7 @@ use Rattle.exploring.specs.States.{planIn, Partial}
 use Rattle.branching.specs.Rows.{Holding, nextBound, Bucket, Away}
 use Rattle.directions.proofs.Widths.{lead-inside, width-few}
 use Rattle.exploring.proofs.Nodes.{choice-long, bound-long, withNext, Extends, extends, is-leaf}
+use Rattle.groups.proofs.Tasks.{ceilings-long}
 use Rattle.exploring.proofs.ArchivedWords.{archived-small}
 use Rattle.exploring.proofs.Memory.{lent-plan}
 use Rattle.exploring.proofs.Leaving.{opened-same, dead-covers}
@@ -588,10 +587,11 @@ module _ (t : ℕ) where
       let b = entered c in
       let a = b .args in
       let h = b .pre .1 in
-      let four = array-length w64 maxObjectives (a .ceilings) _ (b .good .1 .1 .1 .1 .1 .0) in
-      let wide : a .d .objectives ≤ length (a .ceilings) = omega (arith, four, h .ready .planned .sensible .few) in
+      let four = ceilings-long (a .task) _ (b .good .1 .1 .1 .1 .0) in
+      let wide : a .d .objectives ≤ length (a .task .ceilings) =
+      omega (arith, four, h .ready .planned .sensible .few) in
       let small =
-      archived-small (a .d) (a .r) (a .ceilings) (now (a .sizes)) (now (a .s)) (now (a .work)) wide (h .ready .words)
+      archived-small (a .d) (a .task) (now (a .sizes)) (now (a .s)) (now (a .work)) wide (h .ready .limited)
       (length (now (a .sizes))) (a .run .points) (a .run .limit) (now (a .work)) (h .running .archived) in (
         h .ready .planned .sensible,
         omega (arith, h .ready .long),

@@ -3,11 +3,10 @@ use mathlib.Core.List.{List}
 use Prim.Native.Nat.{ℕ, _≤_, _<_}
 use native.Mathlib.Omega.{arith}
 use lib.ListN.{length, getD, length-drop}
-use mir.Syntax.{w64}
 use denote.Ref.{now}
-use Rattle.model.specs.Limits.{maxObjectives, byteEnd}
+use Rattle.model.specs.Limits.{byteEnd}
 use Rattle.layout.specs.Layout.{listEnd}
-use Rattle.rows.proofs.Arrays.{array-length}
+use Rattle.groups.proofs.Tasks.{ceilings-long}
 use Rattle.exploring.specs.States.{noLimit, Ready, Still}
 use Rattle.exploring.proofs.ArchivedWords.{archived-words}
 use Rattle.exploring.proofs.Memory.{ready-still, zones-still, lent-plan}

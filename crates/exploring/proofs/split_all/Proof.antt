@@ -4,10 +4,11 @@ use mathlib.Core.Path.{refl, sym}
 use mathlib.Core.List.{List, _++_}
 use Prim.Native.Nat.{ℕ, _≤_, _<_, _-_}
 use native.Mathlib.Omega.{arith}
+use lib.ListN.{length, drop}
 use lib.Seq.{length-take-le}
 use borrow.Author.Needs.{needs}
 use denote.Ref.{now}
-use Rattle.layout.specs.Layout.{zonesEnd}
+use Rattle.layout.specs.Layout.{zonesEnd, listEnd}
 use Rattle.exploring.specs.Passes.{ZonesWritten, ZonesHold}
 use Rattle.exploring.proofs.Zoning.{split-words, split-written, split-hold}
 use Rattle.exploring.proofs.split_all.Statement.{statement}

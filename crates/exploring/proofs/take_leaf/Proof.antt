@@ -154,7 +154,8 @@ take-point-requires c κs =
       h .ready .room-small,
       few s,
       h .ready .planned .variables,
-      all-map Word (λ a. a < coreSumEnd) (λ a l. omega arith) _ (words (w .before)),
+      all-map Word (λ a. a < coreSumEnd) (λ a l. omega arith) (take (p s) (front (tested (w .before))))
+          (words (w .before)),
       all-take (λ u. u ≤ maxWeight) (p s) _ (w .lead-weights .ensures .1),
       h .running .distinct,
       small s,

@@ -51,8 +51,8 @@ kept c = c .before .before .before .before
 abbrev narrowing : tie.After-keep-records → tie.After-narrow
 narrowing c = c .before .before .before
 
-abbrev sided : tie.After-widened → tie.After-keep-records
-sided c = c .before .before .before .before
+abbrev sided : tie.After-slice-known3 → tie.After-keep-records
+sided c = c .before .before
 
 -- ## all records
 
@@ -125,10 +125,7 @@ keep-records-requires c κs =
     let placed : tie.After-keep-places = kept (c .before .before) in
     let head = headed (started placed) in
     let says = places-at _ _ _ _ (started placed .tables-start .ensures) (placed .keep-places .ensures) in
-    side-asked _ _ _ (start head .args .side) _ _ (now (start head .args .sides)) _ _ (records head) (same head) _ says
-
-widened-requires : tie.Need-widened-requires
-widened-requires c κs = search needs
+    side-asked _ _ _ (start head .args .side) _ (now (start head .args .sides)) _ _ (records head) (same head) _ says
 
 -- the narrowed sizes are the first n of the array
 abbrev Narrowed : tie.After-head → List ℕ → Type 0
@@ -153,14 +150,14 @@ slice-aggregate-find-source c =
 
 find-source-requires : tie.Need-find-source-requires
 find-source-requires c κs =
-    let wide : tie.After-widened = c .before .before in
-    let narrow = narrowing (sided wide) in
+    let chosen : tie.After-slice-known3 = c .before .before in
+    let narrow = narrowing (sided chosen) in
     let placed = kept narrow in
     let head = headed (started placed) in
     let says = places-at _ _ _ _ (started placed .tables-start .ensures) (placed .keep-places .ensures) in
     let source =
-    side-source _ _ _ (start head .args .side) _ _ (now (start head .args .sides)) _ _ (records head) (same head) _ says
-    _ _ (sided wide .keep-records .ensures) _ (wide .widened .ensures) _ (narrow-is narrow) in
+    side-source _ _ _ (start head .args .side) _ (now (start head .args .sides)) _ _ (records head) (same head) _ says
+    _ _ (sided chosen .keep-records .ensures) _ _ (narrow-is narrow) in
     (source, omega arith)
 
 same-length : tie.Need-same-length
@@ -169,15 +166,15 @@ same-length c = search needs
 returns : tie.Need-returns
 returns c =
     let found : tie.After-find-source = c .before .before in
-    let wide : tie.After-widened = found .before .before .before in
-    let narrow = narrowing (sided wide) in
+    let chosen : tie.After-slice-known3 = found .before .before .before in
+    let narrow = narrowing (sided chosen) in
     let placed = kept narrow in
     let head = headed (started placed) in
     let says = places-at _ _ _ _ (started placed .tables-start .ensures) (placed .keep-places .ensures) in
     let f = found .find-source in
-    half-found _ _ (accepted head) (start head .args .side) (now (start head .args .sides))
-    (side-says _ _ _ (start head .args .side) _ _ (now (start head .args .sides)) _ _ (records head) (same head) _ says
-    _ _ (sided wide .keep-records .ensures) _ (wide .widened .ensures) _ (narrow-is narrow) _ (f .result) (f .ensures))
+    half-found _ _ (accepted head) (start head .args .side) (now (start head .args .sides)) (start head .args .ceilings)
+    (side-says _ _ _ (start head .args .side) _ (now (start head .args .sides)) _ _ (records head) (same head) _ says
+    _ _ (sided chosen .keep-records .ensures) _ _ (narrow-is narrow) _ (f .result) (f .ensures))
 
 pub find-half-spec : {M : Type 1} → statement M
 find-half-spec =
@@ -199,7 +196,6 @@ find-half-spec =
     slice-aggregate-keep-records
     cast-keep-records
     keep-records-requires
-    widened-requires
     array-share-prefix-narrow
     slice-aggregate-find-source
     find-source-requires
