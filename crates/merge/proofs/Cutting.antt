@@ -112,7 +112,7 @@ module _ {s : List ℕ} {g : DG.Reading} (a : AcceptedReading s g) (room : ℕ) 
       let part = withCeilings hs (coreOf q) in
       all-in SmallCosts (listOf k) (λ t m.
       view-sums part ss k (omega (arith, rules .few-tables, core-many (q .tables))) light t
-      (frontier-best _ (view k part ss) .listed .sound t m))
+      (frontier-best (view k part ss) .listed .sound t m))
 
   -- the first half's list is kept
   module _ {one : List ℕ} {f : DF.Found} (first : KeptSays p n (listOf 0) firstRow was one f) where

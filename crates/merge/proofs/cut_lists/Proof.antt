@@ -42,7 +42,7 @@ abbrev second : tie.Else2 → tie.After-keep-half2
 second c = c .before .before .before
 
 abbrev kept : tie.After-merge-points → tie.Else2
-kept c = let counted : tie.After-p = c .before .before in counted .before .before
+kept c = c .before .before .before .before
 
 widened-requires : tie.Need-widened-requires
 widened-requires c κs = search needs
@@ -110,8 +110,7 @@ cast-p c = search needs
 
 merge-points-requires : tie.Need-merge-points-requires
 merge-points-requires c κs =
-    let counted : tie.After-p = c .before in
-    let both : tie.Else2 = counted .before .before in
+    let both : tie.Else2 = c .before .before .before in
     let other = second both in
     let half = first (opened other) in
     let w = widening half in
