@@ -1,16 +1,13 @@
 -- The places of accepted records, written over work memory: the records are whole, and their tables are those read.
 use mathlib.Core.Path.{_≡_, refl, sym, ap}
 use mathlib.Core.List.{List, _∷_, _++_, append-assoc, append-nil}
-use Prim.Native.Nat.{ℕ, zero, suc, _+_, _-_, _≤_, _<_}
+use Prim.Native.Nat.{ℕ, zero, suc, _+_, _-_, _≤_}
 use native.Mathlib.Omega.{arith}
 use lib.ListN.{length, take, drop, length-drop}
 use lib.Seq.{take-all, drop-drop, drop-length}
-use Rattle.model.specs.Basics.{All}
-use Rattle.model.specs.Limits.{maxObjectives}
 use Rattle.model.specs.Frontiers.{frontier}
 use Rattle.model.specs.Reading.{tableLength, tableOf, tablesAt, placesAt}
 use Rattle.model.specs.Calls.{over as filled}
-use Rattle.problem.specs.Records.{Whole}
 use Rattle.problem.proofs.RecordPlaces.{places-count, places-whole}
 use Rattle.groups.specs.Layout.{sourceAt}
 use Rattle.groups.specs.Groups.{tablesOver}
