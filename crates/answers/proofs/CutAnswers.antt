@@ -15,7 +15,6 @@ use Rattle.model.specs.Cuts.{cutList, halfSize}
 use Rattle.model.specs.Calls.{over, roomOf, flatCosts, flatChoices, workAfter, cutVerdict, cutOutcome}
 use Rattle.problem.specs.declared.Refusal as DR
 use Rattle.problem.specs.Says.{RefusalSays}
-use Rattle.answers.specs.declared.Lists as DL
 use Rattle.answers.specs.Cuts.{cutRefusal, uncut, foundHalves, CutSays}
 use Rattle.answers.proofs.CutRefusals.{cut-limits, cut-verdict}
 

@@ -3,22 +3,22 @@
 use mathlib.Core.Path.{_≡_, refl, sym, ap, _∙_}
 use mathlib.Core.Bool.{Bool, true, false, _&&_}
 use mathlib.Core.List.{List, [], _∷_}
-use Prim.Native.Nat.{ℕ, _+_, _*_, _≤_, _<_}
+use Prim.Native.Nat.{ℕ, _≤_}
 use native.Mathlib.Omega.{arith}
-use lib.Dec.{eqb, ltb}
+use lib.Dec.{eqb}
 use lib.ListN.{length, getD, take, drop}
 use borrow.Author.Tests.{ne-eqb, eq-eqb}
 use Rattle.model.specs.Basics.{pick, All}
 use Rattle.model.specs.Limits.{maxBytes, workNeed}
-use Rattle.model.specs.Refusals.{workShort, badSides, full, Verdict, verdict, accepted, first}
+use Rattle.model.specs.Refusals.{badSides, Verdict, verdict, accepted, first}
 use Rattle.model.specs.Problems.{Table}
 use Rattle.model.specs.Reading.{headTables, domainsOf, tablesStart, tablesAt, placesAt, verdictOf, problemOf, placesOf}
 use Rattle.model.specs.Cuts.{allSides, sidesOk, crosses, linkedVerdict, uncrossed}
 use Rattle.model.specs.Calls.{workVerdict, sidesVerdict, cutRoomVerdict, cutVerdict}
 use Rattle.model.proofs.Bits.{pick-both}
 use Rattle.model.proofs.Elements.{all-map, all-drop}
-use Rattle.model.proofs.Verdicts.{first-has, first-assoc, first-accepts, test-accepts}
-use Rattle.model.proofs.Reading.{accepted-place, accepted-parts}
+use Rattle.model.proofs.Verdicts.{first-has, first-assoc, first-accepts}
+use Rattle.model.proofs.Reading.{accepted-parts}
 use Rattle.model.proofs.Places.{refused-number, place-limit}
 use Rattle.model.proofs.Calls.{sides-accept, linked-accepts}
 use Rattle.model.proofs.Cut.{sides-long}

@@ -1,7 +1,7 @@
 -- The list in work memory, from its verdict: a refusal that changes nothing, and what was found.
 use mathlib.Core.Path.{_≡_, refl, ap, _∙_}
 use mathlib.Core.Bool.{Bool, true, false}
-use mathlib.Core.List.{List, []}
+use mathlib.Core.List.{List}
 use Prim.Native.Nat.{ℕ, _≤_, min}
 use native.Mathlib.Omega.{arith}
 use lib.Dec.{eqb, ltb}
@@ -24,7 +24,7 @@ use Rattle.passes.specs.Says.{FoundFor}
 use Rattle.answers.specs.declared.Listed as DI
 use Rattle.answers.specs.Says.{fullNumber, unlisted, foundRows, listVerdict, ListedSays}
 use Rattle.answers.proofs.Early.{earlyVerdict, early-limits, early-verdict, room-verdict}
-use Rattle.answers.proofs.FoundRows.{found-few, rows-found, rows-read, rows-hold}
+use Rattle.answers.proofs.FoundRows.{found-few, rows-read, rows-hold}
 
 -- no rows
 hold-none : (w : List ℕ) → RowsHold 0 0 0 w

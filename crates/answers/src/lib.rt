@@ -103,10 +103,11 @@ pub fn answer_of(found: passes::Found) -> Answer
     requires { ⌜ found .count ≤ maxPoints ⌝ }
     ensures { λ r. ⌜ r ≡ foundAnswer found ⌝ }
 {
+    let points = found.count as u32;
     Answer {
         number: full_number(found.full),
         place: 0,
-        count: found.count as u32,
+        count: points,
     }
 }
 

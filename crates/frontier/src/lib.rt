@@ -1,5 +1,4 @@
 // The public calls, and their exports for C.
-ghost use mathlib.Core.Path.{_≡_};
 ghost use Rattle.model.specs.Calls.{solveOutcome, listOutcome, cutOutcome, boundOutcome};
 ghost use Rattle.frontier.specs.Says.{asPoints, SolveExports, ListExports, CutExports, BoundExports};
 

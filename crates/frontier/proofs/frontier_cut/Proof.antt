@@ -1,5 +1,7 @@
 -- `frontier_cut` meets its contract: what `solve_cut` promises, handed to C.
+use denote.Ref.{now}
 use borrow.Author.Needs.{needs}
+use Rattle.model.specs.Calls.{cutOutcome}
 use Rattle.frontier.proofs.Promises.{cut-export}
 use Rattle.frontier.proofs.frontier_cut.Statement.{statement}
 use Rattle.frontier.proofs.frontier_cut.Tie as tie
@@ -25,7 +27,11 @@ returns c =
     let worked : tie.After-work = lent .before .before in
     let chosen : tie.After-choices = worked .before .before in
     let cut : tie.After-solve-cut = chosen .before .before .before in
-    cut-export (cut .solve-cut .result) (cut .solve-cut .ensures) _ _ _ _ _ (c .tell-halves .ensures)
+    let known : tie.After-slice-known3 = cut .before .before .before .before in
+    let read : tie.After-shared-slice-known = known .before .before .before .before in
+    let a = read .before .args in
+    let o = cutOutcome (now (a .problem)) (now (a .sides)) (now (a .costs)) (now (a .choices)) (now (a .work)) in
+    cut-export {o = o} (cut .solve-cut .result) (cut .solve-cut .ensures) _ _ _ _ _ (c .tell-halves .ensures)
 
 pub frontier-cut-spec : {M : Type 1} → statement M
 frontier-cut-spec =

@@ -2,6 +2,7 @@
 use native.Mathlib.Omega.{arith}
 use denote.Ref.{now}
 use borrow.Author.Needs.{needs}
+use Rattle.model.specs.Calls.{solveOutcome}
 use Rattle.frontier.proofs.Promises.{solve-promise}
 use Rattle.frontier.proofs.solve_as.Statement.{statement}
 use Rattle.frontier.proofs.solve_as.Tie as tie
@@ -24,9 +25,10 @@ returns c =
     let solved : tie.After-solve-with = copied .before .before .before in
     let lent : tie.After-slice-known3 = solved .before .before .before .before in
     let known : tie.After-shared-slice-known = lent .before .before .before in
-    let s = now (known .before .args .problem) in
-    solve-promise s (λ i. omega (arith, known .shared-slice-known .given i)) _ (solved .solve-with .result)
-    (solved .solve-with .ensures)
+    let a = known .before .args in
+    let o = solveOutcome (now (a .problem)) (now (a .costs)) (now (a .choices)) (now (a .work)) in
+    solve-promise (now (a .problem)) (λ i. omega (arith, known .shared-slice-known .given i)) o
+    (solved .solve-with .result) (solved .solve-with .ensures)
 
 pub solve-as-spec : {M : Type 1} → statement M
 solve-as-spec = tie.close (tie.spec solve-with-requires same-length same-length-2 same-length-3 returns)

@@ -2,6 +2,7 @@
 use native.Mathlib.Omega.{arith}
 use denote.Ref.{now}
 use borrow.Author.Needs.{needs}
+use Rattle.model.specs.Calls.{cutOutcome}
 use Rattle.frontier.proofs.Promises.{cut-promise}
 use Rattle.frontier.proofs.solve_cut.Statement.{statement}
 use Rattle.frontier.proofs.solve_cut.Tie as tie
@@ -24,9 +25,10 @@ returns c =
     let cut : tie.After-cut-problem = copied .before .before .before in
     let lent : tie.After-slice-known3 = cut .before .before .before .before in
     let known : tie.After-shared-slice-known = lent .before .before .before .before in
-    let s = now (known .before .args .problem) in
-    cut-promise s (λ i. omega (arith, known .shared-slice-known .given i)) _ (cut .cut-problem .result)
-    (cut .cut-problem .ensures)
+    let a = known .before .args in
+    let o = cutOutcome (now (a .problem)) (now (a .sides)) (now (a .costs)) (now (a .choices)) (now (a .work)) in
+    cut-promise (now (a .problem)) (λ i. omega (arith, known .shared-slice-known .given i)) o
+    (cut .cut-problem .result) (cut .cut-problem .ensures)
 
 pub solve-cut-spec : {M : Type 1} → statement M
 solve-cut-spec = tie.close (tie.spec cut-problem-requires same-length same-length-2 same-length-3 returns)

@@ -1,7 +1,4 @@
 -- `merge::cut_lists` meets its contract: each return hands what the callees ensure to one law of Cutting.
-use mathlib.Core.Path.{sym, _∙_}
-use mathlib.Core.List.{List}
-use Prim.Native.Nat.{ℕ}
 use native.Mathlib.Omega.{arith}
 use denote.Ref.{now}
 use borrow.Author.Needs.{needs}

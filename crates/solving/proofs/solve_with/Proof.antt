@@ -1,6 +1,6 @@
 -- `solving::solve_with` meets its contract: what is refused before the search changes nothing, and what was found is
 -- handed to one law of SolveEnds.
-use mathlib.Core.Path.{_≡_, _∙_}
+use mathlib.Core.Path.{_∙_}
 use mathlib.Core.List.{List}
 use Prim.Native.Nat.{ℕ, _≤_}
 use native.Mathlib.Omega.{arith}
