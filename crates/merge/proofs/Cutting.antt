@@ -58,6 +58,7 @@ module _ {p r at room : ℕ} {ceilings ds s was : List ℕ} (ss : List ℕ) (a :
 
   -- a half has the ceilings of the whole, so that its costs are words
   half-words : p ≤ length ceilings → (k : ℕ) → All WordCosts (listOf k)
+  unfolding view
   half-words wide k =
       let v = view k q ss in
       all-in WordCosts (listOf k) (λ t m.
