@@ -58,7 +58,7 @@ cut-full q hs ss room work work′ h long =
 
 -- the problem as the core has it, and the ceilings of the halves, which the problem's own imply
 module _
-    {p r at room : ℕ} {ceilings ds s was : List ℕ} (ss halves : List ℕ)
+    {p r at room : ℕ} {ds s was : List ℕ} (ceilings ss halves : List ℕ)
     (a : Accepted p r at room (coreCeilings ceilings) ds s was)
     (sides : sidesOk (problemAt p ceilings ds s at r) ss ≡ true)
     (free : uncrossed ss (problemAt p ceilings ds s at r .tables) ≡ true)
