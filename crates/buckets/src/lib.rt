@@ -247,8 +247,7 @@ fn add_record(s: &[u8], at: usize, v: usize, sizes: &[u8], choice: &[u8], totals
     let mut a: usize = 0;
     while a < size {
         let place = 4 * a + o;
-        totals[place] = totals[place]
-            + costs::table_entry(s, at, first + a * stride, sizes);
+        totals[place] = totals[place] + costs::table_entry(s, at, first + a * stride, sizes);
         a += 1;
     }
 }

@@ -82,9 +82,9 @@ module _ (s : List ℕ) (r : DG.Reading) (a : AcceptedReading s r) (ss w : List 
       → CutFound (coreOf searched) (take p (coreCeilings (r .head .ceilings))) ss room w w1 l
       → CutListed (problemOf s) ss room w w1 l
   cut-found room w1 l says =
+      let cs = r .head .ceilings in
       subst (λ (q : Problem). CutListed q ss room w w1 l) (same-problem s r a)
-      (cut-listed searched (take p (coreCeilings (r .head .ceilings))) (take-ceilings p (r .head .ceilings)) ss room w w1 l
-      says)
+      (cut-listed searched (take p (coreCeilings cs)) (take-ceilings p cs) ss room w w1 l says)
 
   module _ (c x : List ℕ) (room : ℕ) (room-as : room ≡ min (divided (length c) p) (min (divided (length x) n) maxPoints)) (l : DL.Lists) (w1 : List ℕ) (says : CutListed (problemOf s) ss room w w1 l) where
     abbrev q : Problem

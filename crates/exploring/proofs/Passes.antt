@@ -128,8 +128,8 @@ module _ {d : DD.Directions} {r room : ℕ} {ceilings ds s work : List ℕ} (h :
         let p = d .objectives in
         let wide : length (y .costs) ≡ p = reached-width problem y m in
         let words : All Word (y .costs) =
-        under-ceilings (y .costs) (take p ceilings) (wide ∙ sym (length-take-le p ceilings four)) (core-under problem y m)
-        (all-take WordCeiling p ceilings (h .limited)) in
+        under-ceilings (y .costs) (take p ceilings) (wide ∙ sym (length-take-le p ceilings four))
+        (core-under problem y m) (all-take WordCeiling p ceilings (h .limited)) in
         let weights : All (λ w. w ≤ maxWeight) (leadWeights d) = all-take (λ w. w ≤ maxWeight) p (drop (4 * 0) (d .weights)) (all-drop (λ w. w ≤ maxWeight) (4 * 0) (d .weights) (sensible .small)) in
         omega (arith, weighted-limit maxWeight wordEnd (leadWeights d) (y .costs) weights words, mul-le-mul-right (maxWeight * wordEnd) (sensible .few))
 

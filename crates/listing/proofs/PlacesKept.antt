@@ -95,5 +95,6 @@ module _ (p r at room : ℕ) (ceilings ds s work : List ℕ) (a : Accepted p r a
   pub kept-says : (work′ : List ℕ) (f : DF.Found) → FoundSays p (length ds) (coreFrontier (sourceProblem p r wide ds s after)) room after work′ f → FoundSays p (length ds) (coreFrontier (coreOf (problemAt p ceilings ds s at r))) room work work′ f
   kept-says work′ f =
       let q : sourceProblem p r wide ds s after ≡ coreOf (problemAt p ceilings ds s at r) =
-      rw (same, written-places r at ds s work sourceAt inside kept says, places-tables ds s r at, take-ceilings p ceilings) in
+      let read = written-places r at ds s work sourceAt inside kept says in
+      rw (same, read, places-tables ds s r at, take-ceilings p ceilings) in
       says-since (written-length r at ds s work sourceAt inside kept says) (ap coreFrontier q)

@@ -159,7 +159,16 @@ pub fn find_list(
         room (now (work .entry)) (now (work .exit)) f ⌝ }
 {
     problem::keep_places(s, at, r, sizes, &mut work[groups::SOURCE_AT..]);
-    find_source(s, sizes, r as usize, p, widened(ceilings), room, by_passes, work)
+    find_source(
+        s,
+        sizes,
+        r as usize,
+        p,
+        widened(ceilings),
+        room,
+        by_passes,
+        work,
+    )
 }
 
 // The frontier list of one half, in work memory: the records on the side, over the domain sizes that it leaves, under

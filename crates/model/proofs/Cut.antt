@@ -83,7 +83,8 @@ unfolding costsOf totals
 costs-with cs q x = refl
 
 -- what keeps the ceilings of the problem keeps those of the halves
-module _ (q : Problem) (ss : List ℕ) (sides : sidesOk q ss ≡ true) (free : uncrossed ss (q .tables) ≡ true) (hs : List ℕ)
+module _
+    (q : Problem) (ss : List ℕ) (sides : sidesOk q ss ≡ true) (free : uncrossed ss (q .tables) ≡ true) (hs : List ℕ)
     (loose : (c : List ℕ) → under c (q .ceilings) ≡ true → under c hs ≡ true) where
   abbrev halfOf : ℕ → Problem
   halfOf k = half k (withCeilings hs q) ss
@@ -121,7 +122,10 @@ module _ (q : Problem) (ss : List ℕ) (sides : sidesOk q ss ≡ true) (free : u
       let z = merged ss (a .choice) (b .choice) in
       let parts : costsOf q z ≡ added (costsOf (halfOf 0) (onSide 0 ss z)) (costsOf (halfOf 1) (onSide 1 ss z)) =
       sym (costs-with hs q z) ∙ costs-halves (withCeilings hs q) ss z all long (choice-long z (j .whole)) free in
-      let e : added (a .costs) (b .costs) ≡ costsOf q z = ap₂ added (h .exact ∙ sym (λ i. costsOf (halfOf 0) (j .zero-part i))) (k .exact ∙ sym (λ i. costsOf (halfOf 1) (j .one-part i))) ∙ sym parts in
+      let e : added (a .costs) (b .costs) ≡ costsOf q z =
+      ap₂ added (h .exact ∙ sym (λ i. costsOf (halfOf 0) (j .zero-part i)))
+      (k .exact ∙ sym (λ i. costsOf (halfOf 1) (j .one-part i)))
+      ∙ sym parts in
       record { complete = j .whole; allowed = subst (λ (t : List ℕ). under t (q .ceilings) ≡ true) e u; exact = e }
 
   -- the pairs of the halves' lists

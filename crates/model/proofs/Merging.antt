@@ -46,7 +46,8 @@ module _ (q : Problem) (ss : List ℕ) where
   sums-all (a ∷ xs) bs h = ap₂ _++_ (sums-with a bs (λ b m. h a b (here refl) m)) (sums-all xs bs (λ c b m. h c b (there m)))
 
 -- the sums of the views' lists, each under ceilings hs that the problem's own imply
-module _ (q : Problem) (ss : List ℕ) (sides : sidesOk q ss ≡ true) (free : uncrossed ss (q .tables) ≡ true) (hs : List ℕ)
+module _
+    (q : Problem) (ss : List ℕ) (sides : sidesOk q ss ≡ true) (free : uncrossed ss (q .tables) ≡ true) (hs : List ℕ)
     (loose : (c : List ℕ) → under c (q .ceilings) ≡ true → under c hs ≡ true) where
   abbrev listed : ℕ → List Point
   listed k = coreFrontier (half k (withCeilings hs q) ss)

@@ -53,11 +53,11 @@ suffix-more n k j l t =
     (λ v e. let r = side-from (n - j) j v e in from-side (n - k) k v (omega (arith, r .0)) (omega (arith, r .0, r .1)))
     (t .scope)
 
--- nothing may always be added
 -- a smaller gain is undercut by no choice either
 pub gain-less : (q : Problem) (o k g h : ℕ) → g ≤ h → Gain q o k h → Gain q o k g
 gain-less q o k g h l gain y c = omega (arith, gain y c)
 
+-- nothing may always be added
 pub gain-none : (q : Problem) (o k : ℕ) → Gain q o k 0
 unfolding agrees
 gain-none q o k y c =

@@ -1,5 +1,6 @@
 -- `costs::least_from` meets its contract. By recursion on the scope's variables, with a loop over the values of a free one.
--- The invariant: the least so far is the least over the first x values, and below the entries' limit. The measure is how many variables are left, of three at most.
+-- The invariant: the least so far is the least over the first x values, and below the entries' limit. The measure is
+-- how many variables are left, of three at most.
 use mathlib.Core.Path.{_≡_}
 use mathlib.Core.Bool.{true}
 use mathlib.Core.List.{List}
@@ -156,7 +157,8 @@ module _ (t : ℕ) where
       let a = c .before .before .before .before .before .before .args in
       let q = c .before .before .before .before .before .before .pre .1 in
       let entry = c .table-entry .ensures in
-      (rw (c .before .if1 .taken, scope-end (now (a .sizes)) (now (a .s)) (a .at) (q .0), least-none) (entry .0), entry .1)
+      let none = scope-end (now (a .sizes)) (now (a .s)) (a .at) (q .0) in
+      (rw (c .before .if1 .taken, none, least-none) (entry .0), entry .1)
 
   add-v : lts.Need-add-v (calls t) (asked t) least-from.Post Inv-loop μ-loop
   add-v c =
@@ -214,8 +216,10 @@ module _ (t : ℕ) where
       let s = start (fixed .before .before .before) in
       let a = s .args in
       let vs = drop (a .k + 1) (scopeAt (now (a .s)) (a .at)) in
-      let next = scope-next (now (a .sizes)) (now (a .s)) (a .at) (s .pre .1 .0) (a .k) (inside (fixed .before .before .before)) in
-      let value = least-fixed (now (a .sizes)) (now (a .prefix)) (entryAt (now (a .sizes)) (now (a .s)) (a .at)) (a .index) _ vs (fixed .if2 .taken) in
+      let more = inside (fixed .before .before .before) in
+      let next = scope-next (now (a .sizes)) (now (a .s)) (a .at) (s .pre .1 .0) (a .k) more in
+      let entries = entryAt (now (a .sizes)) (now (a .s)) (a .at) in
+      let value = least-fixed (now (a .sizes)) (now (a .prefix)) entries (a .index) _ vs (fixed .if2 .taken) in
       (rw (next, value) (c .least-from .ensures .0), c .least-from .ensures .1)
 
   add-least-from-3 : lts.Need-add-least-from-3 (calls t) (asked t) least-from.Post Inv-loop μ-loop
@@ -258,11 +262,12 @@ module _ (t : ℕ) where
   loop-again c =
       let w = c .before .before .before .loop in
       let next = c .before .least-from3 .ensures in
-      let step = least-next (w .x) (rest (c .before .before .before .before .before .before .before .before)) in
-      ( omega arith
-      , omega arith
-      , rw (step, c .lesser .ensures, w .inv .2, next .0)
-      , omega (arith, c .lesser .ensures, w .inv .3, next .1))
+      let step = least-next (w .x) (rest (c .before .before .before .before .before .before .before .before)) in (
+        omega arith,
+        omega arith,
+        rw (step, c .lesser .ensures, w .inv .2, next .0),
+        omega (arith, c .lesser .ensures, w .inv .3, next .1),
+      )
 
   returns-3 : lts.Need-returns-3 (calls t) (asked t) least-from.Post Inv-loop μ-loop
   returns-3 c =

@@ -1,4 +1,5 @@
--- `costs::bounds_of` meets its contract. The invariant, `Summing`, over the least entry of a table; a weight is taken back.
+-- `costs::bounds_of` meets its contract. The invariant, `Summing`, over the least entry of a table;
+-- a weight is taken back.
 use mathlib.Core.Path.{_≡_, ap, _∙_}
 use mathlib.Core.List.{List}
 use Prim.Native.Nat.{ℕ, _<_}
@@ -29,13 +30,14 @@ abbrev μ-loop : tie.MeasureT-loop
 μ-loop s at r sizes prefix sums₀ here₀ left₀ sums here left = left
 
 abbrev calls : lts.Claims
-calls =
-    ( record-at-reads.Asked
-    , record-at-reads.Learnt
-    , least-at-reads.Asked
-    , least-at-reads.Learnt
-    , unweighed-reads.Asked
-    , unweighed-reads.Learnt)
+calls = (
+  record-at-reads.Asked,
+  record-at-reads.Learnt,
+  least-at-reads.Asked,
+  least-at-reads.Learnt,
+  unweighed-reads.Asked,
+  unweighed-reads.Learnt,
+)
 
 -- ## the places, each by its name
 
@@ -66,19 +68,21 @@ whole : (c : Turn) → let a = start c .args in Whole (now (a .sizes)) (now (a .
 whole c =
     let a = start c .args in
     let w = c .before .loop in
-    next-whole (share c) (now (a .sizes)) (now (a .s)) (a .r) (a .at) (w .sums) (w .here) (w .left) (w .inv) (omega arith)
+    next-whole (share c) (now (a .sizes)) (now (a .s)) (a .r) (a .at) (w .sums) (w .here) (w .left) (w .inv)
+    (omega arith)
 
 own : (c : Read) → c .before .record-at .result .objective < maxObjectives
 own c = omega (arith, c .before .record-at .ensures .objective, whole (turn c) .owner)
 
 -- what was added is the least entry of the table that was read
-added : (c : Back) → let a = start (turn (read c)) .args in
-    c .unweighed .result ≡ share (turn (read c)) (tableOf (now (a .sizes)) (drop (turn (read c) .before .loop .here) (now (a .s))))
+added : (c : Back) → let t = turn (read c) in let a = start t .args in
+    c .unweighed .result ≡ share t (tableOf (now (a .sizes)) (drop (t .before .loop .here) (now (a .s))))
 added c =
     let t = turn (read c) in
     let a = start t .args in
     c .unweighed .ensures .0 ∙ ap plain (c .before .least-at .ensures .0)
-    ∙ plain-least (now (a .sizes)) (now (a .s)) (t .before .loop .here) (λ i. omega (arith, t .before .before .before .before .shared-slice-known .given i)) (now (a .prefix))
+    ∙ plain-least (now (a .sizes)) (now (a .s)) (t .before .loop .here)
+    (λ i. omega (arith, t .before .before .before .before .shared-slice-known .given i)) (now (a .prefix))
 
 -- ## the needs, in the order of the code
 
@@ -111,8 +115,10 @@ add-sums c =
     let t = turn (read c) in
     let a = start t .args in
     let w = t .before .loop in
-    let small = sum-small (share t) (now (a .sizes)) (now (a .s)) (a .r) (a .at) (w .sums) (w .here) (w .left) (w .inv) (start t .pre .1) in
-    omega (arith, c .unweighed .ensures .1, c .before .least-at .ensures .1, small (read c .before .record-at .result .objective))
+    let small =
+    sum-small (share t) (now (a .sizes)) (now (a .s)) (a .r) (a .at) (w .sums) (w .here) (w .left) (w .inv)
+    (start t .pre .1) (read c .before .record-at .result .objective) in
+    omega (arith, c .unweighed .ensures .1, c .before .least-at .ensures .1, small)
 
 mul-sums-2 : tie.Need-mul-sums-2 Inv-loop μ-loop
 mul-sums-2 c = omega (arith, own (read c))
@@ -147,8 +153,8 @@ returns c =
     let s = c .before .before .before .before .before in
     let a = s .args in
     let w = c .before .loop in
-    summing-end (leastOf (now (a .sizes)) (now (a .prefix))) (now (a .sizes)) (now (a .s)) (a .r) (a .at) (w .sums) (w .here)
-    (w .left) (w .inv) (omega arith)
+    summing-end (leastOf (now (a .sizes)) (now (a .prefix))) (now (a .sizes)) (now (a .s)) (a .r) (a .at) (w .sums)
+    (w .here) (w .left) (w .inv) (omega arith)
 
 pub bounds-of-spec : {M : Type 1} → statement M
 bounds-of-spec =

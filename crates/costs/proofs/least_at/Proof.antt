@@ -23,8 +23,8 @@ least-row-requires c κs = search needs
 returns-2 : tie.Need-returns-2
 unfolding leastOf tableOf
 returns-2 c =
-    let some = c .before .before .before .run-at .ensures .least (omega (arith, c .before .if1 .left)) in
-    (c .least-row .ensures .0 ∙ some, c .least-row .ensures .1)
+    let run = c .before .before .before .run-at .ensures in
+    (c .least-row .ensures .0 ∙ run .least (omega (arith, c .before .if1 .left)), c .least-row .ensures .1)
 
 pub least-at-spec : {M : Type 1} → statement M
 least-at-spec =

@@ -54,10 +54,11 @@ loop-again c =
     let a = c .before .before .before .before .before .before .before .args in
     let w = c .before .before .before .loop in
     let next = c .before .table-entry2 .ensures in
-    let step = least-next (w .i) (λ j. entryAt (now (a .sizes)) (now (a .s)) (a .at) (a .first + j)) in
-    ( omega arith
-    , rw (step, c .lesser .ensures, w .inv .1, next .0)
-    , omega (arith, c .lesser .ensures, w .inv .2, next .1))
+    let step = least-next (w .i) (λ j. entryAt (now (a .sizes)) (now (a .s)) (a .at) (a .first + j)) in (
+      omega arith,
+      rw (step, c .lesser .ensures, w .inv .1, next .0),
+      omega (arith, c .lesser .ensures, w .inv .2, next .1),
+    )
 
 returns : tie.Need-returns Inv-loop μ-loop
 returns c =

@@ -120,12 +120,13 @@ keep-half-requires-2 : tie.Need-keep-half-requires-2
 keep-half-requires-2 c κs =
     let first = first-of (c .before) in
     let w = widened-of first in
-    let long = first .keep-half .ensures .long in
-    ( accepted w _ (omega (arith, start w .pre .3, long))
-    , one-each w
-    , omega arith
-    , omega arith
-    , omega (arith, start w .pre .3, long))
+    let long = first .keep-half .ensures .long in (
+      accepted w _ (omega (arith, start w .pre .3, long)),
+      one-each w,
+      omega arith,
+      omega arith,
+      omega (arith, start w .pre .3, long),
+    )
 
 no-lists-requires-2 : tie.Need-no-lists-requires-2
 no-lists-requires-2 c κs = search needs
@@ -155,12 +156,13 @@ merge-points-requires c κs =
     let w = widened-of first in
     let s = start w in
     let cs = s .args .ceilings in
-    let sides = now (s .args .sides) in
-    ( cut-halved cs sides (wide w) (s .pre .0) (s .pre .1) (s .pre .2) (s .pre .3) (loose w)
-    (first .keep-half .ensures) (left .if1 .left) (second .keep-half2 .ensures) (both .if2 .left)
-    , cut-limited cs sides (wide w) (s .pre .0) (s .pre .1) (s .pre .2) (s .pre .3) (loose w)
-    (first .keep-half .ensures) (left .if1 .left) (second .keep-half2 .ensures) (both .if2 .left) (w .widened .ensures)
-    , s .pre .0 .room-small)
+    let sides = now (s .args .sides) in (
+      cut-halved cs sides (wide w) (s .pre .0) (s .pre .1) (s .pre .2) (s .pre .3) (loose w)
+          (first .keep-half .ensures) (left .if1 .left) (second .keep-half2 .ensures) (both .if2 .left),
+      cut-limited cs sides (wide w) (s .pre .0) (s .pre .1) (s .pre .2) (s .pre .3) (loose w)
+          (first .keep-half .ensures) (left .if1 .left) (second .keep-half2 .ensures) (both .if2 .left) (w .widened .ensures),
+      s .pre .0 .room-small,
+    )
 
 no-lists-requires-3 : tie.Need-no-lists-requires-3
 no-lists-requires-3 c κs = search needs
