@@ -19,8 +19,8 @@ use Rattle.problem.specs.declared.Refusal as DR
 use Rattle.problem.specs.declared.Reading as DG
 use Rattle.problem.specs.Says.{RefusalSays}
 use Rattle.problem.proofs.Accepted.{AcceptedReading}
-use Rattle.passes.specs.declared.Found as DF
-use Rattle.passes.specs.Says.{FoundFor}
+use Rattle.pass_list.specs.declared.Found as DF
+use Rattle.pass_list.specs.Says.{FoundFor}
 use Rattle.answers.specs.declared.Listed as DI
 use Rattle.answers.specs.Says.{fullNumber, unlisted, foundRows, listVerdict, ListedSays}
 use Rattle.answers.proofs.Early.{earlyVerdict, early-limits, early-verdict, room-verdict}

@@ -14,8 +14,8 @@ use Rattle.model.specs.Calls.{over, roomOf, flatCosts, flatChoices, solveOutcom
 use Rattle.rows.specs.Rows.{listIn}
 use Rattle.problem.specs.declared.Reading as DG
 use Rattle.problem.proofs.Accepted.{AcceptedReading}
-use Rattle.passes.specs.declared.Found as DF
-use Rattle.passes.specs.Says.{FoundFor}
+use Rattle.pass_list.specs.declared.Found as DF
+use Rattle.pass_list.specs.Says.{FoundFor}
 use Rattle.answers.specs.Says.{roomIn, foundAnswer, SolveSays, CopyAsked, CopiedOut}
 use Rattle.answers.proofs.Early.{earlyVerdict, room-verdict}
 use Rattle.answers.proofs.FoundRows.{found-few, rows-found, rows-read, room-is, copy-asked}

@@ -15,7 +15,7 @@ use Rattle.model.specs.Calls.{over, divided, flatCosts, flatChoices, SolveOutco
 use Rattle.model.specs.declared.Header as DM
 use Rattle.layout.specs.Layout.{listEnd}
 use Rattle.rows.specs.Rows.{listIn, RowsHold}
-use Rattle.passes.specs.declared.Found as DF
+use Rattle.pass_list.specs.declared.Found as DF
 use Rattle.answers.specs.declared.Answer as DA
 use Rattle.answers.specs.declared.Listed as DI
 

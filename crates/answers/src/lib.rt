@@ -99,7 +99,7 @@ fn full_number(full: bool) -> u8
 }
 
 // The plain call's answer, by what was found.
-pub fn answer_of(found: passes::Found) -> Answer
+pub fn answer_of(found: pass_list::Found) -> Answer
     requires { ⌜ found .count ≤ maxPoints ⌝ }
     ensures { λ r. ⌜ r ≡ foundAnswer found ⌝ }
 {
@@ -146,7 +146,7 @@ pub fn not_listed(early: problem::Refusal) -> Listed
 }
 
 // A list in work memory, by what was found; where it is longer than the room, work memory is cleared.
-pub fn found_rows(head: model::Header, found: passes::Found, work: &mut [u32]) -> Listed
+pub fn found_rows(head: model::Header, found: pass_list::Found, work: &mut [u32]) -> Listed
     ensures { λ r. ⌜ (r ≡ foundRows head found)
         × (now (work .exit)
         ≡ pick (found .full) (replicate (length (now (work .entry))) 0) (now (work .entry))) ⌝ }

@@ -31,7 +31,8 @@ least-rows (suc n) m f =
     rw (least-rows n m f, end, here, least-join (n * suc m + m) m f)
 
 -- r runs of d
-pub least-run : (r d : ℕ) (f : ℕ → ℕ) → 1 ≤ r → 1 ≤ d → leastTo (r - 1) (λ a. leastTo (d - 1) (λ b. f (a * d + b))) ≡ leastTo (r * d - 1) f
+pub least-run : (r d : ℕ) (f : ℕ → ℕ) → 1 ≤ r → 1 ≤ d
+    → leastTo (r - 1) (λ a. leastTo (d - 1) (λ b. f (a * d + b))) ≡ leastTo (r * d - 1) f
 least-run zero d f h l = absurd (omega arith)
 least-run (suc r) zero f h l = absurd (omega arith)
 least-run (suc r) (suc d) f h l =

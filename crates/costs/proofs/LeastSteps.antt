@@ -23,10 +23,13 @@ least-none ds pre entry i = refl
 
 -- else the prefix's value of the first variable, or the least over its domain
 module _ (ds pre : List ℕ) (entry : ℕ → ℕ) (i v : ℕ) (vs : List ℕ) where
-  pub least-fixed : v < length pre → leastFrom ds pre entry i (v ∷ vs) ≡ leastFrom ds pre entry (i * getD ds v 0 + getD pre v 0) vs
+  pub least-fixed : v < length pre
+      → leastFrom ds pre entry i (v ∷ vs) ≡ leastFrom ds pre entry (i * getD ds v 0 + getD pre v 0) vs
   unfolding leastFrom
   least-fixed h = rw (lt-ltb v (length pre) h)
 
-  pub least-free : length pre ≤ v → leastFrom ds pre entry i (v ∷ vs) ≡ leastTo (getD ds v 0 - 1) (λ a. leastFrom ds pre entry (i * getD ds v 0 + a) vs)
+  pub least-free : length pre ≤ v
+      → leastFrom ds pre entry i (v ∷ vs)
+      ≡ leastTo (getD ds v 0 - 1) (λ a. leastFrom ds pre entry (i * getD ds v 0 + a) vs)
   unfolding leastFrom
   least-free h = rw (le-ltb v (length pre) h)

@@ -20,6 +20,8 @@ prefix-long ds [] h = absurd (omega arith)
 prefix-long [] (x ∷ pre) h = refl
 prefix-long (d ∷ ds) (x ∷ pre) h = either-false (ltb x d) (prefix-long ds pre (omega arith))
 
-pub prefix-next : (ds pre : List ℕ) (i : ℕ) → i < length ds → i < length pre → prefixOk (drop i ds) (drop i pre) ≡ (ltb (getD pre i 0) (getD ds i 0) && prefixOk (drop (i + 1) ds) (drop (i + 1) pre))
+pub prefix-next : (ds pre : List ℕ) (i : ℕ) → i < length ds → i < length pre
+    → prefixOk (drop i ds) (drop i pre)
+    ≡ (ltb (getD pre i 0) (getD ds i 0) && prefixOk (drop (i + 1) ds) (drop (i + 1) pre))
 unfolding prefixOk
 prefix-next ds pre i h l = rw (drop-cons ds i 0 h, drop-cons pre i 0 l, add-one)

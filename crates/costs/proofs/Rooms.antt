@@ -1,4 +1,5 @@
--- Room for an index: after the first k variables of a scope, index i has as many entries as the other variables have values, all in the table.
+-- Room for an index: after the first k variables of a scope, index i has as many entries as the other variables have
+-- values, all in the table.
 use mathlib.Core.Path.{_≡_}
 use mathlib.Core.List.{List}
 use Prim.Native.Nat.{ℕ, suc, _+_, _*_, _≤_, _<_}
@@ -25,16 +26,23 @@ abbrev pub Room : List ℕ → List ℕ → ℕ → ℕ → ℕ → Type 0
 Room ds s at k i = (i + 1) * sizeOf ds (drop k (scopeAt s at)) ≤ entriesAt ds s at
 
 -- n indices with room for each are at most as many as there are entries
-pub rooms-fit : (ds s : List ℕ) (at : ℕ) → Whole ds s at → All DomainSize ds → (k n : ℕ) → n * sizeOf ds (drop k (scopeAt s at)) ≤ entriesAt ds s at → n ≤ entriesAt ds s at
-rooms-fit ds s at w sizes k n h = le-trans (le-mul-of-pos-right n (size-positive ds sizes (drop k (scopeAt s at)) (all-drop (λ v. v < length ds) k (scopeAt s at) (w .range)))) h
+pub rooms-fit : (ds s : List ℕ) (at : ℕ) → Whole ds s at → All DomainSize ds → (k n : ℕ)
+    → n * sizeOf ds (drop k (scopeAt s at)) ≤ entriesAt ds s at → n ≤ entriesAt ds s at
+rooms-fit ds s at w sizes k n h =
+    le-trans (le-mul-of-pos-right n
+    (size-positive ds sizes (drop k (scopeAt s at)) (all-drop (λ v. v < length ds) k (scopeAt s at) (w .range))))
+    h
 
-module _ (ds s : List ℕ) (at : ℕ) (w : Whole ds s at) (sizes : All DomainSize ds) (k i : ℕ) (room : Room ds s at k i) where
+module _ (ds s : List ℕ) (at : ℕ) (w : Whole ds s at) (sizes : All DomainSize ds) (k i : ℕ)
+    (room : Room ds s at k i) where
   pub room-index : i < entriesAt ds s at
   room-index = omega (arith, rooms-fit ds s at w sizes k (i + 1) room)
 
   pub room-fits : i < length s
   room-fits = omega (arith, room-index, whole-long ds s at w)
 
-pub room-next : (ds s : List ℕ) (at : ℕ) → Whole ds s at → (k i : ℕ) → Room ds s at k i → k < getD s (at + 3) 0 → (x : ℕ) → x < getD ds (getD s (at + 4 + k) 0) 0 → Room ds s at (k + 1) (i * getD ds (getD s (at + 4 + k) 0) 0 + x)
+pub room-next : (ds s : List ℕ) (at : ℕ) → Whole ds s at → (k i : ℕ) → Room ds s at k i → k < getD s (at + 3) 0
+    → (x : ℕ) → x < getD ds (getD s (at + 4 + k) 0) 0 → Room ds s at (k + 1) (i * getD ds (getD s (at + 4 + k) 0) 0 + x)
 unfolding sizeOf
-room-next ds s at w k i room h x l = le-trans (inner i _ x (sizeOf ds (drop (k + 1) (scopeAt s at))) l) (rw (scope-next ds s at w k h) at room)
+room-next ds s at w k i room h x l =
+    le-trans (inner i _ x (sizeOf ds (drop (k + 1) (scopeAt s at))) l) (rw (scope-next ds s at w k h) at room)

@@ -21,7 +21,9 @@ pub record Running (ds pre s : List ℕ) (at k first count : ℕ) : Type 0 where
   pub inside : k ≤ getD s (at + 3) 0
   pub some : 1 ≤ count
   pub room : (first + count) * sizeOf ds (drop k (scopeAt s at)) ≤ entriesAt ds s at
-  pub least : leastTo (count - 1) (λ a. leastFrom ds pre (entryAt ds s at) (first + a) (drop k (scopeAt s at))) ≡ leastFrom ds pre (entryAt ds s at) 0 (scopeAt s at)
+  pub least :
+      leastTo (count - 1) (λ a. leastFrom ds pre (entryAt ds s at) (first + a) (drop k (scopeAt s at)))
+      ≡ leastFrom ds pre (entryAt ds s at) 0 (scopeAt s at)
 
 module _ (ds pre s : List ℕ) (at : ℕ) where
   pub running-start : Running ds pre s at 0 0 1
@@ -34,11 +36,13 @@ module _ (ds pre s : List ℕ) (at : ℕ) where
         least = refl;
       }
 
-module _ (ds pre s : List ℕ) (at : ℕ) (w : Whole ds s at) (sizes : All DomainSize ds) (k first count : ℕ) (u : Running ds pre s at k first count) where
+module _ (ds pre s : List ℕ) (at : ℕ) (w : Whole ds s at) (sizes : All DomainSize ds) (k first count : ℕ)
+    (u : Running ds pre s at k first count) where
   pub running-inside : first + count ≤ entriesAt ds s at
   running-inside = rooms-fit ds s at w sizes k (first + count) (u .room)
 
-  pub running-end : k ≡ getD s (at + 3) 0 → leastTo (count - 1) (λ a. entryAt ds s at (first + a)) ≡ leastFrom ds pre (entryAt ds s at) 0 (scopeAt s at)
+  pub running-end : k ≡ getD s (at + 3) 0
+      → leastTo (count - 1) (λ a. entryAt ds s at (first + a)) ≡ leastFrom ds pre (entryAt ds s at) 0 (scopeAt s at)
   running-end e =
       let none = scope-end ds s at w in
       least-same (count - 1) _ _ (λ a. sym (rw (e, none, least-none))) ∙ u .least
@@ -63,20 +67,35 @@ module _ (ds pre s : List ℕ) (at : ℕ) (w : Whole ds s at) (sizes : All Domai
         let vs = drop (k + 1) (scopeAt s at) in
         let from : ℕ → ℕ = λ i. leastFrom ds pre (entryAt ds s at) i vs in
         let one : 1 ≤ d = variable-size ds s at w k more sizes .0 in
-        let each : (a : ℕ) → leastTo (d - 1) (λ b. from (first * d + (a * d + b))) ≡ leastFrom ds pre (entryAt ds s at) (first + a) (drop k (scopeAt s at)) = λ a. rw (scope-next ds s at w k more, least-free ds pre (entryAt ds s at) (first + a) variable vs h) (simp (add-mul, add-assoc)) in
+        let each : (a : ℕ)
+        → leastTo (d - 1) (λ b. from (first * d + (a * d + b)))
+        ≡ leastFrom ds pre (entryAt ds s at) (first + a) (drop k (scopeAt s at)) = λ a. rw (
+          scope-next ds s at w k more,
+          least-free ds pre (entryAt ds s at) (first + a) variable vs h,
+        ) (simp (add-mul, add-assoc)) in
         record {
           inside = omega arith;
           some = mul-pos (u .some) one;
           room = wider;
-          least = sym (least-run count d (λ c. from (first * d + c)) (u .some) one) ∙ (least-same (count - 1) _ _ each ∙ u .least);
+          least =
+              sym (least-run count d (λ c. from (first * d + c)) (u .some) one)
+              ∙ (least-same (count - 1) _ _ each ∙ u .least);
         }
 
-    pub running-fixed : variable < length pre → count ≡ 1 → getD pre variable 0 < domain → Running ds pre s at (k + 1) (first * domain + getD pre variable 0) count
+    pub running-fixed : variable < length pre → count ≡ 1 → getD pre variable 0 < domain
+        → Running ds pre s at (k + 1) (first * domain + getD pre variable 0) count
     unfolding leastTo
     running-fixed h e l =
         record {
           inside = omega arith;
           some = u .some;
           room = rw e (room-next ds s at w k first (rw e at (u .room)) more _ l);
-          least = rw (e, add-zero) (rw (e, add-zero, scope-next ds s at w k more, least-fixed ds pre (entryAt ds s at) first variable (drop (k + 1) (scopeAt s at)) h) at (u .least));
+          least =
+              rw (e, add-zero)
+              (rw (
+                e,
+                add-zero,
+                scope-next ds s at w k more,
+                least-fixed ds pre (entryAt ds s at) first variable (drop (k + 1) (scopeAt s at)) h,
+              ) at (u .least));
         }

@@ -51,7 +51,8 @@ module _ (f : Table → ℕ) where
     totals-other zero o h = refl
     totals-other (suc p) o h = rw (total-other o (λ e. omega arith), totals-other p (suc o) (omega arith))
 
-    pub added-next : (p o i : ℕ) (xs : List ℕ) → length xs ≡ p → i < p → t .objective ≡ o + i → added (set xs i (getD xs i 0 + f t)) (totalsFrom p o f ts) ≡ added xs (totalsFrom p o f (t ∷ ts))
+    pub added-next : (p o i : ℕ) (xs : List ℕ) → length xs ≡ p → i < p → t .objective ≡ o + i
+        → added (set xs i (getD xs i 0 + f t)) (totalsFrom p o f ts) ≡ added xs (totalsFrom p o f (t ∷ ts))
     unfolding added totalsFrom
     added-next p o i [] l h e = absurd (omega arith)
     added-next zero o i (x ∷ xs) l h e = absurd (omega arith)
@@ -69,7 +70,9 @@ pub record Summing (f : Table → ℕ) (ds s : List ℕ) (r at : ℕ) (sums : Li
   pub four : length sums ≡ maxObjectives
   pub small : All (λ x. x ≤ entryEnd * (r - left)) sums
   pub whole : AllWhole left ds s here
-  pub rest : added sums (totalsFrom maxObjectives 0 f (tablesAt left ds s here)) ≡ totalsFrom maxObjectives 0 f (tablesAt r ds s at)
+  pub rest :
+      added sums (totalsFrom maxObjectives 0 f (tablesAt left ds s here))
+      ≡ totalsFrom maxObjectives 0 f (tablesAt r ds s at)
 
 module _ (f : Table → ℕ) (ds s : List ℕ) (r at : ℕ) where
   pub summing-start : AllWhole r ds s at → Summing f ds s r at (replicate maxObjectives 0) at r
@@ -94,15 +97,20 @@ module _ (f : Table → ℕ) (ds s : List ℕ) (r at : ℕ) where
       pub next-whole : Whole ds s here
       next-whole = whole-next left ds s here more (u .whole) .0
 
-      pub summing-next : (o cost width : ℕ) → o ≡ tableObjective (drop here s) → cost ≡ f (tableOf ds (drop here s)) → cost < entryEnd → width ≡ tableLength ds (drop here s) → Summing f ds s r at (set sums o (getD sums o 0 + cost)) (here + width) (left - 1)
+      pub summing-next : (o cost width : ℕ) → o ≡ tableObjective (drop here s) → cost ≡ f (tableOf ds (drop here s))
+          → cost < entryEnd → width ≡ tableLength ds (drop here s)
+          → Summing f ds s r at (set sums o (getD sums o 0 + cost)) (here + width) (left - 1)
       unfolding tableOf
       summing-next o cost width own is word wide =
           let t = tableOf ds (drop here s) in
           let next = tablesAt (left - 1) ds s (here + tableLength ds (drop here s)) in
-          let more-small : (x : ℕ) → x ≤ entryEnd * (r - left) → x ≤ entryEnd * (r - (left - 1)) = λ x h. omega (arith, u .fewer) in
+          let more-small : (x : ℕ) → x ≤ entryEnd * (r - left) → x ≤ entryEnd * (r - (left - 1)) =
+          λ x h. omega (arith, u .fewer) in
           let o-small = all-at (λ x. x ≤ entryEnd * (r - left)) sums (u .small) o 0 (omega arith) in
           let inside : o < maxObjectives = rw own (next-whole .owner) in
-          let step : added (set sums o (getD sums o 0 + cost)) (totalsFrom maxObjectives 0 f next) ≡ added sums (totalsFrom maxObjectives 0 f (t ∷ next)) = rw is (added-next f t next maxObjectives 0 o sums (u .four) inside (sym own ∙ sym (zero-add o))) in
+          let step : added (set sums o (getD sums o 0 + cost)) (totalsFrom maxObjectives 0 f next)
+          ≡ added sums (totalsFrom maxObjectives 0 f (t ∷ next)) =
+          rw is (added-next f t next maxObjectives 0 o sums (u .four) inside (sym own ∙ sym (zero-add o))) in
           record {
             fewer = omega (arith, u .fewer);
             four = length-set sums o _ ∙ u .four;

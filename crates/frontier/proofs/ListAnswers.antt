@@ -45,13 +45,15 @@ points-of [] = refl
 points-of (p ∷ ps) = ap (_∷_ (asPoint (recordOf p))) (points-of ps)
 
 -- none are written where nothing is listed
-over-listed : (b : Bool) (ps old : List Point) → over (pointRecords (pick b ps [])) old ≡ pick b (over (pointRecords ps) old) old
+over-listed : (b : Bool) (ps old : List Point)
+    → over (pointRecords (pick b ps [])) old ≡ pick b (over (pointRecords ps) old) old
 unfolding over pointRecords
 over-listed true ps old = refl
 over-listed false ps old = refl
 
 -- the records are written from the list in work memory, and work memory is settled
-pub list-end : (s w w1 w2 : List ℕ) (old new : List DP.Point) (r : DI.Listed) → ListedSays s (length old) w w1 r → new ≡ over (recordsOf (listIn (r .objectives) (r .variables) w1 0 (r .count))) old
+pub list-end : (s w w1 w2 : List ℕ) (old new : List DP.Point) (r : DI.Listed) → ListedSays s (length old) w w1 r
+    → new ≡ over (recordsOf (listIn (r .objectives) (r .variables) w1 0 (r .count))) old
     → w2 ≡ pick (eqb (r .number) 0) (replicate (length w1) 0) w1
     → ListExports s (listOutcome s (asPoints old) w) new w2 (r .number) (r .place) (r .count)
 unfolding listOutcome
@@ -63,14 +65,20 @@ list-end s w w1 w2 old new r says e z =
       number = rw same (says .number);
       place = rw same (says .place);
       count = rw same (counted (answers v) (says .list));
-      points = rw same (ap asPoints e ∙ points-over _ old ∙ ap (λ ps. over ps (asPoints old)) (points-of _ ∙ ap pointRecords (says .list)) ∙ over-listed (answers v) ps (asPoints old));
+      points =
+          rw same
+          (ap asPoints e
+          ∙ points-over _ old
+          ∙ ap (λ ps. over ps (asPoints old)) (points-of _ ∙ ap pointRecords (says .list))
+          ∙ over-listed (answers v) ps (asPoints old));
       work = rw same (z ∙ ap (λ n. pick (eqb n 0) (replicate (length w1) 0) w1) (says .number) ∙ says .left);
     }
   where
     ps : List Point
     ps = frontier (problemOf s)
 
-    counted : (b : Bool) → listIn (r .objectives) (r .variables) w1 0 (r .count) ≡ pick b ps [] → r .count ≡ pick b (length ps) 0
+    counted : (b : Bool) → listIn (r .objectives) (r .variables) w1 0 (r .count) ≡ pick b ps []
+        → r .count ≡ pick b (length ps) 0
     counted true h = sym (rows-length (r .objectives) (r .variables) w1 0 (r .count)) ∙ ap length h
     counted false h = sym (rows-length (r .objectives) (r .variables) w1 0 (r .count)) ∙ ap length h
 

@@ -12,8 +12,8 @@ use Rattle.answers.specs.declared.Answer as DA
 use Rattle.answers.specs.Says.{SolveSays}
 use Rattle.answers.specs.declared.Halves as DH
 use Rattle.answers.specs.Cuts.{CutSays}
-use Rattle.bounding.specs.declared.Least as DL
-use Rattle.bounding.specs.Says.{BoundSays}
+use Rattle.bound_call.specs.declared.Least as DL
+use Rattle.bound_call.specs.Says.{BoundSays}
 use Rattle.frontier.specs.Says.{SolveExports, CutExports, BoundExports}
 
 module _ (s : List ℕ) (bytes : (i : ℕ) → getD s i 0 < byteEnd) where

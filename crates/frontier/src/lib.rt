@@ -14,7 +14,7 @@ fn solve_as(
         (solveOutcome (now (problem .entry)) (now (costs .entry)) (now (choices .entry)) (now (work .entry)))
         (now (costs .exit)) (now (choices .exit)) (now (work .exit)) (r .number) (r .place) (r .count) ⌝ }
 {
-    solving::solve_with(problem, costs, choices, work, first_form)
+    solve_call::solve_with(problem, costs, choices, work, first_form)
 }
 
 // The plain call.
@@ -85,7 +85,7 @@ pub fn list_points(problem: &[u8], points: &mut [model::Point], work: &mut [u32]
         (listOutcome (now (problem .entry)) (asPoints (now (points .entry))) (now (work .entry)))
         (now (points .exit)) (now (work .exit)) (r .number) (r .place) (r .count) ⌝ }
 {
-    let found = solving::list_rows(problem, points.len(), work);
+    let found = solve_call::list_rows(problem, points.len(), work);
     rows::copy_points(work, found.count, found.variables, found.objectives, points);
     answers::settle(found, work)
 }
@@ -107,11 +107,11 @@ pub extern "C" fn frontier_points(
 }
 
 // The bound of a prefix: for each objective the sum of the least entries that agree with it.
-pub fn bound_prefix(problem: &[u8], prefix: &[u8]) -> bounding::Least
+pub fn bound_prefix(problem: &[u8], prefix: &[u8]) -> bound_call::Least
     ensures { λ r. ⌜ BoundExports (now (problem .entry)) (boundOutcome (now (problem .entry)) (now (prefix .entry)))
         (r .number) (r .place) (r .least) ⌝ }
 {
-    bounding::bound_of(problem, prefix)
+    bound_call::bound_of(problem, prefix)
 }
 
 #[no_mangle]
@@ -125,7 +125,7 @@ pub extern "C" fn frontier_bound(
         r (now (place .exit)) (now (least .exit)) ⌝ }
 {
     let bound = bound_prefix(problem, prefix);
-    bounding::tell_bound(bound, least, place)
+    bound_call::tell_bound(bound, least, place)
 }
 
 // The frontier list by the cut: that of the uncut problem, for any side list that no record has on both sides.
@@ -142,7 +142,7 @@ pub fn solve_cut(
         (now (costs .exit)) (now (choices .exit)) (now (work .exit))
         (r .number) (r .place) (r .count) (r .first) (r .second) ⌝ }
 {
-    cutting::cut_problem(problem, sides, costs, choices, work)
+    cut_call::cut_problem(problem, sides, costs, choices, work)
 }
 
 #[no_mangle]

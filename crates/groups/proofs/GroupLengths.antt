@@ -31,7 +31,8 @@ module _ (s places : List ℕ) where
   unfolding lengthTo
   length-later u zero h = absurd (omega arith)
   length-later u (suc v) h =
-      below-more (λ k. lengthTo s places k + length (groupOf s k places) ≤ lengthTo s places (suc v)) v (λ k l. omega (arith, length-later k v l)) (omega arith) u (omega arith)
+      below-more (λ k. lengthTo s places k + length (groupOf s k places) ≤ lengthTo s places (suc v)) v
+      (λ k l. omega (arith, length-later k v l)) (omega arith) u (omega arith)
 
 -- how many variables below v a scope has: no more than are in it
 countTo : ℕ → List ℕ → ℕ
@@ -54,7 +55,8 @@ unfolding countTo hasVariable
 count-more zero w ws = omega arith
 count-more (suc v) w ws = go (eqb w v) refl (count-more v w ws)
   where
-    go : (b : Bool) → eqb w v ≡ b → countTo v (w ∷ ws) ≤ 1 + countTo v ws → countTo v (w ∷ ws) + when (eqb w v || hasVariable v ws) 1 ≤ 1 + (countTo v ws + when (hasVariable v ws) 1)
+    go : (b : Bool) → eqb w v ≡ b → countTo v (w ∷ ws) ≤ 1 + countTo v ws
+        → countTo v (w ∷ ws) + when (eqb w v || hasVariable v ws) 1 ≤ 1 + (countTo v ws + when (hasVariable v ws) 1)
     go true e h = rw e (omega (arith, count-same v w ws (omega (arith, eqb-true w v e))))
     go false e h = rw e (omega arith)
 
@@ -63,18 +65,30 @@ count-few v [] = omega (arith, count-none v)
 count-few v (w ∷ ws) = omega (arith, count-more v w ws, count-few v ws)
 
 -- a record stands in as many groups as its scope has variables below v
-length-record : (s : List ℕ) (at : ℕ) (places : List ℕ) (v : ℕ) → lengthTo s (at ∷ places) v ≡ countTo v (tableScope (drop at s)) + lengthTo s places v
+length-record : (s : List ℕ) (at : ℕ) (places : List ℕ) (v : ℕ)
+    → lengthTo s (at ∷ places) v ≡ countTo v (tableScope (drop at s)) + lengthTo s places v
 unfolding lengthTo groupOf countTo
 length-record s at places zero = refl
 length-record s at places (suc v) =
-    omega (arith, length-record s at places v, keep-length (hasVariable v (tableScope (drop at s))) at (groupOf s v places))
+    omega (
+      arith,
+      length-record s at places v,
+      keep-length (hasVariable v (tableScope (drop at s))) at (groupOf s v places),
+    )
 
 length-none : (s : List ℕ) (v : ℕ) → lengthTo s [] v ≡ 0
 unfolding lengthTo groupOf
 length-none s zero = refl
 length-none s (suc v) = rw (length-none s v)
 
-pub length-few : (ds s places : List ℕ) → All (Whole ds s) places → (v : ℕ) → lengthTo s places v ≤ maxArity * length places
+pub length-few : (ds s places : List ℕ) → All (Whole ds s) places → (v : ℕ)
+    → lengthTo s places v ≤ maxArity * length places
 length-few ds s [] h v = omega (arith, length-none s v)
 length-few ds s (at ∷ places) h v =
-    omega (arith, length-record s at places v, count-few v (tableScope (drop at s)), scope-few ds s at (h .0), length-few ds s places (h .1) v)
+    omega (
+      arith,
+      length-record s at places v,
+      count-few v (tableScope (drop at s)),
+      scope-few ds s at (h .0),
+      length-few ds s places (h .1) v,
+    )

@@ -61,7 +61,9 @@ module _ (ds s was : List ℕ) (r : ℕ) (placed : Placed ds s was r) where
       marked-places = ap (take r) marked-records
 
       marked-groups : (j : ℕ) → j < v → Stands s places (set work k x) j
-      marked-groups j h = ap (take (length (groupOf s j places))) (drop-set-lt (startOf s places j) work k x (omega arith)) ∙ u .groups j h
+      marked-groups j h =
+          ap (take (length (groupOf s j places))) (drop-set-lt (startOf s places j) work k x (omega arith))
+          ∙ u .groups j h
 
       pub marked-placed : Placed ds s (set work k x) r
       marked-placed =
@@ -89,7 +91,8 @@ module _ (ds s was : List ℕ) (r : ℕ) (placed : Placed ds s was r) where
           (λ k h. getD-set-other work v k end 0 (λ e. omega arith) ∙ u .starts k h)
           (getD-set-same work v end 0 (omega (arith, u .same, placed .long)) ∙ u .ends)
 
-      pub grouping-next : (e : ℕ) (after : List ℕ) → e ≡ end + length (groupOf s v (placesIn marked r)) → after ≡ over marked end (groupOf s v (placesIn marked r)) e → Grouping s was r after e (v + 1)
+      pub grouping-next : (e : ℕ) (after : List ℕ) → e ≡ end + length (groupOf s v (placesIn marked r))
+          → after ≡ over marked end (groupOf s v (placesIn marked r)) e → Grouping s was r after e (v + 1)
       grouping-next e after long written =
           let g = groupOf s v places in
           let kept = marked-places v end low in
@@ -98,7 +101,10 @@ module _ (ds s was : List ℕ) (r : ℕ) (placed : Placed ds s was r) where
           let fits : e ≤ length marked = omega (arith, marked-length v end low, placed .long) in
           let says : after ≡ over marked end g e = rw kept at written in
           let old : (k : ℕ) → k < v → Stands s places after k =
-          λ k h. rw says (over-part marked end g e is fits (length (groupOf s k places)) (startOf s places k) (omega (arith, u .ends, length-later s places k v h)) ∙ marked-groups v end low k h) in
+          λ k h. rw says
+          (over-part marked end g e is fits (length (groupOf s k places)) (startOf s places k)
+          (omega (arith, u .ends, length-later s places k v h))
+          ∙ marked-groups v end low k h) in
           let new : Stands s places after v = rw (says, ← u .ends) (over-here marked end g e is fits) in
           record {
             same = rw says (over-length marked end g e is fits ∙ marked-length v end low);
@@ -108,10 +114,13 @@ module _ (ds s was : List ℕ) (r : ℕ) (placed : Placed ds s was r) where
             groups = below-more (Stands s places after) v old new;
           }
 
-      pub grouping-end : v ≡ length ds → Grouped ds s marked r × (drop recordsAt marked ≡ drop recordsAt was) × (length marked ≡ length was)
+      pub grouping-end : v ≡ length ds
+          → Grouped ds s marked r × (drop recordsAt marked ≡ drop recordsAt was) × (length marked ≡ length was)
       grouping-end last =
-          let here : (k : ℕ) → k < length ds → getD marked k 0 ≡ startOf s places k = λ k h. marked-starts k (omega arith) in
-          let next : (k : ℕ) → k < length ds → getD marked (k + 1) 0 ≡ startOf s places k + length (groupOf s k places) =
+          let here : (k : ℕ) → k < length ds → getD marked k 0 ≡ startOf s places k =
+          λ k h. marked-starts k (omega arith) in
+          let next : (k : ℕ) → k < length ds
+          → getD marked (k + 1) 0 ≡ startOf s places k + length (groupOf s k places) =
           λ k h. omega (arith, marked-starts (k + 1) (omega arith), length-next s places k) in
           let part : (k : ℕ) → k < length ds → getD marked (k + 1) 0 - getD marked k 0 ≡ length (groupOf s k places) =
           λ k h. omega (arith, here k h, next k h) in (

@@ -35,7 +35,8 @@ pub record Keeps (test : ℕ → Bool) (of : List ℕ → List ℕ) : Type 0 whe
 module _ {test : ℕ → Bool} {of : List ℕ → List ℕ} (k : Keeps test of) where
   keeps-append : (xs ys : List ℕ) → of (xs ++ ys) ≡ of xs ++ of ys
   keeps-append [] ys = rw (k .none)
-  keeps-append (x ∷ xs) ys = rw (k .next x (xs ++ ys), k .next x xs, keeps-append xs ys) (keep-append (test x) x (of xs) (of ys))
+  keeps-append (x ∷ xs) ys =
+      rw (k .next x (xs ++ ys), k .next x xs, keeps-append xs ys) (keep-append (test x) x (of xs) (of ys))
 
   pub keeps-all : (P : ℕ → Type 0) (xs : List ℕ) → All P xs → All P (of xs)
   keeps-all P [] h = rw (k .none) tt
@@ -49,12 +50,16 @@ module _ {test : ℕ → Bool} {of : List ℕ → List ℕ} (k : Keeps test of) 
   pub keeps-part : (i : ℕ) (xs : List ℕ) → length (of (take i xs)) ≤ length (of xs)
   keeps-part i xs =
       let e : length (of xs) ≡ length (of (take i xs)) + length (of (drop i xs)) =
-      ap (λ (l : List ℕ). length (of l)) (sym (take-append-drop i xs)) ∙ ap length (keeps-append (take i xs) (drop i xs)) ∙ length-append (of (take i xs)) (of (drop i xs)) in
+      ap (λ (l : List ℕ). length (of l)) (sym (take-append-drop i xs))
+      ∙ ap length (keeps-append (take i xs) (drop i xs))
+      ∙ length-append (of (take i xs)) (of (drop i xs)) in
       omega arith
 
   module _ (i : ℕ) (xs : List ℕ) (h : i < length xs) where
     keeps-next : of (take (i + 1) xs) ≡ of (take i xs) ++ keepIf (test (getD xs i 0)) (getD xs i 0) []
-    keeps-next = rw (add-one, take-suc xs i 0 h) (keeps-append (take i xs) (getD xs i 0 ∷ []) ∙ rw (k .next (getD xs i 0) [], k .none))
+    keeps-next =
+        rw (add-one, take-suc xs i 0 h)
+        (keeps-append (take i xs) (getD xs i 0 ∷ []) ∙ rw (k .next (getD xs i 0) [], k .none))
 
     pub keeps-with : test (getD xs i 0) ≡ true → of (take (i + 1) xs) ≡ of (take i xs) ++ getD xs i 0 ∷ []
     keeps-with e = rw e at keeps-next

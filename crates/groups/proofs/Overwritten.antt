@@ -6,7 +6,8 @@ use native.Mathlib.Omega.{arith}
 use native.Mathlib.Nat.{suc-add, zero-add}
 use native.Mathlib.Numerals.{add-one}
 use lib.ListN.{length, getD, take, drop, set, length-append, length-drop, take-append-drop}
-use lib.Seq.{length-take-le, take-append-le, take-append-seam, drop-append-add, drop-at, drop-cons, drop-drop, set-at, append-snoc, take-take, take-nil, getD-take}
+use lib.Seq.{length-take-le, take-append-le, take-append-seam, drop-append-add, drop-at, drop-cons, drop-drop, set-at}
+use lib.Seq.{append-snoc, take-take, take-nil, getD-take}
 
 abbrev pub over : List ℕ → ℕ → List ℕ → ℕ → List ℕ
 over w from g end = take from w ++ g ++ drop end w
@@ -43,7 +44,8 @@ module _ (w : List ℕ) (from : ℕ) (g : List ℕ) (end : ℕ) (is : end ≡ fr
       ∙ take-take k from w h
 
   pub over-before : (k : ℕ) → k < from → getD (over w from g end) k 0 ≡ getD w k 0
-  over-before k h = sym (getD-take from (over w from g end) k 0 h) ∙ rw (over-front from (omega arith)) (getD-take from w k 0 h)
+  over-before k h =
+      sym (getD-take from (over w from g end) k 0 h) ∙ rw (over-front from (omega arith)) (getD-take from w k 0 h)
 
   pub over-part : (k a : ℕ) → a + k ≤ from → take k (drop a (over w from g end)) ≡ take k (drop a w)
   over-part k a h = take-drop k a (over w from g end) ∙ ap (drop a) (over-front (a + k) h) ∙ sym (take-drop k a w)

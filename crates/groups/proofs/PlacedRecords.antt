@@ -1,4 +1,5 @@
--- r accepted records in work memory: how many places and tables they have, a group that is written before them, and how long one is.
+-- r accepted records in work memory: how many places and tables they have, a group that is written before them, and how
+-- long one is.
 use mathlib.Core.Path.{_≡_, refl, ap}
 use mathlib.Core.Logic.{inr}
 use mathlib.Core.List.{List, [], _∷_}
@@ -21,7 +22,8 @@ module _ (ds s work : List ℕ) (r : ℕ) where
   pub places-length : Placed ds s work r → length (placesIn work r) ≡ r
   places-length p = length-take-le r (drop recordsAt work) (omega (arith, p .few, p .long, length-drop recordsAt work))
 
-  pub group-apart : Placed ds s work r → (v from : ℕ) → from + length (groupOf s v (placesIn work r)) ≤ recordsAt → Apart (groupOf s v) work r recordsAt from
+  pub group-apart : Placed ds s work r → (v from : ℕ) → from + length (groupOf s v (placesIn work r)) ≤ recordsAt
+      → Apart (groupOf s v) work r recordsAt from
   group-apart p v from room =
       record {
         inside = omega (arith, p .few, p .long);
@@ -35,5 +37,6 @@ module _ (ds s work : List ℕ) (r : ℕ) where
       let a = getD work v 0 in
       let e = getD work (v + 1) 0 in
       let p = g .placed in
-      let long : length (take (e - a) (drop a work)) ≡ e - a = length-take-le (e - a) (drop a work) (omega (arith, g .to v h, g .end v h, p .long, length-drop a work)) in
+      let long : length (take (e - a) (drop a work)) ≡ e - a = length-take-le (e - a) (drop a work)
+      (omega (arith, g .to v h, g .end v h, p .long, length-drop a work)) in
       omega (arith, p .few, places-length p, keeps-few (group-keeps s v) (placesIn work r), ap length (g .group v h))

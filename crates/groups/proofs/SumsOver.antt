@@ -1,4 +1,5 @@
--- Sums over the records whose places stand in work memory at `from` .. `to`, one place at a time: those left stand from i on.
+-- Sums over the records whose places stand in work memory at `from` .. `to`, one place at a time: those left stand from
+-- i on.
 use mathlib.Core.Path.{_≡_, refl, sym, _∙_}
 use mathlib.Core.List.{List, _∷_}
 use Prim.Native.Nat.{ℕ, _+_, _-_, _*_, _≤_, _<_}
@@ -23,7 +24,8 @@ use Rattle.groups.specs.Groups.{tablesOver}
 abbrev pub left : List ℕ → ℕ → ℕ → List ℕ
 left work i to = take (to - i) (drop i work)
 
-left-next : (work : List ℕ) (i to : ℕ) → i < to → to ≤ length work → left work i to ≡ getD work i 0 ∷ left work (i + 1) to
+left-next : (work : List ℕ) (i to : ℕ) → i < to → to ≤ length work
+    → left work i to ≡ getD work i 0 ∷ left work (i + 1) to
 left-next work i to h l =
     let k : to - i - 1 ≡ to - (i + 1) = omega arith in
     rw (← k) (take-cons (to - i) i work (omega arith) (omega arith))
@@ -37,9 +39,13 @@ pub record SummingOver (f : Table → ℕ) (ds s work : List ℕ) (from to : ℕ
   pub four : length sums ≡ maxObjectives
   pub small : All (λ x. x ≤ entryEnd * (i - from)) sums
   pub whole : All (Whole ds s) (left work i to)
-  pub rest : added sums (totalsFrom maxObjectives 0 f (tablesOver ds s (left work i to))) ≡ totalsFrom maxObjectives 0 f (tablesOver ds s (left work from to))
+  pub rest :
+      added sums (totalsFrom maxObjectives 0 f (tablesOver ds s (left work i to)))
+      ≡ totalsFrom maxObjectives 0 f (tablesOver ds s (left work from to))
 
-pub sums-start : (f : Table → ℕ) (ds s work : List ℕ) (from to : ℕ) → from ≤ to → to ≤ length work → to - from ≤ maxTables → All (Whole ds s) (left work from to) → SummingOver f ds s work from to (replicate maxObjectives 0) from
+pub sums-start : (f : Table → ℕ) (ds s work : List ℕ) (from to : ℕ) → from ≤ to → to ≤ length work
+    → to - from ≤ maxTables → All (Whole ds s) (left work from to)
+    → SummingOver f ds s work from to (replicate maxObjectives 0) from
 sums-start f ds s work from to h l few w =
     record {
       behind = omega arith;
@@ -52,9 +58,17 @@ sums-start f ds s work from to h l few w =
       rest = added-zeros f maxObjectives 0 (tablesOver ds s (left work from to));
     }
 
-module _ {f : Table → ℕ} {ds s work : List ℕ} {from to : ℕ} {sums : List ℕ} {i : ℕ} (u : SummingOver f ds s work from to sums i) where
+module _ {f : Table → ℕ} {ds s work : List ℕ} {from to : ℕ} {sums : List ℕ} {i : ℕ}
+    (u : SummingOver f ds s work from to sums i) where
   pub sums-small : (o : ℕ) → getD sums o 0 ≤ entryEnd * maxTables
-  sums-small o = omega (arith, u .behind, u .before, u .few, all-at (λ x. x ≤ entryEnd * (i - from)) sums (u .small) o 0 (omega arith))
+  sums-small o =
+      omega (
+        arith,
+        u .behind,
+        u .before,
+        u .few,
+        all-at (λ x. x ≤ entryEnd * (i - from)) sums (u .small) o 0 (omega arith),
+      )
 
   pub sums-end : to ≤ i → sums ≡ totalsFrom maxObjectives 0 f (tablesOver ds s (left work from to))
   unfolding tablesOver
@@ -69,7 +83,8 @@ module _ {f : Table → ℕ} {ds s work : List ℕ} {from to : ℕ} {sums : List
     pub place-whole : Whole ds s (getD work i 0)
     place-whole = (rw step at (u .whole)) .0
 
-    pub sums-next : (o cost : ℕ) → o ≡ tableObjective (drop (getD work i 0) s) → cost ≡ f (tableAt ds s (getD work i 0)) → cost < entryEnd → SummingOver f ds s work from to (set sums o (getD sums o 0 + cost)) (i + 1)
+    pub sums-next : (o cost : ℕ) → o ≡ tableObjective (drop (getD work i 0) s) → cost ≡ f (tableAt ds s (getD work i 0))
+        → cost < entryEnd → SummingOver f ds s work from to (set sums o (getD sums o 0 + cost)) (i + 1)
     unfolding tableOf tablesOver
     sums-next o cost own is word =
         let t = tableAt ds s (getD work i 0) in
@@ -77,7 +92,9 @@ module _ {f : Table → ℕ} {ds s work : List ℕ} {from to : ℕ} {sums : List
         let more-small : (x : ℕ) → x ≤ entryEnd * (i - from) → x ≤ entryEnd * (i + 1 - from) = λ x h. omega arith in
         let o-small = all-at (λ x. x ≤ entryEnd * (i - from)) sums (u .small) o 0 (omega arith) in
         let inner : o < maxObjectives = rw own (place-whole .owner) in
-        let sum : added (set sums o (getD sums o 0 + cost)) (totalsFrom maxObjectives 0 f next) ≡ added sums (totalsFrom maxObjectives 0 f (t ∷ next)) = rw is (added-next f t next maxObjectives 0 o sums (u .four) inner (sym own ∙ sym (zero-add o))) in
+        let sum : added (set sums o (getD sums o 0 + cost)) (totalsFrom maxObjectives 0 f next)
+        ≡ added sums (totalsFrom maxObjectives 0 f (t ∷ next)) =
+        rw is (added-next f t next maxObjectives 0 o sums (u .four) inner (sym own ∙ sym (zero-add o))) in
         record {
           behind = omega (arith, u .behind);
           before = omega arith;

@@ -14,26 +14,39 @@ use Rattle.problem.specs.Records.{Whole}
 use Rattle.layout.specs.Layout.{sourceAt}
 use Rattle.groups.specs.Sources.{Source, sourceProblem}
 use Rattle.groups.specs.declared.Task as DT
-use Rattle.passes.specs.Says.{FoundSays}
-use Rattle.passes.specs.declared.Found as DF
-use Rattle.passes.proofs.Since.{says-since}
-use Rattle.directions.specs.declared.Directions as DD
-use Rattle.exploring.specs.States.{taskProblem, Ready, ExploredSays}
-use Rattle.exploring.specs.declared.Explored as DE
+use Rattle.pass_list.specs.Says.{FoundSays}
+use Rattle.pass_list.specs.declared.Found as DF
+use Rattle.pass_list.proofs.Since.{says-since}
+use Rattle.branch_directions.specs.declared.Directions as DD
+use Rattle.branch_search.specs.States.{taskProblem, Ready, ExploredSays}
+use Rattle.branch_search.specs.declared.Explored as DE
 use Rattle.listing.specs.Says.{Plannable, Kept, PlanSays, foundOf}
 use Rattle.listing.proofs.PlacesKept.{behindAt}
 use Rattle.listing.proofs.PlanKept.{behind-all}
 
 module _ {p r : ℕ} {ceilings ds s work : List ℕ} (source : Source p r ceilings ds s work) where
   pub source-plannable : Plannable r ds s work
-  source-plannable = record { whole = source .whole; few = source .few; small = source .small; variables = source .variables; long = source .long }
+  source-plannable = record {
+    whole = source .whole;
+    few = source .few;
+    small = source .small;
+    variables = source .variables;
+    long = source .long;
+  }
 
   -- what measuring how far apart costs lie asks for
-  pub spreads-asked : All DomainSize ds × (r ≤ maxTables) × (r ≤ length (behindAt work sourceAt)) × All (Whole ds s) (take r (behindAt work sourceAt))
+  pub spreads-asked :
+      All DomainSize ds × (r ≤ maxTables) × (r ≤ length (behindAt work sourceAt))
+      × All (Whole ds s) (take r (behindAt work sourceAt))
   spreads-asked =
       let inside : sourceAt ≤ length work = omega (arith, source .long) in
-      let all : behindAt work sourceAt ≡ drop sourceAt work = behind-all work sourceAt inside (behindAt work sourceAt) refl in
-      (source .small, source .few, omega (arith, ap length all, length-drop sourceAt work, source .few, source .long), rw all (source .whole))
+      let all : behindAt work sourceAt ≡ drop sourceAt work = behind-all work sourceAt inside (behindAt work sourceAt)
+      refl in (
+        source .small,
+        source .few,
+        omega (arith, ap length all, length-drop sourceAt work, source .few, source .long),
+        rw all (source .whole),
+      )
 
   -- memory in which the records are kept
   module _ {work′ : List ℕ} (kept : Kept r work work′) where
@@ -51,7 +64,9 @@ module _ {p r : ℕ} {ceilings ds s work : List ℕ} (source : Source p r ceilin
     same-problem : sourceProblem p r ceilings ds s work′ ≡ sourceProblem p r ceilings ds s work
     same-problem = rw (kept .source)
 
-    pub first-after : (room : ℕ) (after : List ℕ) (f : DF.Found) → FoundSays p (length ds) (coreFrontier (sourceProblem p r ceilings ds s work′)) room work′ after f → FoundSays p (length ds) (coreFrontier (sourceProblem p r ceilings ds s work)) room work after f
+    pub first-after : (room : ℕ) (after : List ℕ) (f : DF.Found)
+        → FoundSays p (length ds) (coreFrontier (sourceProblem p r ceilings ds s work′)) room work′ after f
+        → FoundSays p (length ds) (coreFrontier (sourceProblem p r ceilings ds s work)) room work after f
     first-after room after f = says-since (kept .long) (ap coreFrontier same-problem)
 
     -- a plan that passed its test

@@ -1,4 +1,5 @@
--- One side's records, kept of all that were accepted: over the domain sizes that the side leaves they make the view of the problem.
+-- One side's records, kept of all that were accepted: over the domain sizes that the side leaves they make the view of
+-- the problem.
 use mathlib.Core.Path.{_≡_, ap, _∙_, subst}
 use mathlib.Core.Logic.{_⊎_, inl}
 use mathlib.Core.List.{List, _++_}
@@ -23,9 +24,9 @@ use Rattle.views.proofs.KeptPlaces.{kept-count, kept-whole, kept-tables}
 use Rattle.views.proofs.KeptTables.{wanted-view}
 use Rattle.groups.specs.Sources.{sourceIn, sourceProblem, Source}
 use Rattle.listing.specs.Says.{problemAt, Accepted}
-use Rattle.passes.specs.Says.{FoundSays}
-use Rattle.passes.specs.declared.Found as DF
-use Rattle.passes.proofs.Since.{says-since}
+use Rattle.pass_list.specs.Says.{FoundSays}
+use Rattle.pass_list.specs.declared.Found as DF
+use Rattle.pass_list.proofs.Since.{says-since}
 use Rattle.listing.proofs.PlacesKept.{places-tables, core-owners, behindAt, written}
 use Rattle.listing.proofs.PlacesKept.{written-places, written-length}
 
@@ -57,11 +58,24 @@ module _
     before-length : length before ≡ length work
     before-length = written-length r at ds s work recordsAt inside all says
 
-    pub side-asked : All (Whole ds s) (placesIn before r) × (length ss ≡ length ds) × (r ≤ maxTables) × (recordsAt + r ≤ length before) × (sourceAt + r ≤ length before) × ((recordsAt + r ≤ sourceAt) ⊎ (sourceAt + r ≤ recordsAt))
-    side-asked = (rw read (places-whole ds s r at (a .whole)), same, a .tables, omega (arith, before-length), omega (arith, before-length, a .tables, a .memory), inl (omega (arith, a .tables)))
+    pub side-asked :
+        All (Whole ds s) (placesIn before r) × (length ss ≡ length ds) × (r ≤ maxTables)
+        × (recordsAt + r ≤ length before) × (sourceAt + r ≤ length before)
+        × ((recordsAt + r ≤ sourceAt) ⊎ (sourceAt + r ≤ recordsAt))
+    side-asked = (
+      rw read (places-whole ds s r at (a .whole)),
+      same,
+      a .tables,
+      omega (arith, before-length),
+      omega (arith, before-length, a .tables, a .memory),
+      inl (omega (arith, a .tables)),
+    )
 
     -- of these the side's are the records of its problem
-    module _ (count : ℕ) (after : List ℕ) (keeps : (count ≡ length (onSide side ss s (placesIn before r))) × (after ≡ take sourceAt before ++ onSide side ss s (placesIn before r) ++ drop (sourceAt + count) before)) where
+    module _ (count : ℕ) (after : List ℕ)
+        (keeps : (count ≡ length (onSide side ss s (placesIn before r)))
+        × (after
+        ≡ take sourceAt before ++ onSide side ss s (placesIn before r) ++ drop (sourceAt + count) before)) where
       abbrev places : List ℕ
       places = onSide side ss s (placesAt r ds s at)
 

@@ -19,9 +19,9 @@ use Rattle.groups.specs.Groups.{tablesOver}
 use Rattle.groups.proofs.Overwritten.{over, over-length, over-here}
 use Rattle.groups.specs.Sources.{sourceProblem, Source}
 use Rattle.listing.specs.Says.{problemAt, Accepted}
-use Rattle.passes.specs.Says.{FoundSays}
-use Rattle.passes.specs.declared.Found as DF
-use Rattle.passes.proofs.Since.{says-since}
+use Rattle.pass_list.specs.Says.{FoundSays}
+use Rattle.pass_list.specs.declared.Found as DF
+use Rattle.pass_list.proofs.Since.{says-since}
 
 module _ (ds s : List ℕ) where
   pub places-tables : (r at : ℕ) → tablesOver ds s (placesAt r ds s at) ≡ coreTables (tablesAt r ds s at)
@@ -43,7 +43,8 @@ behindAt work from = take (length work - from) (drop from work)
 abbrev pub written : List ℕ → ℕ → List ℕ → List ℕ
 written work from kept = take from work ++ (kept ++ drop (length work - from) (drop from work))
 
-module _ (r at : ℕ) (ds s work : List ℕ) (from : ℕ) (inside : from + r ≤ length work) (kept : List ℕ) (says : kept ≡ filled (placesAt r ds s at) (behindAt work from)) where
+module _ (r at : ℕ) (ds s work : List ℕ) (from : ℕ) (inside : from + r ≤ length work) (kept : List ℕ)
+    (says : kept ≡ filled (placesAt r ds s at) (behindAt work from)) where
   abbrev places : List ℕ
   places = placesAt r ds s at
 
@@ -54,8 +55,18 @@ module _ (r at : ℕ) (ds s work : List ℕ) (from : ℕ) (inside : from + r ≤
   unfolding filled
   written-over =
       let all : from + (length work - from) ≡ length work = omega arith in
-      let part : behindAt work from ≡ drop from work = take-all (length work - from) (drop from work) (omega (arith, length-drop from work)) in
-      rw (says, part, drop-drop (length places) from work, drop-drop (length work - from) from work, all, drop-length work, ← ends, append-nil (places ++ drop (from + r) work))
+      let part : behindAt work from ≡ drop from work = take-all (length work - from) (drop from work)
+      (omega (arith, length-drop from work)) in
+      rw (
+        says,
+        part,
+        drop-drop (length places) from work,
+        drop-drop (length work - from) from work,
+        all,
+        drop-length work,
+        ← ends,
+        append-nil (places ++ drop (from + r) work),
+      )
       (sym (append-assoc (take from work) places (drop (from + r) work)))
 
   pub written-places : take r (drop from (written work from kept)) ≡ placesAt r ds s at

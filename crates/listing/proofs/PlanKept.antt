@@ -11,18 +11,19 @@ use Rattle.problem.specs.Records.{Whole}
 use Rattle.layout.specs.Layout.{sourceAt, listEnd}
 use Rattle.groups.proofs.Overwritten.{over, take-drop, over-length, over-part, over-here}
 use Rattle.groups.specs.Sources.{sourceIn}
-use Rattle.directions.specs.Directions.{Sensible}
-use Rattle.directions.specs.declared.Directions as DD
-use Rattle.buckets.specs.Places.{maxMessages, childrenAt, numbersAt}
-use Rattle.buckets.specs.Messages.{countFrom}
-use Rattle.buckets.specs.Content.{Planned}
-use Rattle.buckets.specs.Sound.{Tested, Rearranged}
-use Rattle.exploring.specs.States.{planIn}
+use Rattle.branch_directions.specs.Directions.{Sensible}
+use Rattle.branch_directions.specs.declared.Directions as DD
+use Rattle.branch_buckets.specs.Places.{maxMessages, childrenAt, numbersAt}
+use Rattle.branch_buckets.specs.Messages.{countFrom}
+use Rattle.branch_buckets.specs.Content.{Planned}
+use Rattle.branch_buckets.specs.Sound.{Tested, Rearranged}
+use Rattle.branch_search.specs.States.{planIn}
 use Rattle.listing.specs.Says.{Plannable, Kept, PlanSays}
 use Rattle.listing.proofs.PlacesKept.{behindAt, written}
 
 -- the part of memory from `from` on is `kept` now
-module _ (work : List ℕ) (from : ℕ) (inside : from ≤ length work) (kept : List ℕ) (same : length kept ≡ length (behindAt work from)) where
+module _ (work : List ℕ) (from : ℕ) (inside : from ≤ length work) (kept : List ℕ)
+    (same : length kept ≡ length (behindAt work from)) where
   front : length (take from work) ≡ from
   front = length-take-le from work inside
 
@@ -41,12 +42,15 @@ module _ (work : List ℕ) (from : ℕ) (inside : from ≤ length work) (kept : 
   written-here = rw whole (drop-at (take from work) kept from front)
 
   pub written-long : length (written work from kept) ≡ length work
-  written-long = rw whole (length-append (take from work) kept ∙ omega (arith, front, same, length-drop from work, ap length behind-all))
+  written-long =
+      rw whole
+      (length-append (take from work) kept ∙ omega (arith, front, same, length-drop from work, ap length behind-all))
 
   pub written-front : (k a : ℕ) → a + k ≤ from → take k (drop a (written work from kept)) ≡ take k (drop a work)
   written-front k a h =
       take-drop k a (written work from kept)
-      ∙ ap (drop a) (rw whole (take-append-le (a + k) (take from work) kept (omega (arith, front)) ∙ take-take (a + k) from work h))
+      ∙ ap (drop a)
+      (rw whole (take-append-le (a + k) (take from work) kept (omega (arith, front)) ∙ take-take (a + k) from work h))
       ∙ sym (take-drop k a work)
 
 module _ {r : ℕ} {ds s work : List ℕ} (p : Plannable r ds s work) (d : DD.Directions) (sensible : Sensible d) where
@@ -60,7 +64,8 @@ module _ {r : ℕ} {ds s work : List ℕ} (p : Plannable r ds s work) (d : DD.Di
   fits = omega (arith, p .few, p .long)
 
   -- the places are copied
-  pub copy-asked : (sourceAt + r ≤ length work) × (listEnd + r ≤ length work) × ((sourceAt + r ≤ listEnd) ⊎ (listEnd + r ≤ sourceAt))
+  pub copy-asked :
+      (sourceAt + r ≤ length work) × (listEnd + r ≤ length work) × ((sourceAt + r ≤ listEnd) ⊎ (listEnd + r ≤ sourceAt))
   copy-asked = (omega (arith, p .few, p .long), fits, inl (omega (arith, p .few)))
 
   module _ (copied : List ℕ) (is : copied ≡ over work listEnd (sourceIn work r) (listEnd + r)) where
@@ -71,7 +76,8 @@ module _ {r : ℕ} {ds s work : List ℕ} (p : Plannable r ds s work) (d : DD.Di
     copied-places = rw is (rw count at (over-here work listEnd (sourceIn work r) (listEnd + r) ends fits))
 
     copied-source : sourceIn copied r ≡ sourceIn work r
-    copied-source = rw is (over-part work listEnd (sourceIn work r) (listEnd + r) ends fits r sourceAt (omega (arith, p .few)))
+    copied-source =
+        rw is (over-part work listEnd (sourceIn work r) (listEnd + r) ends fits r sourceAt (omega (arith, p .few)))
 
     inside : listEnd ≤ length copied
     inside = omega (arith, copied-long, p .long)
@@ -95,7 +101,10 @@ module _ {r : ℕ} {ds s work : List ℕ} (p : Plannable r ds s work) (d : DD.Di
         )
 
     -- the plan is made
-    module _ (plan : List ℕ) (made : (length plan ≡ length (behindAt copied listEnd)) × All (Whole ds s) (take r plan) × Rearranged (take r (behindAt copied listEnd)) (take r plan) × Rearranged (countFrom 0 maxMessages) (take maxMessages (drop childrenAt plan))) where
+    module _ (plan : List ℕ)
+        (made : (length plan ≡ length (behindAt copied listEnd)) × All (Whole ds s) (take r plan)
+        × Rearranged (take r (behindAt copied listEnd)) (take r plan)
+        × Rearranged (countFrom 0 maxMessages) (take maxMessages (drop childrenAt plan))) where
       abbrev after : List ℕ
       after = written copied listEnd plan
 
@@ -103,10 +112,14 @@ module _ {r : ℕ} {ds s work : List ℕ} (p : Plannable r ds s work) (d : DD.Di
       after-plan = written-here copied listEnd inside plan (made .0)
 
       after-source : sourceIn after r ≡ sourceIn work r
-      after-source = written-front copied listEnd inside plan (made .0) r sourceAt (omega (arith, p .few)) ∙ copied-source
+      after-source =
+          written-front copied listEnd inside plan (made .0) r sourceAt (omega (arith, p .few)) ∙ copied-source
 
       pub plan-kept : Kept r work after
-      plan-kept = record { long = written-long copied listEnd inside plan (made .0) ∙ copied-long; source = after-source }
+      plan-kept = record {
+        long = written-long copied listEnd inside plan (made .0) ∙ copied-long;
+        source = after-source;
+      }
 
       after-planned : Planned d r ds s plan
       after-planned =
@@ -120,11 +133,16 @@ module _ {r : ℕ} {ds s work : List ℕ} (p : Plannable r ds s work) (d : DD.Di
           }
 
       tested : behindAt after listEnd ≡ plan
-      tested = behind-all after listEnd (omega (arith, written-long copied listEnd inside plan (made .0), inside)) (behindAt after listEnd) refl ∙ after-plan
+      tested =
+          behind-all after listEnd (omega (arith, written-long copied listEnd inside plan (made .0), inside))
+          (behindAt after listEnd) refl
+          ∙ after-plan
 
       -- what testing it asks for
       pub test-asked : Planned d r ds s (behindAt after listEnd) × (numbersAt ≤ length (behindAt after listEnd))
-      test-asked = rw tested (after-planned, omega (arith, made .0, ap length behind, length-drop listEnd copied, copied-long, p .long))
+      test-asked =
+          rw tested
+          (after-planned, omega (arith, made .0, ap length behind, length-drop listEnd copied, copied-long, p .long))
 
       pub plan-says : Tested d r ds s (behindAt after listEnd) → PlanSays d r ds s work after
       plan-says passed =

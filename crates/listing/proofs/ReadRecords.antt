@@ -17,8 +17,8 @@ use Rattle.problem.specs.declared.Reading as DG
 use Rattle.problem.specs.Says.{startOf}
 use Rattle.problem.proofs.Accepted.{AcceptedReading}
 use Rattle.problem.proofs.Readings.{sized, objectives-are, domains-are, ceilings-are, tables-are}
-use Rattle.passes.specs.declared.Found as DF
-use Rattle.passes.specs.Says.{FoundSays, FoundFor}
+use Rattle.pass_list.specs.declared.Found as DF
+use Rattle.pass_list.specs.Says.{FoundSays, FoundFor}
 use Rattle.listing.specs.Says.{problemAt, Accepted}
 use Rattle.listing.proofs.PlacesKept.{behindAt}
 

@@ -12,12 +12,12 @@ use Rattle.problem.specs.Records.{Whole, AllWhole}
 use Rattle.problem.specs.Says.{ReadSays}
 use Rattle.layout.specs.Layout.{searchEnd}
 use Rattle.groups.specs.Sources.{sourceIn}
-use Rattle.passes.specs.declared.Found as DF
-use Rattle.directions.specs.declared.Directions as DD
-use Rattle.buckets.specs.Content.{Planned}
-use Rattle.buckets.specs.Sound.{Sound}
-use Rattle.exploring.specs.States.{planIn}
-use Rattle.exploring.specs.declared.Explored as DE
+use Rattle.pass_list.specs.declared.Found as DF
+use Rattle.branch_directions.specs.declared.Directions as DD
+use Rattle.branch_buckets.specs.Content.{Planned}
+use Rattle.branch_buckets.specs.Sound.{Sound}
+use Rattle.branch_search.specs.States.{planIn}
+use Rattle.branch_search.specs.declared.Explored as DE
 
 -- the problem of r accepted records from `at` on
 abbrev pub problemAt : ℕ → List ℕ → List ℕ → List ℕ → ℕ → ℕ → Problem

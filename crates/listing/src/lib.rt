@@ -9,8 +9,8 @@ ghost use Rattle.model.specs.Reading.{problemOf};
 ghost use Rattle.model.specs.Core.{WordCeiling, coreCeiling, coreCeilings, coreOf, withCeilings, coreFrontier};
 ghost use Rattle.model.specs.Views.{view};
 ghost use Rattle.groups.specs.Sources.{Source, sourceProblem};
-ghost use Rattle.passes.specs.Says.{FoundSays, FoundFor};
-ghost use Rattle.directions.specs.Directions.{Sensible};
+ghost use Rattle.pass_list.specs.Says.{FoundSays, FoundFor};
+ghost use Rattle.branch_directions.specs.Directions.{Sensible};
 ghost use Rattle.listing.specs.Says.{Searchable, Plannable, Kept, PlanSays, foundOf};
 
 // The core's ceiling, which a cost stays below, in eight bytes as the sums are.
@@ -36,9 +36,9 @@ pub fn widened(ceilings: [u32; 4]) -> [u64; 4]
 fn are_short(ceilings: [u64; 4]) -> bool
     ensures { λ b. ⌜ (b ≡ true → All WordCeiling ceilings) ⌝ }
 {
-    let low = directions::larger(ceilings[0], ceilings[1]);
-    let high = directions::larger(ceilings[2], ceilings[3]);
-    if 4294967296 < directions::larger(low, high) {
+    let low = branch_directions::larger(ceilings[0], ceilings[1]);
+    let high = branch_directions::larger(ceilings[2], ceilings[3]);
+    if 4294967296 < branch_directions::larger(low, high) {
         return false;
     }
     true
@@ -50,7 +50,7 @@ fn plan_source(
     s: &[u8],
     sizes: &[u8],
     r: usize,
-    d: directions::Directions,
+    d: branch_directions::Directions,
     work: &mut [u32],
 ) -> bool
     requires { ⌜ Plannable r (now sizes) (now s) (now work) × Sensible d ⌝ }
@@ -58,15 +58,15 @@ fn plan_source(
         × (ok ≡ true → PlanSays d r (now (sizes .entry)) (now (s .entry)) (now (work .entry)) (now (work .exit))) ⌝ }
 {
     groups::copy_numbers(layout::SOURCE_AT, layout::PLAN_AT, r, work);
-    planning::make_plan(s, sizes, r, d, &mut work[layout::PLAN_AT..]);
-    checking::is_sound(s, sizes, r, d, &work[layout::PLAN_AT..])
+    plan_making::make_plan(s, sizes, r, d, &mut work[layout::PLAN_AT..]);
+    plan_test::is_sound(s, sizes, r, d, &work[layout::PLAN_AT..])
 }
 
 // What the second form says where it is not tried.
-fn given_up() -> exploring::Explored
+fn given_up() -> branch_search::Explored
     ensures { λ e. ⌜ e .decided ≡ false ⌝ }
 {
-    exploring::Explored {
+    branch_search::Explored {
         decided: false,
         full: false,
         count: 0,
@@ -83,7 +83,7 @@ fn explore_source(
     ceilings: [u64; 4],
     room: usize,
     work: &mut [u32],
-) -> exploring::Explored
+) -> branch_search::Explored
     requires { ⌜ Source p r ceilings (now sizes) (now s) (now work) × (room ≤ maxPoints) ⌝ }
     ensures { λ e. ⌜ Kept r (now (work .entry)) (now (work .exit))
         × (e .decided ≡ true → FoundSays p (length (now (sizes .entry)))
@@ -100,8 +100,8 @@ fn explore_source(
     if !are_short(ceilings) {
         return given_up();
     }
-    let apart = spreads::spreads_of(s, sizes, r, ceilings, &work[layout::SOURCE_AT..]);
-    let d = directions::choose_directions(p, apart);
+    let apart = plan_spreads::spreads_of(s, sizes, r, ceilings, &work[layout::SOURCE_AT..]);
+    let d = branch_directions::choose_directions(p, apart);
     if !plan_source(s, sizes, r, d, work) {
         return given_up();
     }
@@ -111,7 +111,7 @@ fn explore_source(
         ceilings,
         room,
     };
-    exploring::explore(s, sizes, task, d, work)
+    branch_search::explore(s, sizes, task, d, work)
 }
 
 // The frontier list of `r` records whose places stand in work memory where a problem's records are: by the second form,
@@ -125,23 +125,23 @@ pub fn find_source(
     room: usize,
     by_passes: bool,
     work: &mut [u32],
-) -> passes::Found
+) -> pass_list::Found
     requires { ⌜ Source p r ceilings (now sizes) (now s) (now work) × (room ≤ maxPoints) ⌝ }
     ensures { λ f. ⌜ FoundSays p (length (now (sizes .entry)))
         (coreFrontier (sourceProblem p r ceilings (now (sizes .entry)) (now (s .entry)) (now (work .entry))))
         room (now (work .entry)) (now (work .exit)) f ⌝ }
 {
     if by_passes {
-        return passes::find_source(s, sizes, r, p, ceilings, room, work);
+        return pass_list::find_source(s, sizes, r, p, ceilings, room, work);
     }
     let e = explore_source(s, sizes, r, p, ceilings, room, work);
     if e.decided {
-        return passes::Found {
+        return pass_list::Found {
             full: e.full,
             count: e.count,
         };
     }
-    passes::find_source(s, sizes, r, p, ceilings, room, work)
+    pass_list::find_source(s, sizes, r, p, ceilings, room, work)
 }
 
 // The frontier list of a problem that was read, in work memory; only by the first form where that is asked for.
@@ -151,7 +151,7 @@ pub fn find_list(
     room: usize,
     by_passes: bool,
     work: &mut [u32],
-) -> passes::Found
+) -> pass_list::Found
     requires { ⌜ Searchable (now s) g (now work) × (room ≤ maxPoints) ⌝ }
     ensures { λ f. ⌜ FoundFor (problemOf (now (s .entry))) room (now (work .entry)) (now (work .exit)) f ⌝ }
 {
@@ -176,11 +176,12 @@ pub fn find_half(
     side: u8,
     ceilings: [u64; 4],
     work: &mut [u32],
-) -> passes::Found
+) -> pass_list::Found
     requires { ⌜ Searchable (now s) g (now work) × (length (problemOf (now s) .domains) ≡ length (now sides)) ⌝ }
     ensures { λ f. ⌜ FoundSays (g .head .objectives) (g .head .variables)
         (coreFrontier (view side
-        (withCeilings (take (g .head .objectives) ceilings) (coreOf (problemOf (now (s .entry))))) (now (sides .entry))))
+        (withCeilings (take (g .head .objectives) ceilings) (coreOf (problemOf (now (s .entry)))))
+        (now (sides .entry))))
         maxPoints (now (work .entry)) (now (work .exit)) f ⌝ }
 {
     let head = g.head;

@@ -29,4 +29,19 @@ bound-rows =
 
 pub bound-right : All Right bound-rows
 unfolding computing
-bound-right = ((refl, refl, refl, refl), ((refl, refl, refl, refl), ((refl, refl, refl, refl), ((refl, refl, refl, refl), ((refl, refl, refl, refl), ((refl, refl, refl, refl), ((refl, refl, refl, refl), ((refl, refl, refl, refl), tt))))))))
+bound-right = (
+  (refl, refl, refl, refl),
+  (
+    (refl, refl, refl, refl),
+    (
+      (refl, refl, refl, refl),
+      (
+        (refl, refl, refl, refl),
+        (
+          (refl, refl, refl, refl),
+          ((refl, refl, refl, refl), ((refl, refl, refl, refl), ((refl, refl, refl, refl), tt))),
+        ),
+      ),
+    ),
+  ),
+)

@@ -46,7 +46,8 @@ unfolding sidesVerdict
 accepts-sides q sides h = rw h refl
 
 -- number 14 is given exactly where some record crosses
-pub linked-accepts : (sides : List ℕ) (ts : List Table) (places : List ℕ) → linkedVerdict sides ts places .number ≡ 0 → uncrossed sides ts ≡ true
+pub linked-accepts : (sides : List ℕ) (ts : List Table) (places : List ℕ) → linkedVerdict sides ts places .number ≡ 0
+    → uncrossed sides ts ≡ true
 unfolding linkedVerdict uncrossed
 linked-accepts sides [] places h = refl
 linked-accepts sides (t ∷ ts) places h =
@@ -54,14 +55,17 @@ linked-accepts sides (t ∷ ts) places h =
     let both = test-accepts (crosses sides t) linked (getD places 0 0) rest refl h in
     rw (both .0) (linked-accepts sides ts (drop 1 places) (both .1))
 
-pub accepts-linked : (sides : List ℕ) (ts : List Table) (places : List ℕ) → uncrossed sides ts ≡ true → linkedVerdict sides ts places ≡ accepted
+pub accepts-linked : (sides : List ℕ) (ts : List Table) (places : List ℕ) → uncrossed sides ts ≡ true
+    → linkedVerdict sides ts places ≡ accepted
 unfolding linkedVerdict
 accepts-linked sides [] places h = refl
-accepts-linked sides (t ∷ ts) places h = rw (uncrossed-first sides t ts h) (accepts-linked sides ts (drop 1 places) (uncrossed-rest sides t ts h))
+accepts-linked sides (t ∷ ts) places h =
+    rw (uncrossed-first sides t ts h) (accepts-linked sides ts (drop 1 places) (uncrossed-rest sides t ts h))
 
 -- ## the plain call
 
-pub solve-accepts : (s work : List ℕ) (room : ℕ) → solveVerdict s work room .number ≡ 0 → (verdictOf s .number ≡ 0) × (workNeed ≤ length work) × (length (frontier (problemOf s)) ≤ room)
+pub solve-accepts : (s work : List ℕ) (room : ℕ) → solveVerdict s work room .number ≡ 0
+    → (verdictOf s .number ≡ 0) × (workNeed ≤ length work) × (length (frontier (problemOf s)) ≤ room)
 unfolding solveVerdict
 solve-accepts s work room h =
     let ps = frontier (problemOf s) in
@@ -69,13 +73,16 @@ solve-accepts s work room h =
     let both = first-accepts (workVerdict work) (roomVerdict room ps) (read .1) in
     (read .0, work-accepts work (both .0), room-accepts room ps (both .1))
 
-pub accepts-solve : (s work : List ℕ) (room : ℕ) → verdictOf s ≡ accepted → workNeed ≤ length work → length (frontier (problemOf s)) ≤ room → solveVerdict s work room ≡ accepted
+pub accepts-solve : (s work : List ℕ) (room : ℕ) → verdictOf s ≡ accepted → workNeed ≤ length work
+    → length (frontier (problemOf s)) ≤ room → solveVerdict s work room ≡ accepted
 unfolding solveVerdict
-accepts-solve s work room h w f = accepts-both h (accepts-both (accepts-work work w) (accepts-room room (frontier (problemOf s)) f))
+accepts-solve s work room h w f =
+    accepts-both h (accepts-both (accepts-work work w) (accepts-room room (frontier (problemOf s)) f))
 
 -- ## the cut call
 
-pub cut-accepts : (s sides work : List ℕ) (room : ℕ) → cutVerdict s sides work room .number ≡ 0 → Cuttable s sides work room
+pub cut-accepts : (s sides work : List ℕ) (room : ℕ) → cutVerdict s sides work room .number ≡ 0
+    → Cuttable s sides work room
 unfolding cutVerdict cutRoomVerdict
 cut-accepts s sides work room h =
     let q = problemOf s in
@@ -97,7 +104,8 @@ cut-accepts s sides work room h =
       fits = rw (← cut-frontier q sides ok free) (room-accepts room (cutList q sides) (h₆ .1));
     }
 
-pub accepts-cut : (s sides work : List ℕ) (room : ℕ) → Cuttable s sides work room → cutVerdict s sides work room ≡ accepted
+pub accepts-cut : (s sides work : List ℕ) (room : ℕ) → Cuttable s sides work room
+    → cutVerdict s sides work room ≡ accepted
 unfolding cutVerdict cutRoomVerdict
 accepts-cut s sides work room c =
     let q = problemOf s in

@@ -2,7 +2,9 @@
 use mathlib.Core.Path.{_≡_, refl, ap, sym, _∙_, subst}
 use mathlib.Core.Logic.{_⊎_, inl, inr, ⊎-elim}
 use mathlib.Core.Bool.{Bool, true, false≢true}
-use mathlib.Core.List.{List, [], _∷_, List·Memᴰ as In, List·Memᴰ·head as here, List·Memᴰ·tail as there, List·Memᴰ·not-nil as in-none, List·Memᴰ·cases-cons as in-cases, List·Memᴰ·append-cases as in-append, Memᴰ·append-left as in-left, Memᴰ·append-right as in-right}
+use mathlib.Core.List.{List, [], _∷_, List·Memᴰ as In, List·Memᴰ·head as here, List·Memᴰ·tail as there}
+use mathlib.Core.List.{List·Memᴰ·not-nil as in-none, List·Memᴰ·cases-cons as in-cases}
+use mathlib.Core.List.{List·Memᴰ·append-cases as in-append, Memᴰ·append-left as in-left, Memᴰ·append-right as in-right}
 use Prim.Native.Nat.{ℕ, zero, suc, _+_, _≤_, _<_}
 use native.Mathlib.Omega.{arith}
 use lib.Dec.{ltb}
@@ -21,7 +23,8 @@ in-first v (c ∷ cs) m = ⊎-elim (λ e. here (ap (_∷_ v) e)) (λ n. there (i
 first-in : (v : ℕ) (y : List ℕ) (cs : List (List ℕ)) → In y (withFirst v cs) → (x : List ℕ) × (y ≡ v ∷ x) × In x cs
 unfolding withFirst
 first-in v y [] m = absurd (in-none m)
-first-in v y (c ∷ cs) m = ⊎-elim (λ e. (c, e, here refl)) (λ n. let (x, e, i) = first-in v y cs n in (x, e, there i)) (in-cases m)
+first-in v y (c ∷ cs) m =
+    ⊎-elim (λ e. (c, e, here refl)) (λ n. let (x, e, i) = first-in v y cs n in (x, e, there i)) (in-cases m)
 
 in-firsts : (n v k : ℕ) {x : List ℕ} (cs : List (List ℕ)) → In x cs → k ≤ v → v < n + k → In (v ∷ x) (firstsFrom n k cs)
 unfolding firstsFrom
@@ -35,7 +38,8 @@ in-firsts (suc n) v k {x} cs m h g =
     same-or-past : (v k : ℕ) → k ≤ v → (v ≡ k) ⊎ (k < v)
     same-or-past v k h = ⊎-elim (λ t. inr (ltb-true k v t)) (λ t. inl (omega (arith, ltb-false k v t))) (test (ltb k v))
 
-firsts-in : (n k : ℕ) (y : List ℕ) (cs : List (List ℕ)) → In y (firstsFrom n k cs) → (v : ℕ) × (x : List ℕ) × (y ≡ v ∷ x) × (v < n + k) × In x cs
+firsts-in : (n k : ℕ) (y : List ℕ) (cs : List (List ℕ)) → In y (firstsFrom n k cs)
+    → (v : ℕ) × (x : List ℕ) × (y ≡ v ∷ x) × (v < n + k) × In x cs
 unfolding firstsFrom
 firsts-in zero k y cs m = absurd (in-none m)
 firsts-in (suc n) k y cs m =
@@ -49,7 +53,9 @@ unfolding choices isChoice
 in-choices [] [] h = here refl
 in-choices [] (v ∷ x) h = absurd (false≢true h)
 in-choices (d ∷ ds) [] h = absurd (false≢true h)
-in-choices (d ∷ ds) (v ∷ x) h = in-firsts d v 0 (choices ds) (in-choices ds x (and-right (ltb v d) (isChoice ds x) h)) (omega arith) (omega (arith, ltb-true v d (and-left (ltb v d) (isChoice ds x) h)))
+in-choices (d ∷ ds) (v ∷ x) h =
+    in-firsts d v 0 (choices ds) (in-choices ds x (and-right (ltb v d) (isChoice ds x) h)) (omega arith)
+    (omega (arith, ltb-true v d (and-left (ltb v d) (isChoice ds x) h)))
 
 pub choices-in : (ds x : List ℕ) → In x (choices ds) → isChoice ds x ≡ true
 unfolding choices isChoice

@@ -15,11 +15,19 @@ cut-rows =
     -- the same with the sides exchanged
     answered usual pairAndConstant (1 ∷ 0 ∷ []) (1 ∷ []) (point (1 ∷ 2 ∷ []) (0 ∷ 0 ∷ []) ∷ []) 1 2 (2 ∷ 0 ∷ []) ∷
     -- Pair with the sides exchanged: the first pair that gives 1 1 has a later choice
-    answered usual (pair 9 9) (1 ∷ 0 ∷ []) [] (point (0 ∷ 2 ∷ []) (0 ∷ 0 ∷ []) ∷ point (1 ∷ 1 ∷ []) (0 ∷ 1 ∷ []) ∷ point (2 ∷ 0 ∷ []) (1 ∷ 1 ∷ []) ∷ []) 2 2 (0 ∷ 0 ∷ []) ∷
+    answered usual (pair 9 9) (1 ∷ 0 ∷ []) []
+    (point (0 ∷ 2 ∷ []) (0 ∷ 0 ∷ []) ∷ point (1 ∷ 1 ∷ []) (0 ∷ 1 ∷ []) ∷ point (2 ∷ 0 ∷ []) (1 ∷ 1 ∷ []) ∷ []) 2 2
+    (0 ∷ 0 ∷ []) ∷
     -- variables 0 and 2 against 1, with unequal domains: renumbered
-    answered usual interleaved (0 ∷ 1 ∷ 0 ∷ []) (0 ∷ 1 ∷ []) (point (0 ∷ 7 ∷ []) (1 ∷ 1 ∷ 1 ∷ []) ∷ point (1 ∷ 5 ∷ []) (0 ∷ 1 ∷ 1 ∷ []) ∷ point (3 ∷ 3 ∷ []) (0 ∷ 2 ∷ 1 ∷ []) ∷ point (5 ∷ 2 ∷ []) (0 ∷ 0 ∷ 1 ∷ []) ∷ point (7 ∷ 1 ∷ []) (0 ∷ 2 ∷ 0 ∷ []) ∷ []) 4 3 (1 ∷ 3 ∷ []) ∷
+    answered usual interleaved (0 ∷ 1 ∷ 0 ∷ []) (0 ∷ 1 ∷ [])
+    (point (0 ∷ 7 ∷ []) (1 ∷ 1 ∷ 1 ∷ []) ∷ point (1 ∷ 5 ∷ []) (0 ∷ 1 ∷ 1 ∷ []) ∷ point (3 ∷ 3 ∷ []) (0 ∷ 2 ∷ 1 ∷ [])
+    ∷ point (5 ∷ 2 ∷ []) (0 ∷ 0 ∷ 1 ∷ []) ∷ point (7 ∷ 1 ∷ []) (0 ∷ 2 ∷ 0 ∷ []) ∷ [])
+    4 3 (1 ∷ 3 ∷ []) ∷
     -- the same with the sides exchanged
-    answered usual interleaved (1 ∷ 0 ∷ 1 ∷ []) (1 ∷ 2 ∷ []) (point (0 ∷ 7 ∷ []) (1 ∷ 1 ∷ 1 ∷ []) ∷ point (1 ∷ 5 ∷ []) (0 ∷ 1 ∷ 1 ∷ []) ∷ point (3 ∷ 3 ∷ []) (0 ∷ 2 ∷ 1 ∷ []) ∷ point (5 ∷ 2 ∷ []) (0 ∷ 0 ∷ 1 ∷ []) ∷ point (7 ∷ 1 ∷ []) (0 ∷ 2 ∷ 0 ∷ []) ∷ []) 3 4 (2 ∷ 2 ∷ []) ∷
+    answered usual interleaved (1 ∷ 0 ∷ 1 ∷ []) (1 ∷ 2 ∷ [])
+    (point (0 ∷ 7 ∷ []) (1 ∷ 1 ∷ 1 ∷ []) ∷ point (1 ∷ 5 ∷ []) (0 ∷ 1 ∷ 1 ∷ []) ∷ point (3 ∷ 3 ∷ []) (0 ∷ 2 ∷ 1 ∷ [])
+    ∷ point (5 ∷ 2 ∷ []) (0 ∷ 0 ∷ 1 ∷ []) ∷ point (7 ∷ 1 ∷ []) (0 ∷ 2 ∷ 0 ∷ []) ∷ [])
+    3 4 (2 ∷ 2 ∷ []) ∷
     -- 65 points in half 0, and every sum over a ceiling
     row usual (stairsOver 65 64) (0 ∷ 0 ∷ 0 ∷ 1 ∷ []) [] (lists []) (lists []) full 0 0 (bounds (64 ∷ 1 ∷ [])) ∷
     -- the same in half 1
@@ -32,4 +40,22 @@ cut-rows =
 
 pub cut-right : All Right cut-rows
 unfolding computing
-cut-right = ((refl, refl, refl, refl), ((refl, refl, refl, refl), ((refl, refl, refl, refl), ((refl, refl, refl, refl), ((refl, refl, refl, refl), ((refl, refl, refl, refl), ((refl, refl, refl, refl), ((refl, refl, refl, refl), ((refl, refl, refl, refl), tt)))))))))
+cut-right = (
+  (refl, refl, refl, refl),
+  (
+    (refl, refl, refl, refl),
+    (
+      (refl, refl, refl, refl),
+      (
+        (refl, refl, refl, refl),
+        (
+          (refl, refl, refl, refl),
+          (
+            (refl, refl, refl, refl),
+            ((refl, refl, refl, refl), ((refl, refl, refl, refl), ((refl, refl, refl, refl), tt))),
+          ),
+        ),
+      ),
+    ),
+  ),
+)

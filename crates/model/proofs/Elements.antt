@@ -1,7 +1,9 @@
--- A property of every element: at one place, from each that stands in the list, from another property, of two lists in a row, of a front and of what is left behind it. Where members stand.
+-- A property of every element: at one place, from each that stands in the list, from another property, of two lists in
+-- a row, of a front and of what is left behind it. Where members stand.
 use mathlib.Core.Path.{_≡_, refl}
 use mathlib.Core.Logic.{⊎-elim}
-use mathlib.Core.List.{List, [], _∷_, _++_, List·Memᴰ as In, List·Memᴰ·head as here, List·Memᴰ·tail as there, List·Memᴰ·not-nil as in-none, List·Memᴰ·cases-cons as in-cases}
+use mathlib.Core.List.{List, [], _∷_, _++_, List·Memᴰ as In, List·Memᴰ·head as here, List·Memᴰ·tail as there}
+use mathlib.Core.List.{List·Memᴰ·not-nil as in-none, List·Memᴰ·cases-cons as in-cases}
 use Prim.Native.Nat.{ℕ, zero, suc, _<_}
 use native.Mathlib.Omega.{arith}
 use lib.ListN.{length, getD, take, drop}
@@ -55,4 +57,5 @@ module _ {A : Type 0} where
 
   pub in-at : {a : A} (xs : List A) (d : A) → In a xs → (i : ℕ) × (i < length xs) × (a ≡ getD xs i d)
   in-at [] d m = absurd (in-none m)
-  in-at (x ∷ xs) d m = ⊎-elim (λ e. (0, omega arith, e)) (λ n. let (i, l, e) = in-at xs d n in (suc i, omega arith, e)) (in-cases m)
+  in-at (x ∷ xs) d m =
+      ⊎-elim (λ e. (0, omega arith, e)) (λ n. let (i, l, e) = in-at xs d n in (suc i, omega arith, e)) (in-cases m)

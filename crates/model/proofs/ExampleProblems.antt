@@ -23,7 +23,9 @@ abbrev pub three : ℕ → ℕ → List ℕ
 three c e = problem (c ∷ e ∷ []) (3 ∷ []) (table 0 (0 ∷ []) (0 ∷ 1 ∷ 2 ∷ []) ∷ table 1 (0 ∷ []) (2 ∷ 1 ∷ 0 ∷ []) ∷ [])
 
 abbrev pub pairTables : List (List ℕ)
-pairTables = table 0 (0 ∷ []) (0 ∷ 1 ∷ []) ∷ table 1 (0 ∷ []) (1 ∷ 0 ∷ []) ∷ table 0 (1 ∷ []) (0 ∷ 1 ∷ []) ∷ table 1 (1 ∷ []) (1 ∷ 0 ∷ []) ∷ []
+pairTables =
+    table 0 (0 ∷ []) (0 ∷ 1 ∷ []) ∷ table 1 (0 ∷ []) (1 ∷ 0 ∷ []) ∷ table 0 (1 ∷ []) (0 ∷ 1 ∷ [])
+    ∷ table 1 (1 ∷ []) (1 ∷ 0 ∷ []) ∷ []
 
 abbrev pub pair : ℕ → ℕ → List ℕ
 pair c e = problem (c ∷ e ∷ []) (2 ∷ 2 ∷ []) pairTables
@@ -78,7 +80,8 @@ stairs c = problem (c ∷ 72 ∷ []) (8 ∷ 3 ∷ 3 ∷ []) stairTables
 
 -- the same with a variable 3 of one value, whose costs put every sum over a ceiling
 abbrev pub stairsOver : ℕ → ℕ → List ℕ
-stairsOver c cost = problem (c ∷ 72 ∷ []) (8 ∷ 3 ∷ 3 ∷ 1 ∷ []) (table 0 (3 ∷ []) (cost ∷ []) ∷ table 1 (3 ∷ []) (1 ∷ []) ∷ stairTables)
+stairsOver c cost =
+    problem (c ∷ 72 ∷ []) (8 ∷ 3 ∷ 3 ∷ 1 ∷ []) (table 0 (3 ∷ []) (cost ∷ []) ∷ table 1 (3 ∷ []) (1 ∷ []) ∷ stairTables)
 
 -- records over variables 0 and 2, and over 1
 abbrev pub interleaved : List ℕ

@@ -3,7 +3,8 @@ use mathlib.Core.Path.{_≡_}
 use mathlib.Core.List.{List}
 use Prim.Native.Nat.{ℕ}
 use Rattle.model.specs.Frontiers.{Point}
-use Rattle.model.specs.Calls.{SolveOutcome, ListOutcome, CutOutcome, BoundOutcome, solveOutcome, listOutcome, cutOutcome, boundOutcome}
+use Rattle.model.specs.Calls.{SolveOutcome, ListOutcome, CutOutcome, BoundOutcome, solveOutcome, listOutcome}
+use Rattle.model.specs.Calls.{cutOutcome, boundOutcome}
 
 pub record Row : Type 0 where
   pub bytes : List ℕ

@@ -16,7 +16,8 @@ use Rattle.model.specs.Costs.{isChoice, costOf, costsOf}
 use Rattle.model.specs.Frontiers.{consistent, Point, point, best, choices, pointsBy, frontierBy, frontier}
 use Rattle.model.specs.Frontiers.{ReachedBy, Reached, Is-frontier}
 use Rattle.model.proofs.Bits.{not-true-false, and-left, and-right}
-use Rattle.model.proofs.Vectors.{at-most-true, at-most-test, at-most-refl, beats-true, beats-false, not-earlier, later-false}
+use Rattle.model.proofs.Vectors.{at-most-true, at-most-test, at-most-refl, beats-true, beats-false, not-earlier}
+use Rattle.model.proofs.Vectors.{later-false}
 use Rattle.model.proofs.Points.{rising-true, rising-test}
 use Rattle.model.proofs.Best.{Best, best-unique, best-cover}
 use Rattle.model.proofs.Sorting.{AllSized, best-right}
@@ -141,7 +142,10 @@ pub under-words : (xs cs : List ℕ) → length xs ≡ length cs → under xs cs
 unfolding under
 under-words [] cs e u w = tt
 under-words (x ∷ xs) [] e u w = absurd (omega arith)
-under-words (x ∷ xs) (c ∷ cs) e u w = (omega (arith, ltb-true x c (and-left (ltb x c) (under xs cs) u), w .0), under-words xs cs (omega arith) (and-right (ltb x c) (under xs cs) u) (w .1))
+under-words (x ∷ xs) (c ∷ cs) e u w = (
+  omega (arith, ltb-true x c (and-left (ltb x c) (under xs cs) u), w .0),
+  under-words xs cs (omega arith) (and-right (ltb x c) (under xs cs) u) (w .1),
+)
 
 -- so that listed costs fit 32 bits
 pub listed-words : (q : Problem) → RecordRules q → (p : Point) → In p (frontier q) → All Word (p .costs)

@@ -90,15 +90,27 @@ module _ (q : Problem) (rest : List ℕ) (rules : RecordRules q) where
 
 -- ## from bytes to fields
 
-fields-written : (s : List ℕ) → All Byte s → GoodHead s → twoBytes (headTables s) ++ wordBytes (wordsIn (headObjectives s) (drop 6 s)) ++ drop (headLength s) s ≡ drop 4 s
+fields-written : (s : List ℕ) → All Byte s → GoodHead s
+    → twoBytes (headTables s) ++ wordBytes (wordsIn (headObjectives s) (drop 6 s)) ++ drop (headLength s) s ≡ drop 4 s
 fields-written s b g =
     let p = headObjectives s in
-    let count : twoBytes (word2 0 (drop 4 s)) ++ drop 2 (drop 4 s) ≡ drop 4 s = two-written (drop 4 s) (omega (arith, length-drop 4 s, g .long)) (all-drop Byte 4 s b) in
-    let ceilings : wordBytes (wordsIn p (drop 6 s)) ++ drop (4 * p) (drop 6 s) ≡ drop 6 s = words-written p (drop 6 s) (omega (arith, length-drop 6 s, g .long)) (all-drop Byte 6 s b) in
+    let count : twoBytes (word2 0 (drop 4 s)) ++ drop 2 (drop 4 s) ≡ drop 4 s =
+    two-written (drop 4 s) (omega (arith, length-drop 4 s, g .long)) (all-drop Byte 4 s b) in
+    let ceilings : wordBytes (wordsIn p (drop 6 s)) ++ drop (4 * p) (drop 6 s) ≡ drop 6 s =
+    words-written p (drop 6 s) (omega (arith, length-drop 6 s, g .long)) (all-drop Byte 6 s b) in
     rw (append-assoc, ← drop-drop (4 * p) 6 s, ceilings, ← drop-drop 2 4 s, two-at 4 s) count
 
-pub head-written : (q : Problem) (s : List ℕ) → All Byte s → GoodHead s → Opens q s → headBytes q ++ drop (headLength s) s ≡ s
+pub head-written : (q : Problem) (s : List ℕ) → All Byte s → GoodHead s → Opens q s
+    → headBytes q ++ drop (headLength s) s ≡ s
 unfolding headBytes
 head-written q s b g o =
-    rw (← o .ceilings, ← o .variables, ← o .objectives, ← o .tables, fields-written s b g, ← drop-cons s 3 0 (omega (arith, g .long)), ← drop-cons s 2 0 (omega (arith, g .long)))
+    rw (
+      ← o .ceilings,
+      ← o .variables,
+      ← o .objectives,
+      ← o .tables,
+      fields-written s b g,
+      ← drop-cons s 3 0 (omega (arith, g .long)),
+      ← drop-cons s 2 0 (omega (arith, g .long)),
+    )
     (sym (marked-list letterH letterD 4 s (g .start)))

@@ -15,7 +15,8 @@ use Rattle.model.proofs.Bits.{pick-both}
 use Rattle.model.proofs.Totals.{total-same}
 
 -- what passes a test has what the test says
-pub all-kept : (P : Table → Type 0) (stays : Table → Bool) → ((t : Table) → stays t ≡ true → P t) → (ts : List Table) → All P (kept stays ts)
+pub all-kept : (P : Table → Type 0) (stays : Table → Bool) → ((t : Table) → stays t ≡ true → P t) → (ts : List Table)
+    → All P (kept stays ts)
 unfolding kept
 all-kept P stays h [] = tt
 all-kept P stays h (t ∷ ts) = go (stays t) refl (all-kept P stays h ts)
@@ -44,20 +45,27 @@ kept-few f (t ∷ ts) = go (f t) (kept-few f ts)
     go false k = omega (arith, k)
 
 -- a record that is not kept counts 0
-pub total-kept : (o : ℕ) (f : Table → ℕ) (stays : Table → Bool) (ts : List Table) → total o f (kept stays ts) ≡ total o (λ t. when (stays t) (f t)) ts
+pub total-kept : (o : ℕ) (f : Table → ℕ) (stays : Table → Bool) (ts : List Table)
+    → total o f (kept stays ts) ≡ total o (λ t. when (stays t) (f t)) ts
 unfolding total kept
 total-kept o f stays [] = refl
 total-kept o f stays (t ∷ ts) = go (stays t) (total-kept o f stays ts)
   where
-    go : (b : Bool) → total o f (kept stays ts) ≡ total o (λ s. when (stays s) (f s)) ts → total o f (keepIf b t (kept stays ts)) ≡ when (eqb (t .objective) o) (when b (f t)) + total o (λ s. when (stays s) (f s)) ts
+    go : (b : Bool) → total o f (kept stays ts) ≡ total o (λ s. when (stays s) (f s)) ts
+        → total o f (keepIf b t (kept stays ts))
+        ≡ when (eqb (t .objective) o) (when b (f t)) + total o (λ s. when (stays s) (f s)) ts
     go true e = ap (_+_ (when (eqb (t .objective) o) (f t))) e
-    go false e = let none : when (eqb (t .objective) o) 0 ≡ 0 = pick-both (λ n. n ≡ 0) (eqb (t .objective) o) refl refl in omega arith
+    go false e =
+        let none : when (eqb (t .objective) o) 0 ≡ 0 = pick-both (λ n. n ≡ 0) (eqb (t .objective) o) refl refl in
+        omega arith
 
 -- an objective's own records of a part give its sum over that part
-pub total-own : (o : ℕ) (f g : Table → ℕ) (part : Table → Bool) → ((t : Table) → part t ≡ true → f t ≡ g t) → (ts : List Table) → total o f (kept (λ t. eqb (t .objective) o && part t) ts) ≡ total o g (kept part ts)
+pub total-own : (o : ℕ) (f g : Table → ℕ) (part : Table → Bool) → ((t : Table) → part t ≡ true → f t ≡ g t)
+    → (ts : List Table) → total o f (kept (λ t. eqb (t .objective) o && part t) ts) ≡ total o g (kept part ts)
 total-own o f g part h ts =
     total-kept o f (λ t. eqb (t .objective) o && part t) ts
-    ∙ total-same o (λ t. when (eqb (t .objective) o && part t) (f t)) (λ t. when (part t) (g t)) (λ t e. rw (eq-eqb (t .objective) o e) (go t (part t) refl)) ts
+    ∙ total-same o (λ t. when (eqb (t .objective) o && part t) (f t)) (λ t. when (part t) (g t))
+    (λ t e. rw (eq-eqb (t .objective) o e) (go t (part t) refl)) ts
     ∙ sym (total-kept o g part ts)
   where
     go : (t : Table) (b : Bool) → part t ≡ b → when b (f t) ≡ when b (g t)
@@ -65,12 +73,15 @@ total-own o f g part h ts =
     go t false e = refl
 
 -- and so for a smaller part of that part
-pub total-inner : (o : ℕ) (f g : Table → ℕ) (inner part : Table → Bool) → ((t : Table) → inner t ≡ true → part t ≡ true) → ((t : Table) → part t ≡ true → f t ≡ g t) → (ts : List Table) → total o f (kept inner (kept (λ t. eqb (t .objective) o && part t) ts)) ≡ total o g (kept inner ts)
+pub total-inner : (o : ℕ) (f g : Table → ℕ) (inner part : Table → Bool) → ((t : Table) → inner t ≡ true → part t ≡ true)
+    → ((t : Table) → part t ≡ true → f t ≡ g t) → (ts : List Table)
+    → total o f (kept inner (kept (λ t. eqb (t .objective) o && part t) ts)) ≡ total o g (kept inner ts)
 total-inner o f g inner part more h ts =
     total-kept o f inner (kept (λ t. eqb (t .objective) o && part t) ts)
     ∙ total-own o (λ t. when (inner t) (f t)) (λ t. when (inner t) (g t)) part (λ t p. ap (when (inner t)) (h t p)) ts
     ∙ total-kept o (λ t. when (inner t) (g t)) part ts
-    ∙ total-same o (λ t. when (part t) (when (inner t) (g t))) (λ t. when (inner t) (g t)) (λ t e. go t (inner t) refl) ts
+    ∙ total-same o (λ t. when (part t) (when (inner t) (g t))) (λ t. when (inner t) (g t)) (λ t e. go t (inner t) refl)
+    ts
     ∙ sym (total-kept o g inner ts)
   where
     go : (t : Table) (b : Bool) → inner t ≡ b → when (part t) (when b (g t)) ≡ when b (g t)

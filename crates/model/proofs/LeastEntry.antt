@@ -1,4 +1,5 @@
--- The least entry of a table that agrees with a prefix: it never falls as the prefix grows, and it is the least over all completions.
+-- The least entry of a table that agrees with a prefix: it never falls as the prefix grows, and it is the least over
+-- all completions.
 use mathlib.Core.Path.{_≡_, refl, _∙_}
 use mathlib.Core.Logic.{⊎-elim}
 use mathlib.Core.Bool.{true, false}
@@ -17,7 +18,8 @@ use Rattle.model.proofs.Bits.{test, pick-both}
 use Rattle.model.proofs.Elements.{all-below, all-map}
 use Rattle.model.proofs.Scopes.{Apart, Distinct, scope-distinct}
 use Rattle.model.proofs.Choices.{choice-length}
-use Rattle.model.proofs.Prefixes.{choice-prefix, prefix-below, agrees-length, agrees-at, set-choice, set-agrees, some-completion}
+use Rattle.model.proofs.Prefixes.{choice-prefix, prefix-below, agrees-length, agrees-at, set-choice, set-agrees}
+use Rattle.model.proofs.Prefixes.{some-completion}
 
 -- the least of f 0 to f n
 least-to-below : (n : ℕ) (f : ℕ → ℕ) (a : ℕ) → a ≤ n → leastTo n f ≤ f a
@@ -37,8 +39,16 @@ least-to-reached zero f = (0, omega arith, refl)
 least-to-reached (suc n) f =
     let (a, l, e) = least-to-reached n f in
     ⊎-elim
-    (λ (h : leb (leastTo n f) (f (suc n)) ≡ true). (a, omega arith, omega (arith, leb-true (leastTo n f) (f (suc n)) h)))
-    (λ (h : leb (leastTo n f) (f (suc n)) ≡ false). (suc n, omega arith, omega (arith, leb-false (leastTo n f) (f (suc n)) h)))
+    (λ (h : leb (leastTo n f) (f (suc n)) ≡ true). (
+      a,
+      omega arith,
+      omega (arith, leb-true (leastTo n f) (f (suc n)) h),
+    ))
+    (λ (h : leb (leastTo n f) (f (suc n)) ≡ false). (
+      suc n,
+      omega arith,
+      omega (arith, leb-false (leastTo n f) (f (suc n)) h),
+    ))
     (test (leb (leastTo n f) (f (suc n))))
 
 least-to-grows : (n : ℕ) (f g : ℕ → ℕ) → ((a : ℕ) → f a ≤ g a) → leastTo n f ≤ leastTo n g
@@ -47,27 +57,33 @@ least-to-grows zero f g h = h 0
 least-to-grows (suc n) f g h = omega (arith, least-to-grows n f g h, h (suc n))
 
 -- a longer prefix fixes more variables, so its least is over fewer entries
-module _ (ds : List ℕ) (entry : ℕ → ℕ) (pre longer : List ℕ) (ok : prefixOk ds longer ≡ true) (ag : agrees pre longer ≡ true) where
+module _ (ds : List ℕ) (entry : ℕ → ℕ) (pre longer : List ℕ) (ok : prefixOk ds longer ≡ true)
+    (ag : agrees pre longer ≡ true) where
   from-grows : (i : ℕ) (vs : List ℕ) → leastFrom ds pre entry i vs ≤ leastFrom ds longer entry i vs
   unfolding leastFrom
   from-grows i [] = omega arith
   from-grows i (v ∷ vs) =
-      let next : (a : ℕ) → leastFrom ds pre entry (i * getD ds v 0 + a) vs ≤ leastFrom ds longer entry (i * getD ds v 0 + a) vs = λ a. from-grows (i * getD ds v 0 + a) vs in
+      let next : (a : ℕ)
+      → leastFrom ds pre entry (i * getD ds v 0 + a) vs ≤ leastFrom ds longer entry (i * getD ds v 0 + a) vs =
+      λ a. from-grows (i * getD ds v 0 + a) vs in
       ⊎-elim
       (λ (h : ltb v (length pre) ≡ true).
       let l : v < length pre = ltb-true _ _ h in
-      rw (h, lt-ltb v (length longer) (omega (arith, agrees-length pre longer ag)), agrees-at pre longer ag v l) (next _))
+      rw (h, lt-ltb v (length longer) (omega (arith, agrees-length pre longer ag)), agrees-at pre longer ag v l)
+      (next _))
       (λ (h : ltb v (length pre) ≡ false). rw h (⊎-elim
       (λ (k : ltb v (length longer) ≡ true). rw k (omega (
         arith,
-        least-to-below (getD ds v 0 - 1) (λ a. leastFrom ds pre entry (i * getD ds v 0 + a) vs) (getD longer v 0) (omega (arith, prefix-below ds longer ok v (ltb-true _ _ k))),
+        least-to-below (getD ds v 0 - 1) (λ a. leastFrom ds pre entry (i * getD ds v 0 + a) vs) (getD longer v 0)
+            (omega (arith, prefix-below ds longer ok v (ltb-true _ _ k))),
         next (getD longer v 0),
       )))
       (λ (k : ltb v (length longer) ≡ false). rw k (least-to-grows _ _ _ next))
       (test (ltb v (length longer)))))
       (test (ltb v (length pre)))
 
-pub least-grows : (ds pre longer : List ℕ) (t : Table) → prefixOk ds longer ≡ true → agrees pre longer ≡ true → leastOf ds pre t ≤ leastOf ds longer t
+pub least-grows : (ds pre longer : List ℕ) (t : Table) → prefixOk ds longer ≡ true → agrees pre longer ≡ true
+    → leastOf ds pre t ≤ leastOf ds longer t
 unfolding leastOf
 least-grows ds pre longer t ok ag = from-grows ds (λ i. getD (t .costs) i 0) pre longer ok ag 0 (t .scope)
 
@@ -90,23 +106,31 @@ pub least-whole : (ds x : List ℕ) (t : Table) → isChoice ds x ≡ true → l
 unfolding leastOf costOf
 least-whole ds x t c = from-whole ds (λ i. getD (t .costs) i 0) x c 0 (t .scope)
 
-pub least-below : (ds pre : List ℕ) (t : Table) (x : List ℕ) → isChoice ds x ≡ true → agrees pre x ≡ true → leastOf ds pre t ≤ costOf ds x t
+pub least-below : (ds pre : List ℕ) (t : Table) (x : List ℕ) → isChoice ds x ≡ true → agrees pre x ≡ true
+    → leastOf ds pre t ≤ costOf ds x t
 least-below ds pre t x c ag = rw (← least-whole ds x t c) (least-grows ds pre x t (choice-prefix ds x c) ag)
 
 -- only the sizes and values of a scope's variables matter to its entry
-pub entry-same : (ds es x y : List ℕ) (i : ℕ) (vs : List ℕ) → All (λ v. (getD ds v 0 ≡ getD es v 0) × (getD x v 0 ≡ getD y v 0)) vs → entryFrom i ds vs x ≡ entryFrom i es vs y
+pub entry-same : (ds es x y : List ℕ) (i : ℕ) (vs : List ℕ)
+    → All (λ v. (getD ds v 0 ≡ getD es v 0) × (getD x v 0 ≡ getD y v 0)) vs → entryFrom i ds vs x ≡ entryFrom i es vs y
 unfolding entryFrom
 entry-same ds es x y i [] h = refl
-entry-same ds es x y i (v ∷ vs) h = rw (h .0 .0, h .0 .1) (entry-same ds es x y (i * getD es v 0 + getD y v 0) vs (h .1))
+entry-same ds es x y i (v ∷ vs) h =
+    rw (h .0 .0, h .0 .1) (entry-same ds es x y (i * getD es v 0 + getD y v 0) vs (h .1))
 
-entry-apart : (ds x : List ℕ) (v a i : ℕ) (vs : List ℕ) → Apart v vs → entryFrom i ds vs (set x v a) ≡ entryFrom i ds vs x
+entry-apart : (ds x : List ℕ) (v a i : ℕ) (vs : List ℕ) → Apart v vs
+    → entryFrom i ds vs (set x v a) ≡ entryFrom i ds vs x
 entry-apart ds x v a i vs h =
     entry-same ds ds (set x v a) x i vs
-    (all-map (λ w. w ≡ v → ⊥) (λ w. (getD ds w 0 ≡ getD ds w 0) × (getD (set x v a) w 0 ≡ getD x w 0)) (λ w n. (refl, getD-set-other x v w a 0 n)) vs h)
+    (all-map (λ w. w ≡ v → ⊥) (λ w. (getD ds w 0 ≡ getD ds w 0) × (getD (set x v a) w 0 ≡ getD x w 0))
+    (λ w n. (refl, getD-set-other x v w a 0 n)) vs h)
 
--- a free variable v takes the value a of its least in a choice that reaches the least of the variables after it: they are apart from v
+-- a free variable v takes the value a of its least in a choice that reaches the least of the variables after it: they
+-- are apart from v
 module _ (ds pre : List ℕ) (entry : ℕ → ℕ) (low : All (λ d. 1 ≤ d) ds) (ok : prefixOk ds pre ≡ true) where
-  from-reached : (i : ℕ) (vs : List ℕ) → Distinct (length ds) vs → (x : List ℕ) × (isChoice ds x ≡ true) × (agrees pre x ≡ true) × (leastFrom ds pre entry i vs ≡ entry (entryFrom i ds vs x))
+  from-reached : (i : ℕ) (vs : List ℕ) → Distinct (length ds) vs
+      → (x : List ℕ) × (isChoice ds x ≡ true) × (agrees pre x ≡ true)
+      × (leastFrom ds pre entry i vs ≡ entry (entryFrom i ds vs x))
   unfolding leastFrom entryFrom
   from-reached i [] h =
       let (x, c, ag) = some-completion ds pre low ok in
@@ -128,9 +152,12 @@ module _ (ds pre : List ℕ) (entry : ℕ → ℕ) (low : All (λ d. 1 ≤ d) ds
       ))
       (test (ltb v (length pre)))
 
-pub least-reached : (ds pre : List ℕ) (t : Table) → All (λ d. 1 ≤ d) ds → prefixOk ds pre ≡ true → scopeRule (length ds) (t .scope) ≡ true → (x : List ℕ) × (isChoice ds x ≡ true) × (agrees pre x ≡ true) × (leastOf ds pre t ≡ costOf ds x t)
+pub least-reached : (ds pre : List ℕ) (t : Table) → All (λ d. 1 ≤ d) ds → prefixOk ds pre ≡ true
+    → scopeRule (length ds) (t .scope) ≡ true
+    → (x : List ℕ) × (isChoice ds x ≡ true) × (agrees pre x ≡ true) × (leastOf ds pre t ≡ costOf ds x t)
 unfolding leastOf costOf
-least-reached ds pre t low ok s = from-reached ds pre (λ i. getD (t .costs) i 0) low ok 0 (t .scope) (scope-distinct (length ds) (t .scope) s)
+least-reached ds pre t low ok s =
+    from-reached ds pre (λ i. getD (t .costs) i 0) low ok 0 (t .scope) (scope-distinct (length ds) (t .scope) s)
 
 -- where every entry is below w, so is the least
 module _ (w : ℕ) (ds pre : List ℕ) (entry : ℕ → ℕ) (h : (i : ℕ) → entry i < w) where
@@ -140,7 +167,10 @@ module _ (w : ℕ) (ds pre : List ℕ) (entry : ℕ → ℕ) (h : (i : ℕ) → 
   from-limit i (v ∷ vs) =
       let first : leastFrom ds pre entry (i * getD ds v 0 + 0) vs < w = from-limit _ vs in
       pick-both (λ n. n < w) (ltb v (length pre)) (from-limit _ vs)
-      (omega (arith, least-to-below (getD ds v 0 - 1) (λ a. leastFrom ds pre entry (i * getD ds v 0 + a) vs) 0 (omega arith)))
+      (omega (
+        arith,
+        least-to-below (getD ds v 0 - 1) (λ a. leastFrom ds pre entry (i * getD ds v 0 + a) vs) 0 (omega arith),
+      ))
 
 pub least-limit : (w : ℕ) (ds pre : List ℕ) (t : Table) → ((i : ℕ) → getD (t .costs) i 0 < w) → leastOf ds pre t < w
 unfolding leastOf

@@ -26,12 +26,17 @@ start-marked a b fields s h =
     let first = eqb (getD s 0 0) a in
     let second = eqb (getD s 1 0) b in
     let mark : (first && second) ≡ true = not-false _ (when-none _ strayMark refl (h₁ .0)) in
-    record { letter = eqb-true _ _ (and-left first second mark); next = eqb-true _ _ (and-right first second mark); long = ltb-false _ _ (when-none _ cutShort refl (h₁ .1)) }
+    record {
+      letter = eqb-true _ _ (and-left first second mark);
+      next = eqb-true _ _ (and-right first second mark);
+      long = ltb-false _ _ (when-none _ cutShort refl (h₁ .1));
+    }
 
 pub marked-start : (a b fields : ℕ) (s : List ℕ) → Marked a b fields s → startNumber a b fields s ≡ 0
 unfolding startNumber
 marked-start a b fields s m =
-    let mark : not (eqb (getD s 0 0) a && eqb (getD s 1 0) b) ≡ false = rw (and-both (eq-eqb _ _ (m .letter)) (eq-eqb _ _ (m .next))) in
+    let mark : not (eqb (getD s 0 0) a && eqb (getD s 1 0) b) ≡ false =
+    rw (and-both (eq-eqb _ _ (m .letter)) (eq-eqb _ _ (m .next))) in
     none-first _ (none-when cutShort (le-ltb (length s) 2 (omega (arith, m .long))))
     (none-first _ (none-when strayMark mark) (none-when cutShort (le-ltb _ _ (m .long))))
 
@@ -63,4 +68,7 @@ pub outside-zero : (limit : ℕ) {x : ℕ} → x ≡ 0 → false ≡ not (outsid
 outside-zero limit e = rw (eq-eqb _ _ e)
 
 pub outside-other : (limit x : ℕ) → (x ≡ 0 → ⊥) → leb x limit ≡ not (outside limit x)
-outside-other limit x n = rw (ne-eqb x 0 n) (⊎-elim (λ t. rw (le-ltb limit x (leb-true x limit t)) t) (λ t. rw (lt-ltb limit x (leb-false x limit t)) t) (test (leb x limit)))
+outside-other limit x n =
+    rw (ne-eqb x 0 n)
+    (⊎-elim (λ t. rw (le-ltb limit x (leb-true x limit t)) t) (λ t. rw (lt-ltb limit x (leb-false x limit t)) t)
+    (test (leb x limit)))

@@ -115,7 +115,8 @@ module _ (s : List ℕ) where
       go : (t : Bool) → Told (pick t (verdict oversize 0) (first (refusedAt 0 (headNumber s)) (bodyVerdict s)))
       go true = (omega arith, omega arith, λ m. refl)
       go false =
-          record-told 0 (headNumber s) (bodyVerdict s) (omega arith) (head-below s) (λ e. body-told (head-good s e .long))
+          record-told 0 (headNumber s) (bodyVerdict s) (omega arith) (head-below s)
+          (λ e. body-told (head-good s e .long))
 
 pub refused-number : (s : List ℕ) → verdictOf s .number ≤ leftover
 refused-number s = all-told s .0

@@ -51,17 +51,20 @@ set-choice [] [] v a h l = h
 set-choice [] (b ∷ x) v a h l = absurd (false≢true h)
 set-choice (d ∷ ds) [] v a h l = h
 set-choice (d ∷ ds) (b ∷ x) zero a h l = and-both (lt-ltb a d l) (and-right (ltb b d) _ h)
-set-choice (d ∷ ds) (b ∷ x) (suc v) a h l = and-both (and-left (ltb b d) _ h) (set-choice ds x v a (and-right (ltb b d) _ h) l)
+set-choice (d ∷ ds) (b ∷ x) (suc v) a h l =
+    and-both (and-left (ltb b d) _ h) (set-choice ds x v a (and-right (ltb b d) _ h) l)
 
 pub set-agrees : (pre x : List ℕ) (v a : ℕ) → agrees pre x ≡ true → length pre ≤ v → agrees pre (set x v a) ≡ true
 unfolding agrees
 set-agrees [] x v a h l = refl
 set-agrees (p ∷ pre) [] v a h l = h
 set-agrees (p ∷ pre) (b ∷ x) zero a h l = absurd (omega arith)
-set-agrees (p ∷ pre) (b ∷ x) (suc v) a h l = and-both (and-left (eqb p b) _ h) (set-agrees pre x v a (and-right (eqb p b) _ h) (omega arith))
+set-agrees (p ∷ pre) (b ∷ x) (suc v) a h l =
+    and-both (and-left (eqb p b) _ h) (set-agrees pre x v a (and-right (eqb p b) _ h) (omega arith))
 
 -- zeros after the prefix complete it
-pub some-completion : (ds pre : List ℕ) → All (λ d. 1 ≤ d) ds → prefixOk ds pre ≡ true → (x : List ℕ) × (isChoice ds x ≡ true) × (agrees pre x ≡ true)
+pub some-completion : (ds pre : List ℕ) → All (λ d. 1 ≤ d) ds → prefixOk ds pre ≡ true
+    → (x : List ℕ) × (isChoice ds x ≡ true) × (agrees pre x ≡ true)
 unfolding isChoice agrees prefixOk
 some-completion [] [] low h = ([], refl, refl)
 some-completion [] (p ∷ pre) low h = absurd (false≢true h)

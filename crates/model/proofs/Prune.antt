@@ -1,4 +1,5 @@
--- The bound is a sound rule: a branch may be left unopened, where its bound is over a ceiling, or matched, or not earlier than the costs held.
+-- The bound is a sound rule: a branch may be left unopened, where its bound is over a ceiling, or matched, or not
+-- earlier than the costs held.
 use mathlib.Core.Path.{_≡_, refl, sym, _∙_, subst}
 use mathlib.Core.Logic.{inl, inr, ⊎-elim}
 use mathlib.Core.Bool.{true, false, _||_, not}
@@ -14,7 +15,8 @@ use Rattle.model.specs.Core.{CoreReached}
 use Rattle.model.specs.Bounds.{boundOf}
 use Rattle.model.specs.Search.{Held, nothing, just, matched, late, dead, passes, solved}
 use Rattle.model.proofs.Bits.{test, true-false, or-cases}
-use Rattle.model.proofs.Vectors.{AtMost, Earlier, NotLater, same-eq, same-true, not-earlier, not-later-trans, at-most-trans, at-most-earlier}
+use Rattle.model.proofs.Vectors.{AtMost, Earlier, NotLater, same-eq, same-true, not-earlier, not-later-trans}
+use Rattle.model.proofs.Vectors.{at-most-trans, at-most-earlier}
 use Rattle.model.proofs.Sums.{under-mono}
 use Rattle.model.proofs.Frontier.{reached-width}
 use Rattle.model.proofs.Core.{core-under}
@@ -30,10 +32,13 @@ pub record Lower (q : Problem) (low : List ℕ → List ℕ) : Type 0 where
   pub below : (pre y : List ℕ) → From (q .domains) pre y → AtMost (low pre) (costsOf q y)
 
 at-most-not-later : (b c : List ℕ) → length b ≡ length c → AtMost b c → NotLater b c
-at-most-not-later b c e a = ⊎-elim (λ s. inl (same-true b c s)) (λ s. inr (at-most-earlier b c e a (λ d. true-false (same-eq d) s))) (test (same b c))
+at-most-not-later b c e a =
+    ⊎-elim (λ s. inl (same-true b c s)) (λ s. inr (at-most-earlier b c e a (λ d. true-false (same-eq d) s)))
+    (test (same b c))
 
 -- a vector b that the point r does not undercut
-module _ (q : Problem) (ps : List Point) (f : Prefix (CoreReached q) ps) (b : List ℕ) (wide : length b ≡ q .objectives) (r : Point) (u : Left q ps r) (low : AtMost b (r .costs)) where
+module _ (q : Problem) (ps : List Point) (f : Prefix (CoreReached q) ps) (b : List ℕ) (wide : length b ≡ q .objectives)
+    (r : Point) (u : Left q ps r) (low : AtMost b (r .costs)) where
   same-width : length b ≡ length (r .costs)
   same-width = wide ∙ sym (reached-width q r (u .0))
 
@@ -45,16 +50,21 @@ module _ (q : Problem) (ps : List Point) (f : Prefix (CoreReached q) ps) (b : Li
       let (p, i, a) = matched-in (point b []) ps m in
       u .1 (p, i, at-most-trans (p .costs) b (r .costs) (reached-width q p (f .listed .sound p i) ∙ sym wide) a low)
 
-  late-beyond : (h : Held) → late h b ≡ true → ((x : Point) → h ≡ just x → (length (x .costs) ≡ q .objectives) × Earlier (x .choice) (r .choice)) → Beyond h r
+  late-beyond : (h : Held) → late h b ≡ true
+      → ((x : Point) → h ≡ just x → (length (x .costs) ≡ q .objectives) × Earlier (x .choice) (r .choice)) → Beyond h r
   unfolding late
   late-beyond nothing t e = true-false t refl
-  late-beyond (just x) t e = go (not-later-trans (x .costs) b (r .costs) (not-earlier b (x .costs) (wide ∙ sym (e x refl .0)) (not-true (earlier b (x .costs)) t)) (at-most-not-later b (r .costs) same-width low))
+  late-beyond (just x) t e =
+      go (not-later-trans (x .costs) b (r .costs)
+      (not-earlier b (x .costs) (wide ∙ sym (e x refl .0)) (not-true (earlier b (x .costs)) t))
+      (at-most-not-later b (r .costs) same-width low))
     where
       go : NotLater (x .costs) (r .costs) → NotAfter x r
       go (inl k) = inr (k, inr (e x refl .1))
       go (inr k) = inl k
 
-  dead-beyond : (h : Held) → dead q ps h b ≡ true → ((x : Point) → h ≡ just x → (length (x .costs) ≡ q .objectives) × Earlier (x .choice) (r .choice)) → Beyond h r
+  dead-beyond : (h : Held) → dead q ps h b ≡ true
+      → ((x : Point) → h ≡ just x → (length (x .costs) ≡ q .objectives) × Earlier (x .choice) (r .choice)) → Beyond h r
   unfolding dead
   dead-beyond h d e =
       ⊎-elim
@@ -63,7 +73,8 @@ module _ (q : Problem) (ps : List Point) (f : Prefix (CoreReached q) ps) (b : Li
       (or-cases (not (under b (q .ceilings))) (matched b ps || late h b) d)
 
 -- the point held is reached, and its choice is before all that goes on from the prefix
-held-earlier : (q : Problem) (ps : List Point) (pre : List ℕ) (h : Held) → Before q ps pre h → (y : List ℕ) → Completes pre y → (x : Point) → h ≡ just x → (length (x .costs) ≡ q .objectives) × Earlier (x .choice) y
+held-earlier : (q : Problem) (ps : List Point) (pre : List ℕ) (h : Held) → Before q ps pre h → (y : List ℕ)
+    → Completes pre y → (x : Point) → h ≡ just x → (length (x .costs) ≡ q .objectives) × Earlier (x .choice) y
 held-earlier q ps pre h k y c x e = go (subst (Before q ps pre) e k)
   where
     go : Before q ps pre (just x) → (length (x .costs) ≡ q .objectives) × Earlier (x .choice) y
@@ -72,13 +83,19 @@ held-earlier q ps pre h k y c x e = go (subst (Before q ps pre) e k)
 -- such vectors make a sound rule
 pub lower-sound : (q : Problem) (low : List ℕ → List ℕ) → Lower q low → Sound q (λ ps pre h. dead q ps h (low pre))
 lower-sound q low l ps f pre h d k r s =
-    dead-beyond q ps f (low pre) (l .width pre (r .choice) (s .1)) r (s .0) (subst (AtMost (low pre)) (sym (s .0 .0 .exact)) (l .below pre (r .choice) (s .1)))
+    dead-beyond q ps f (low pre) (l .width pre (r .choice) (s .1)) r (s .0)
+    (subst (AtMost (low pre)) (sym (s .0 .0 .exact)) (l .below pre (r .choice) (s .1)))
     h d (held-earlier q ps pre h k (r .choice) (s .1 .1))
 
 -- the bound of document 01 is such a vector
 pub bound-lower : (q : Problem) → Lower q (boundOf q)
-bound-lower q = record { width = λ pre y t. bound-length q pre; below = λ pre y t. bound-at-most q pre y (t .0) (completes-agrees pre y (t .1)) }
+bound-lower q = record {
+  width = λ pre y t. bound-length q pre;
+  below = λ pre y t. bound-at-most q pre y (t .0) (completes-agrees pre y (t .1));
+}
 
 -- branch and bound gives the frontier, or finds it longer than the room
-pub bounded-search-right : (q : Problem) (room : ℕ) → passes room q (λ ps pre h. dead q ps h (boundOf q pre)) [] ≡ solved q room
-bounded-search-right q room = search-right q (λ ps pre h. dead q ps h (boundOf q pre)) (lower-sound q (boundOf q) (bound-lower q)) room
+pub bounded-search-right : (q : Problem) (room : ℕ)
+    → passes room q (λ ps pre h. dead q ps h (boundOf q pre)) [] ≡ solved q room
+bounded-search-right q room =
+    search-right q (λ ps pre h. dead q ps h (boundOf q pre)) (lower-sound q (boundOf q) (bound-lower q)) room

@@ -64,9 +64,85 @@ reading-rows =
     -- the last table one byte short
     unread (take 154 (colours 100 100)) 2 133 ∷
     -- a leftover byte; a long work buffer is unchanged
-    row usual (colours 100 100 ++ 0 ∷ []) [] [] (refuses 11 155) (refuses 11 155) (refuses 11 155) 0 0 (noBound 11 155) ∷
+    row usual (colours 100 100 ++ 0 ∷ []) [] [] (refuses 11 155) (refuses 11 155) (refuses 11 155) 0 0
+    (noBound 11 155) ∷
     []
 
 pub reading-right : All Right reading-rows
 unfolding computing
-reading-right = ((refl, refl, refl, refl), ((refl, refl, refl, refl), ((refl, refl, refl, refl), ((refl, refl, refl, refl), ((refl, refl, refl, refl), ((refl, refl, refl, refl), ((refl, refl, refl, refl), ((refl, refl, refl, refl), ((refl, refl, refl, refl), ((refl, refl, refl, refl), ((refl, refl, refl, refl), ((refl, refl, refl, refl), ((refl, refl, refl, refl), ((refl, refl, refl, refl), ((refl, refl, refl, refl), ((refl, refl, refl, refl), ((refl, refl, refl, refl), ((refl, refl, refl, refl), ((refl, refl, refl, refl), ((refl, refl, refl, refl), ((refl, refl, refl, refl), ((refl, refl, refl, refl), ((refl, refl, refl, refl), ((refl, refl, refl, refl), ((refl, refl, refl, refl), ((refl, refl, refl, refl), ((refl, refl, refl, refl), tt)))))))))))))))))))))))))))
+reading-right = (
+  (refl, refl, refl, refl),
+  (
+    (refl, refl, refl, refl),
+    (
+      (refl, refl, refl, refl),
+      (
+        (refl, refl, refl, refl),
+        (
+          (refl, refl, refl, refl),
+          (
+            (refl, refl, refl, refl),
+            (
+              (refl, refl, refl, refl),
+              (
+                (refl, refl, refl, refl),
+                (
+                  (refl, refl, refl, refl),
+                  (
+                    (refl, refl, refl, refl),
+                    (
+                      (refl, refl, refl, refl),
+                      (
+                        (refl, refl, refl, refl),
+                        (
+                          (refl, refl, refl, refl),
+                          (
+                            (refl, refl, refl, refl),
+                            (
+                              (refl, refl, refl, refl),
+                              (
+                                (refl, refl, refl, refl),
+                                (
+                                  (refl, refl, refl, refl),
+                                  (
+                                    (refl, refl, refl, refl),
+                                    (
+                                      (refl, refl, refl, refl),
+                                      (
+                                        (refl, refl, refl, refl),
+                                        (
+                                          (refl, refl, refl, refl),
+                                          (
+                                            (refl, refl, refl, refl),
+                                            (
+                                              (refl, refl, refl, refl),
+                                              (
+                                                (refl, refl, refl, refl),
+                                                (
+                                                  (refl, refl, refl, refl),
+                                                  ((refl, refl, refl, refl), ((refl, refl, refl, refl), tt)),
+                                                ),
+                                              ),
+                                            ),
+                                          ),
+                                        ),
+                                      ),
+                                    ),
+                                  ),
+                                ),
+                              ),
+                            ),
+                          ),
+                        ),
+                      ),
+                    ),
+                  ),
+                ),
+              ),
+            ),
+          ),
+        ),
+      ),
+    ),
+  ),
+)

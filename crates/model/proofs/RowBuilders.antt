@@ -88,7 +88,8 @@ written n xs = xs ++ held (n - length xs)
 abbrev pub workLeft : Answer → List ℕ → List ℕ
 workLeft a work = pick (a .zeroed) (replicate (length work) 0) work
 
--- A row in general: what is lent; bytes, sides, prefix; the answers of the plain call, the point-record call and the cut call; the half sizes; the bound.
+-- A row in general: what is lent; bytes, sides, prefix; the answers of the plain call, the point-record call and the
+-- cut call; the half sizes; the bound.
 abbrev pub row : Lent → List ℕ → List ℕ → List ℕ → Answer → Answer → Answer → ℕ → ℕ → BoundOutcome → Row
 row l s sides prefix plain list cut first second bound =
     record {
@@ -126,7 +127,8 @@ row l s sides prefix plain list cut first second bound =
 
 -- all calls answer and list the same points: what is lent; bytes, sides, prefix; the points; the half sizes; the bound
 abbrev pub answered : Lent → List ℕ → List ℕ → List ℕ → List Point → ℕ → ℕ → List ℕ → Row
-answered l s sides prefix ps first second least = row l s sides prefix (lists ps) (lists ps) (lists ps) first second (bounds least)
+answered l s sides prefix ps first second least =
+    row l s sides prefix (lists ps) (lists ps) (lists ps) first second (bounds least)
 
 -- all but the cut call answer, and it refuses with a number and a place
 abbrev pub uncut : List ℕ → List ℕ → List ℕ → List Point → ℕ → ℕ → List ℕ → Row

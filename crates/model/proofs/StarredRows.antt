@@ -11,11 +11,14 @@ use Rattle.model.proofs.RowBuilders.{lent, usual, answered}
 abbrev pub starred-rows : List Row
 starred-rows =
     -- Colours; choice 1 1 0 also costs 1 4 and is later
-    answered usual (colours 100 100) (0 ∷ 0 ∷ 0 ∷ []) (0 ∷ 0 ∷ []) (point (1 ∷ 4 ∷ []) (0 ∷ 0 ∷ 1 ∷ []) ∷ point (10 ∷ 0 ∷ []) (0 ∷ 0 ∷ 0 ∷ []) ∷ []) 2 1 (1 ∷ 0 ∷ []) ∷
+    answered usual (colours 100 100) (0 ∷ 0 ∷ 0 ∷ []) (0 ∷ 0 ∷ [])
+    (point (1 ∷ 4 ∷ []) (0 ∷ 0 ∷ 1 ∷ []) ∷ point (10 ∷ 0 ∷ []) (0 ∷ 0 ∷ 0 ∷ []) ∷ []) 2 1 (1 ∷ 0 ∷ []) ∷
     -- Colours, ceilings 10 and 100: a cost equal to its ceiling
-    answered usual (colours 10 100) (0 ∷ 0 ∷ 0 ∷ []) (0 ∷ 1 ∷ []) (point (1 ∷ 4 ∷ []) (0 ∷ 0 ∷ 1 ∷ []) ∷ []) 1 1 (0 ∷ 6 ∷ []) ∷
+    answered usual (colours 10 100) (0 ∷ 0 ∷ 0 ∷ []) (0 ∷ 1 ∷ []) (point (1 ∷ 4 ∷ []) (0 ∷ 0 ∷ 1 ∷ []) ∷ []) 1 1
+    (0 ∷ 6 ∷ []) ∷
     -- Colours, ceilings 11 and 100
-    answered usual (colours 11 100) (1 ∷ 1 ∷ 1 ∷ []) (0 ∷ 0 ∷ 1 ∷ []) (point (1 ∷ 4 ∷ []) (0 ∷ 0 ∷ 1 ∷ []) ∷ point (10 ∷ 0 ∷ []) (0 ∷ 0 ∷ 0 ∷ []) ∷ []) 1 2 (1 ∷ 4 ∷ []) ∷
+    answered usual (colours 11 100) (1 ∷ 1 ∷ 1 ∷ []) (0 ∷ 0 ∷ 1 ∷ [])
+    (point (1 ∷ 4 ∷ []) (0 ∷ 0 ∷ 1 ∷ []) ∷ point (10 ∷ 0 ∷ []) (0 ∷ 0 ∷ 0 ∷ []) ∷ []) 1 2 (1 ∷ 4 ∷ []) ∷
     -- Colours, ceilings 2 and 4
     answered usual (colours 2 4) (0 ∷ 0 ∷ 0 ∷ []) [] [] 0 1 (0 ∷ 0 ∷ []) ∷
     -- Colours, ceilings 2 and 5
@@ -27,13 +30,40 @@ starred-rows =
     -- n = p = 1, d = 8, r = 0, ceiling 1
     answered usual (bare 8 1) (1 ∷ []) (7 ∷ []) (point (0 ∷ []) (0 ∷ []) ∷ []) 1 1 (0 ∷ []) ∷
     -- Three
-    answered usual (three 3 3) (0 ∷ []) (1 ∷ []) (point (0 ∷ 2 ∷ []) (0 ∷ []) ∷ point (1 ∷ 1 ∷ []) (1 ∷ []) ∷ point (2 ∷ 0 ∷ []) (2 ∷ []) ∷ []) 3 1 (1 ∷ 1 ∷ []) ∷
+    answered usual (three 3 3) (0 ∷ []) (1 ∷ [])
+    (point (0 ∷ 2 ∷ []) (0 ∷ []) ∷ point (1 ∷ 1 ∷ []) (1 ∷ []) ∷ point (2 ∷ 0 ∷ []) (2 ∷ []) ∷ []) 3 1 (1 ∷ 1 ∷ []) ∷
     -- Pair
-    answered usual (pair 9 9) (0 ∷ 1 ∷ []) (1 ∷ []) (point (0 ∷ 2 ∷ []) (0 ∷ 0 ∷ []) ∷ point (1 ∷ 1 ∷ []) (0 ∷ 1 ∷ []) ∷ point (2 ∷ 0 ∷ []) (1 ∷ 1 ∷ []) ∷ []) 2 2 (1 ∷ 0 ∷ []) ∷
+    answered usual (pair 9 9) (0 ∷ 1 ∷ []) (1 ∷ [])
+    (point (0 ∷ 2 ∷ []) (0 ∷ 0 ∷ []) ∷ point (1 ∷ 1 ∷ []) (0 ∷ 1 ∷ []) ∷ point (2 ∷ 0 ∷ []) (1 ∷ 1 ∷ []) ∷ []) 2 2
+    (1 ∷ 0 ∷ []) ∷
     -- Pair, ceilings 2 and 2
     answered usual (pair 2 2) (0 ∷ 1 ∷ []) [] (point (1 ∷ 1 ∷ []) (0 ∷ 1 ∷ []) ∷ []) 2 2 (0 ∷ 0 ∷ []) ∷
     []
 
 pub starred-right : All Right starred-rows
 unfolding computing
-starred-right = ((refl, refl, refl, refl), ((refl, refl, refl, refl), ((refl, refl, refl, refl), ((refl, refl, refl, refl), ((refl, refl, refl, refl), ((refl, refl, refl, refl), ((refl, refl, refl, refl), ((refl, refl, refl, refl), ((refl, refl, refl, refl), ((refl, refl, refl, refl), ((refl, refl, refl, refl), tt)))))))))))
+starred-right = (
+  (refl, refl, refl, refl),
+  (
+    (refl, refl, refl, refl),
+    (
+      (refl, refl, refl, refl),
+      (
+        (refl, refl, refl, refl),
+        (
+          (refl, refl, refl, refl),
+          (
+            (refl, refl, refl, refl),
+            (
+              (refl, refl, refl, refl),
+              (
+                (refl, refl, refl, refl),
+                ((refl, refl, refl, refl), ((refl, refl, refl, refl), ((refl, refl, refl, refl), tt))),
+              ),
+            ),
+          ),
+        ),
+      ),
+    ),
+  ),
+)

@@ -42,11 +42,13 @@ module _ (q : Problem) (o k : ℕ) where
   part = suffixOf q o k
 
   -- sums over its records are those over q's records from k on, where they count the same
-  own-total : (f g : Table → ℕ) → ((t : Table) → inSuffix n k t ≡ true → f t ≡ g t) → total o f (part .tables) ≡ total o g (kept (inSuffix n k) (q .tables))
+  own-total : (f g : Table → ℕ) → ((t : Table) → inSuffix n k t ≡ true → f t ≡ g t)
+      → total o f (part .tables) ≡ total o g (kept (inSuffix n k) (q .tables))
   unfolding suffixOf
   own-total f g h = total-own o f g (inSuffix n k) h (q .tables)
 
-  later-total : (f g : Table → ℕ) → ((t : Table) → inSuffix n k t ≡ true → f t ≡ g t) → (j : ℕ) → k ≤ j → total o f (kept (inSuffix n j) (part .tables)) ≡ total o g (kept (inSuffix n j) (q .tables))
+  later-total : (f g : Table → ℕ) → ((t : Table) → inSuffix n k t ≡ true → f t ≡ g t) → (j : ℕ) → k ≤ j
+      → total o f (kept (inSuffix n j) (part .tables)) ≡ total o g (kept (inSuffix n j) (q .tables))
   unfolding suffixOf
   later-total f g h j l = total-inner o f g (inSuffix n j) (inSuffix n k) (suffix-more n k j l) h (q .tables)
 
@@ -60,7 +62,8 @@ module _ (q : Problem) (o k : ℕ) where
     unfolding suffixOf
     suffix-least = narrowed-least 1 sides (q .domains) (sides-length n k below)
 
-    suffix-cost : (z y : List ℕ) → ((v : ℕ) → getD sides v 0 ≡ 1 → getD z v 0 ≡ getD y v 0) → (t : Table) → inSuffix n k t ≡ true → costOf (part .domains) z t ≡ costOf (q .domains) y t
+    suffix-cost : (z y : List ℕ) → ((v : ℕ) → getD sides v 0 ≡ 1 → getD z v 0 ≡ getD y v 0) → (t : Table)
+        → inSuffix n k t ≡ true → costOf (part .domains) z t ≡ costOf (q .domains) y t
     unfolding suffixOf
     suffix-cost z y h t i = narrowed-cost 1 sides (q .domains) (sides-length n k below) t i z y h
 
@@ -82,7 +85,8 @@ module _ (q : Problem) (o k : ℕ) where
   unfolding suffixOf costsOf totals
   suffix-costs z =
       totals-last o 0 o (costOf (part .domains) z) (part .tables) (omega arith)
-      (all-kept (λ t. t .objective ≡ o) _ (λ t h. eqb-true (t .objective) o (and-left (eqb (t .objective) o) _ h)) (q .tables))
+      (all-kept (λ t. t .objective ≡ o) _ (λ t h. eqb-true (t .objective) o (and-left (eqb (t .objective) o) _ h))
+      (q .tables))
 
   allowed-test : (z : List ℕ) → coreConsistent part z ≡ ltb (costIn z) ceiling
   unfolding coreConsistent suffixOf
@@ -91,7 +95,8 @@ module _ (q : Problem) (o k : ℕ) where
   point-cost : (x : Point) → CoreReached part x → getD (x .costs) o 0 ≡ costIn (x .choice)
   point-cost x r = rw (r .exact, suffix-costs (x .choice)) (last-at o (costIn (x .choice)))
 
-  -- what it holds costs at most the ceiling, and at most what any choice does: one that is not consistent costs the ceiling or more
+  -- what it holds costs at most the ceiling, and at most what any choice does: one that is not consistent costs the
+  -- ceiling or more
   held-limit : (h : Held) → After part [] [] h → leastCost o ceiling h ≤ ceiling
   unfolding leastCost
   held-limit nothing m = omega arith
@@ -99,17 +104,23 @@ module _ (q : Problem) (o k : ℕ) where
       let r = m .inside .0 .0 in
       omega (arith, point-cost x r, ltb-true (costIn (x .choice)) ceiling (sym (allowed-test (x .choice)) ∙ r .allowed))
 
-  held-under : (h : Held) → After part [] [] h → (z : List ℕ) → Seen (Left part []) (Through (part .domains) []) (at part [] z) → leastCost o ceiling h ≤ costIn z
+  held-under : (h : Held) → After part [] [] h → (z : List ℕ)
+      → Seen (Left part []) (Through (part .domains) []) (at part [] z) → leastCost o ceiling h ≤ costIn z
   unfolding leastCost
   held-under nothing m z s = absurd (m (at part [] z) s)
   held-under (just x) m z s =
       let r = m .inside .0 .0 in
       ⊎-elim
-      (λ e. omega (arith, point-cost x r, earlier-last o (costIn (x .choice)) (costIn z) (rw (r .exact, suffix-costs (x .choice), suffix-costs z) at e)))
+      (λ e. omega (
+        arith,
+        point-cost x r,
+        earlier-last o (costIn (x .choice)) (costIn z) (rw (r .exact, suffix-costs (x .choice), suffix-costs z) at e),
+      ))
       (λ e. rw (e .0) (omega (arith, point-cost (at part [] z) (s .0 .0))))
       (m .least (at part [] z) s)
 
-  held-least : (h : Held) → After part [] [] h → (z : List ℕ) → isChoice (part .domains) z ≡ true → leastCost o ceiling h ≤ costIn z
+  held-least : (h : Held) → After part [] [] h → (z : List ℕ) → isChoice (part .domains) z ≡ true
+      → leastCost o ceiling h ≤ costIn z
   held-least h m z c =
       ⊎-elim
       (λ t. held-under h m z ((reached-choice part z c (allowed-test z ∙ t), λ i. in-none (i .1)), inr (c, tt)))
@@ -120,7 +131,8 @@ module _ (q : Problem) (o k : ℕ) where
   held skip sound = pass-holds part skip sound [] (prefix-none (CoreReached part))
 
   -- its least cost, less its records' least entries, is a gain
-  pub suffix-gain : k ≤ length (q .domains) → (skip : List Point → List ℕ → Held → Bool) → Sound (suffixOf q o k) skip → Gain q o k (gainOf q o k (pass (suffixOf q o k) skip []))
+  pub suffix-gain : k ≤ length (q .domains) → (skip : List Point → List ℕ → Held → Bool) → Sound (suffixOf q o k) skip
+      → Gain q o k (gainOf q o k (pass (suffixOf q o k) skip []))
   unfolding gainOf suffixOf
   suffix-gain below skip sound y c =
       let (z, f, same) = narrowed-part 1 sides (q .domains) y (sides-length n k below) c in
@@ -133,15 +145,27 @@ module _ (q : Problem) (o k : ℕ) where
       )
 
 -- the gains that are known of later variables are gains of the suffix problem
-pub suffix-gains : (q : Problem) (o k : ℕ) (gains : ℕ → List ℕ) → All (λ d. 1 ≤ d) (q .domains) → k ≤ length (q .domains) → ((j : ℕ) → j ≤ length (q .domains) → length (gains j) ≡ suc o) → ((i j : ℕ) → i < o → j ≤ length (q .domains) → getD (gains j) i 0 ≡ 0) → ((j : ℕ) → j ≤ k → getD (gains j) o 0 ≡ 0) → ((j : ℕ) → k < j → j ≤ length (q .domains) → Gain q o j (getD (gains j) o 0)) → Gains (suffixOf q o k) gains
+pub suffix-gains : (q : Problem) (o k : ℕ) (gains : ℕ → List ℕ) → All (λ d. 1 ≤ d) (q .domains)
+    → k ≤ length (q .domains) → ((j : ℕ) → j ≤ length (q .domains) → length (gains j) ≡ suc o)
+    → ((i j : ℕ) → i < o → j ≤ length (q .domains) → getD (gains j) i 0 ≡ 0)
+    → ((j : ℕ) → j ≤ k → getD (gains j) o 0 ≡ 0)
+    → ((j : ℕ) → k < j → j ≤ length (q .domains) → Gain q o j (getD (gains j) o 0)) → Gains (suffixOf q o k) gains
 unfolding suffixOf
 suffix-gains q o k gains low below wide others early later =
-    record { width = λ j l. wide j (rw (suffix-length q o k below) at l); sound = λ i j m l. go i j m (rw (suffix-length q o k below) at l) (test (ltb i o)) (test (ltb k j)) }
+    record {
+      width = λ j l. wide j (rw (suffix-length q o k below) at l);
+      sound = λ i j m l. go i j m (rw (suffix-length q o k below) at l) (test (ltb i o)) (test (ltb k j));
+    }
   where
     none : (i j : ℕ) → getD (gains j) i 0 ≡ 0 → Gain (suffixOf q o k) i j (getD (gains j) i 0)
     none i j e = rw e (gain-none (suffixOf q o k) i j)
 
-    go : (i j : ℕ) → suc i ≤ suc o → j ≤ length (q .domains) → (ltb i o ≡ true) ⊎ (ltb i o ≡ false) → (ltb k j ≡ true) ⊎ (ltb k j ≡ false) → Gain (suffixOf q o k) i j (getD (gains j) i 0)
+    go : (i j : ℕ) → suc i ≤ suc o → j ≤ length (q .domains) → (ltb i o ≡ true) ⊎ (ltb i o ≡ false)
+        → (ltb k j ≡ true) ⊎ (ltb k j ≡ false) → Gain (suffixOf q o k) i j (getD (gains j) i 0)
     go i j m l (inl a) b = none i j (others i j (ltb-true i o a) l)
-    go i j m l (inr a) (inr b) = let e : i ≡ o = omega (arith, ltb-false i o a) in none i j (rw e (early j (ltb-false k j b)))
-    go i j m l (inr a) (inl b) = let e : i ≡ o = omega (arith, ltb-false i o a) in rw e (later-gain q o k below low j (getD (gains j) o 0) (omega (arith, ltb-true k j b)) (later j (ltb-true k j b) l))
+    go i j m l (inr a) (inr b) =
+        let e : i ≡ o = omega (arith, ltb-false i o a) in none i j (rw e (early j (ltb-false k j b)))
+    go i j m l (inr a) (inl b) =
+        let e : i ≡ o = omega (arith, ltb-false i o a) in
+        rw e
+        (later-gain q o k below low j (getD (gains j) o 0) (omega (arith, ltb-true k j b)) (later j (ltb-true k j b) l))

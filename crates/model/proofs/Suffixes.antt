@@ -1,4 +1,5 @@
--- The sharper bound: what the records over the last variables cost more than their least entries may be added to the bound of a prefix.
+-- The sharper bound: what the records over the last variables cost more than their least entries may be added to the
+-- bound of a prefix.
 use mathlib.Core.Path.{_≡_, refl, sym, _∙_}
 use mathlib.Core.Bool.{Bool, true, false}
 use mathlib.Core.List.{List, [], _∷_, _++_}
@@ -62,30 +63,50 @@ pub gain-none : (q : Problem) (o k : ℕ) → Gain q o k 0
 unfolding agrees
 gain-none q o k y c =
     let ds = q .domains in
-    omega (arith, total-grows o (leastOf ds []) (costOf ds y) (λ t. least-below ds [] t y c refl) (kept (inSuffix (length ds) k) (q .tables)))
+    omega (
+      arith,
+      total-grows o (leastOf ds []) (costOf ds y) (λ t. least-below ds [] t y c refl)
+          (kept (inSuffix (length ds) k) (q .tables)),
+    )
 
 -- a record over the variables after a prefix has the same least entry with the prefix as without
-prefix-least : (ds pre : List ℕ) (n : ℕ) (t : Table) → inSuffix n (length pre) t ≡ true → leastOf ds pre t ≡ leastOf ds [] t
+prefix-least : (ds pre : List ℕ) (n : ℕ) (t : Table) → inSuffix n (length pre) t ≡ true
+    → leastOf ds pre t ≡ leastOf ds [] t
 prefix-least ds pre n t h =
     let k = length pre in
     least-same ds ds pre t
-    (all-map (λ v. getD (suffixSides n k) v 0 ≡ 1) (λ v. (k ≤ v) × (getD ds v 0 ≡ getD ds v 0)) (λ v e. (side-from (n - k) k v e .0, refl)) (t .scope) (within-all 1 (suffixSides n k) (t .scope) h))
+    (all-map (λ v. getD (suffixSides n k) v 0 ≡ 1) (λ v. (k ≤ v) × (getD ds v 0 ≡ getD ds v 0))
+    (λ v e. (side-from (n - k) k v e .0, refl)) (t .scope) (within-all 1 (suffixSides n k) (t .scope) h))
 
 -- what some records cost more than their least entries b may be added to a sum of bounds f
-total-gained : (o : ℕ) (inside : Table → Bool) (b f c : Table → ℕ) (ts : List Table) (g : ℕ) → ((t : Table) → inside t ≡ true → f t ≡ b t) → ((t : Table) → f t ≤ c t) → total o b (kept inside ts) + g ≤ total o c (kept inside ts) → total o f ts + g ≤ total o c ts
+total-gained : (o : ℕ) (inside : Table → Bool) (b f c : Table → ℕ) (ts : List Table) (g : ℕ)
+    → ((t : Table) → inside t ≡ true → f t ≡ b t) → ((t : Table) → f t ≤ c t)
+    → total o b (kept inside ts) + g ≤ total o c (kept inside ts) → total o f ts + g ≤ total o c ts
 total-gained o inside b f c ts g same low gain =
-    let lead : total o (λ t. f t + when (inside t) (c t)) ts ≤ total o (λ t. c t + when (inside t) (b t)) ts = total-grows o _ _ (λ t. go t (inside t) refl) ts in
-    omega (arith, total-plus o f (λ t. when (inside t) (c t)) ts, total-plus o c (λ t. when (inside t) (b t)) ts, total-kept o b inside ts, total-kept o c inside ts)
+    let lead : total o (λ t. f t + when (inside t) (c t)) ts ≤ total o (λ t. c t + when (inside t) (b t)) ts =
+    total-grows o _ _ (λ t. go t (inside t) refl) ts in
+    omega (
+      arith,
+      total-plus o f (λ t. when (inside t) (c t)) ts,
+      total-plus o c (λ t. when (inside t) (b t)) ts,
+      total-kept o b inside ts,
+      total-kept o c inside ts,
+    )
   where
     go : (t : Table) (i : Bool) → inside t ≡ i → f t + when i (c t) ≤ c t + when i (b t)
     go t true e = omega (arith, same t e)
     go t false e = omega (arith, low t)
 
-totals-gained : (p o : ℕ) (f c : Table → ℕ) (ts : List Table) (gs : List ℕ) → ((i j : ℕ) → j ≡ i + o → i < p → total j f ts + getD gs i 0 ≤ total j c ts) → AtMost (added (totalsFrom p o f ts) gs) (totalsFrom p o c ts)
+totals-gained : (p o : ℕ) (f c : Table → ℕ) (ts : List Table) (gs : List ℕ)
+    → ((i j : ℕ) → j ≡ i + o → i < p → total j f ts + getD gs i 0 ≤ total j c ts)
+    → AtMost (added (totalsFrom p o f ts) gs) (totalsFrom p o c ts)
 unfolding totalsFrom added
 totals-gained zero o f c ts gs h = tt
 totals-gained (suc p) o f c ts [] h = tt
-totals-gained (suc p) o f c ts (g ∷ gs) h = (h 0 o (omega arith) (omega arith), totals-gained p (suc o) f c ts gs (λ i j e l. h (suc i) j (omega arith) (omega arith)))
+totals-gained (suc p) o f c ts (g ∷ gs) h = (
+  h 0 o (omega arith) (omega arith),
+  totals-gained p (suc o) f c ts gs (λ i j e l. h (suc i) j (omega arith) (omega arith)),
+)
 
 -- a prefix is at most as long as what goes on from it
 from-length : (ds pre y : List ℕ) → From ds pre y → length pre ≤ length ds
@@ -93,10 +114,13 @@ from-length ds pre y t = omega (arith, agrees-length pre y (completes-agrees pre
 
 -- the sharper bound is still below what every completion costs
 module _ (q : Problem) (gains : ℕ → List ℕ) (known : Gains q gains) where
-  sharper-total : (pre y : List ℕ) → From (q .domains) pre y → (o : ℕ) → o < q .objectives → total o (leastOf (q .domains) pre) (q .tables) + getD (gains (length pre)) o 0 ≤ total o (costOf (q .domains) y) (q .tables)
+  sharper-total : (pre y : List ℕ) → From (q .domains) pre y → (o : ℕ) → o < q .objectives
+      → total o (leastOf (q .domains) pre) (q .tables) + getD (gains (length pre)) o 0
+      ≤ total o (costOf (q .domains) y) (q .tables)
   sharper-total pre y t o l =
       let ds = q .domains in
-      total-gained o (inSuffix (length ds) (length pre)) (leastOf ds []) (leastOf ds pre) (costOf ds y) (q .tables) (getD (gains (length pre)) o 0)
+      total-gained o (inSuffix (length ds) (length pre)) (leastOf ds []) (leastOf ds pre) (costOf ds y) (q .tables)
+      (getD (gains (length pre)) o 0)
       (prefix-least ds pre (length ds))
       (λ r. least-below ds pre r y (t .0) (completes-agrees pre y (t .1)))
       (known .sound o (length pre) l (from-length ds pre y t) y (t .0))
@@ -104,13 +128,17 @@ module _ (q : Problem) (gains : ℕ → List ℕ) (known : Gains q gains) where
   sharper-below : (pre y : List ℕ) → From (q .domains) pre y → AtMost (sharper q gains pre) (costsOf q y)
   unfolding boundOf costsOf totals
   sharper-below pre y t =
-      totals-gained (q .objectives) 0 (leastOf (q .domains) pre) (costOf (q .domains) y) (q .tables) (gains (length pre))
+      totals-gained (q .objectives) 0 (leastOf (q .domains) pre) (costOf (q .domains) y) (q .tables)
+      (gains (length pre))
       (λ i j e l. let same : j ≡ i = omega arith in rw same (sharper-total pre y t i l))
 
   pub gains-lower : Lower q (sharper q gains)
   gains-lower =
       record {
-        width = λ pre y t. added-length (boundOf q pre) (gains (length pre)) (bound-length q pre ∙ sym (known .width (length pre) (from-length (q .domains) pre y t))) ∙ bound-length q pre;
+        width =
+            λ pre y t. added-length (boundOf q pre) (gains (length pre))
+            (bound-length q pre ∙ sym (known .width (length pre) (from-length (q .domains) pre y t)))
+            ∙ bound-length q pre;
         below = sharper-below;
       }
 

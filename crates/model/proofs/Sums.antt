@@ -42,7 +42,8 @@ added-mono (a ∷ xs) (b ∷ bs) (c ∷ cs) [] h k = tt
 added-mono (a ∷ xs) (b ∷ bs) (c ∷ cs) (d ∷ ds) h k = (omega arith, added-mono xs bs cs ds (h .1) (k .1))
 
 -- equal sums of parts that are at most as large have equal parts
-pub added-tie : (n : ℕ) (xs bs cs ds : List ℕ) → length xs ≡ n → length bs ≡ n → length cs ≡ n → length ds ≡ n → AtMost xs cs → AtMost bs ds → added xs bs ≡ added cs ds → (xs ≡ cs) × (bs ≡ ds)
+pub added-tie : (n : ℕ) (xs bs cs ds : List ℕ) → length xs ≡ n → length bs ≡ n → length cs ≡ n → length ds ≡ n
+    → AtMost xs cs → AtMost bs ds → added xs bs ≡ added cs ds → (xs ≡ cs) × (bs ≡ ds)
 unfolding added
 added-tie n [] [] [] [] u v w x h k e = (refl, refl)
 added-tie n [] [] [] (d ∷ ds) u v w x h k e = absurd (omega arith)
@@ -67,7 +68,8 @@ under-mono [] bs cs e h u = refl
 under-mono (a ∷ xs) [] cs e h u = absurd (omega arith)
 under-mono (a ∷ xs) (b ∷ bs) [] e h u = refl
 under-mono (a ∷ xs) (b ∷ bs) (c ∷ cs) e h u =
-    and-both (lt-ltb a c (omega (arith, ltb-true b c (and-left (ltb b c) (under bs cs) u)))) (under-mono xs bs cs (omega arith) (h .1) (and-right (ltb b c) (under bs cs) u))
+    and-both (lt-ltb a c (omega (arith, ltb-true b c (and-left (ltb b c) (under bs cs) u))))
+    (under-mono xs bs cs (omega arith) (h .1) (and-right (ltb b c) (under bs cs) u))
 
 -- vectors that are 0 but for their last number compare by it
 pub last-at : (o a : ℕ) → getD (replicate o 0 ++ (a ∷ [])) o 0 ≡ a

@@ -12,7 +12,8 @@ use Rattle.model.specs.Limits.{maxArity}
 use Rattle.model.specs.Refusals.{cutShort, badOwner, badArity, badScope}
 use Rattle.model.specs.Problems.{Table, TableRules, sizeOf, scopeRule}
 use Rattle.model.specs.Encoding.{Byte, letterC, letterF, wordBytes, tableBytes}
-use Rattle.model.specs.Reading.{wordsIn, tableObjective, tableArity, tableScope, tableLength, tableNumber, tableOf}
+use Rattle.model.specs.Reading.{wordsIn, tableObjective, tableArity, tableScope, tableLength, tableNumber}
+use Rattle.model.specs.Reading.{tableOf}
 use Rattle.model.proofs.Elements.{all-drop}
 use Rattle.model.proofs.Words.{words-read, words-written, words-below, length-wordBytes, length-wordsIn}
 use Rattle.model.proofs.Verdicts.{first-none, none-first, when-none, none-when}
@@ -56,12 +57,15 @@ good-table p ds s g =
 module _ (p : ℕ) (ds : List ℕ) (t : Table) (rest : List ℕ) (rules : TableRules p ds t) where
   scope-read : tableScope (tableBytes t ++ rest) ≡ t .scope
   unfolding tableBytes tableScope
-  scope-read = ap (take (length (t .scope))) (append-assoc (t .scope) (wordBytes (t .costs)) rest) ∙ take-append-seam (t .scope) (wordBytes (t .costs) ++ rest)
+  scope-read =
+      ap (take (length (t .scope))) (append-assoc (t .scope) (wordBytes (t .costs)) rest)
+      ∙ take-append-seam (t .scope) (wordBytes (t .costs) ++ rest)
 
   pub length-table : length (tableBytes t) ≡ tableLength ds (tableBytes t ++ rest)
   unfolding tableBytes tableLength
   length-table =
-      rw scope-read (omega (arith, length-append (t .scope) (wordBytes (t .costs)), length-wordBytes (t .costs), rules .entries))
+      rw scope-read
+      (omega (arith, length-append (t .scope) (wordBytes (t .costs)), length-wordBytes (t .costs), rules .entries))
 
   costs-left : drop (4 + length (t .scope)) (tableBytes t ++ rest) ≡ wordBytes (t .costs) ++ rest
   unfolding tableBytes
@@ -74,7 +78,8 @@ module _ (p : ℕ) (ds : List ℕ) (t : Table) (rest : List ℕ) (rules : TableR
   unfolding tableBytes tableOf
   table-read =
       let s = tableBytes t ++ rest in
-      let costs : wordsIn (sizeOf ds (tableScope s)) (drop (4 + tableArity s) s) ≡ t .costs = rw (scope-read, ← rules .entries, costs-left) (words-read (t .costs) rest) in
+      let costs : wordsIn (sizeOf ds (tableScope s)) (drop (4 + tableArity s) s) ≡ t .costs =
+      rw (scope-read, ← rules .entries, costs-left) (words-read (t .costs) rest) in
       λ i. record { objective = t .objective; scope = scope-read i; costs = costs i }
 
   pub table-accepted : tableNumber p ds (tableBytes t ++ rest) ≡ 0
@@ -106,18 +111,27 @@ table-rules p ds s b h =
       words = words-below _ _ (all-drop Byte (4 + tableArity s) s b);
     }
 
-fields-written : (p : ℕ) (ds s : List ℕ) → All Byte s → GoodTable p ds s → tableScope s ++ wordBytes (tableOf ds s .costs) ++ drop (tableLength ds s) s ≡ drop 4 s
+fields-written : (p : ℕ) (ds s : List ℕ) → All Byte s → GoodTable p ds s
+    → tableScope s ++ wordBytes (tableOf ds s .costs) ++ drop (tableLength ds s) s ≡ drop 4 s
 unfolding tableOf tableScope tableLength
 fields-written p ds s b g =
     let a = tableArity s in
     let size = sizeOf ds (tableScope s) in
-    let costs : wordBytes (wordsIn size (drop (4 + a) s)) ++ drop (4 * size) (drop (4 + a) s) ≡ drop (4 + a) s = words-written size (drop (4 + a) s) (omega (arith, length-drop (4 + a) s, g .long)) (all-drop Byte (4 + a) s b) in
+    let costs : wordBytes (wordsIn size (drop (4 + a) s)) ++ drop (4 * size) (drop (4 + a) s) ≡ drop (4 + a) s =
+    words-written size (drop (4 + a) s) (omega (arith, length-drop (4 + a) s, g .long)) (all-drop Byte (4 + a) s b) in
     let place : tableLength ds s ≡ 4 + a + 4 * size = omega arith in
     rw (append-assoc, place, ← drop-drop (4 * size) (4 + a) s, costs, ← drop-drop a 4 s) (take-append-drop a (drop 4 s))
 
-pub table-written : (p : ℕ) (ds s : List ℕ) → All Byte s → GoodTable p ds s → tableBytes (tableOf ds s) ++ drop (tableLength ds s) s ≡ s
+pub table-written : (p : ℕ) (ds s : List ℕ) → All Byte s → GoodTable p ds s
+    → tableBytes (tableOf ds s) ++ drop (tableLength ds s) s ≡ s
 unfolding tableBytes tableOf tableScope tableLength
 table-written p ds s b g =
-    let arity : length (tableScope s) ≡ tableArity s = length-take-le (tableArity s) (drop 4 s) (omega (arith, length-drop 4 s, g .long)) in
-    rw (arity, fields-written p ds s b g, ← drop-cons s 3 0 (omega (arith, g .long)), ← drop-cons s 2 0 (omega (arith, g .long)))
+    let arity : length (tableScope s) ≡ tableArity s = length-take-le (tableArity s) (drop 4 s)
+    (omega (arith, length-drop 4 s, g .long)) in
+    rw (
+      arity,
+      fields-written p ds s b g,
+      ← drop-cons s 3 0 (omega (arith, g .long)),
+      ← drop-cons s 2 0 (omega (arith, g .long)),
+    )
     (sym (marked-list letterC letterF 2 s (g .start)))

@@ -19,13 +19,15 @@ when-grows : (b : Bool) {m n : ℕ} → m ≤ n → when b m ≤ when b n
 when-grows true h = h
 when-grows false h = omega arith
 
-pub total-grows : (o : ℕ) (f g : Table → ℕ) → ((t : Table) → f t ≤ g t) → (ts : List Table) → total o f ts ≤ total o g ts
+pub total-grows : (o : ℕ) (f g : Table → ℕ) → ((t : Table) → f t ≤ g t) → (ts : List Table)
+    → total o f ts ≤ total o g ts
 unfolding total
 total-grows o f g h [] = omega arith
 total-grows o f g h (t ∷ ts) = omega (arith, when-grows (eqb (t .objective) o) (h t), total-grows o f g h ts)
 
 -- only an objective's own records matter to its sum
-pub total-same : (o : ℕ) (f g : Table → ℕ) → ((t : Table) → t .objective ≡ o → f t ≡ g t) → (ts : List Table) → total o f ts ≡ total o g ts
+pub total-same : (o : ℕ) (f g : Table → ℕ) → ((t : Table) → t .objective ≡ o → f t ≡ g t) → (ts : List Table)
+    → total o f ts ≡ total o g ts
 unfolding total
 total-same o f g h [] = refl
 total-same o f g h (t ∷ ts) = ap₂ _+_ (go (eqb (t .objective) o) refl) (total-same o f g h ts)
@@ -43,7 +45,8 @@ unfolding total
 total-plus o f g [] = refl
 total-plus o f g (t ∷ ts) = omega (arith, when-plus (eqb (t .objective) o) (f t) (g t), total-plus o f g ts)
 
-totals-from-grow : (p o : ℕ) (f g : Table → ℕ) → ((t : Table) → f t ≤ g t) → (ts : List Table) → AtMost (totalsFrom p o f ts) (totalsFrom p o g ts)
+totals-from-grow : (p o : ℕ) (f g : Table → ℕ) → ((t : Table) → f t ≤ g t) → (ts : List Table)
+    → AtMost (totalsFrom p o f ts) (totalsFrom p o g ts)
 unfolding totalsFrom
 totals-from-grow zero o f g h ts = tt
 totals-from-grow (suc p) o f g h ts = (total-grows o f g h ts, totals-from-grow p (suc o) f g h ts)
@@ -70,11 +73,13 @@ unfolding totals
 totals-length q f = totals-from-length (q .objectives) 0 f (q .tables)
 
 -- numbers that are each below w, so each one more is at most w
-pub total-limit : (o w : ℕ) (f : Table → ℕ) (ts : List Table) → All (λ t. f t < w) ts → total o f ts + length ts ≤ length ts * w
+pub total-limit : (o w : ℕ) (f : Table → ℕ) (ts : List Table) → All (λ t. f t < w) ts
+    → total o f ts + length ts ≤ length ts * w
 unfolding total
 total-limit o w f [] h = omega arith
 total-limit o w f (t ∷ ts) h =
-    let one : when (eqb (t .objective) o) (f t) < w = pick-both (λ n. n < w) (eqb (t .objective) o) (h .0) (omega (arith, h .0)) in
+    let one : when (eqb (t .objective) o) (f t) < w = pick-both (λ n. n < w) (eqb (t .objective) o) (h .0)
+    (omega (arith, h .0)) in
     omega (arith, suc-mul (length ts) w, total-limit o w f ts (h .1))
 
 -- an objective that no record has sums to 0, as do all past the last one that records have
@@ -83,24 +88,34 @@ unfolding total
 total-none o f [] h = refl
 total-none o f (t ∷ ts) h = rw (ne-eqb (t .objective) o (h .0), total-none o f ts (h .1)) refl
 
-totals-none : (n o : ℕ) (f : Table → ℕ) (ts : List Table) → All (λ t. t .objective < o) ts → totalsFrom n o f ts ≡ replicate n 0
+totals-none : (n o : ℕ) (f : Table → ℕ) (ts : List Table) → All (λ t. t .objective < o) ts
+    → totalsFrom n o f ts ≡ replicate n 0
 unfolding totalsFrom
 totals-none zero o f ts h = refl
 totals-none (suc n) o f ts h =
-    ap₂ _∷_ (total-none o f ts (all-map (λ t. t .objective < o) (λ t. t .objective ≡ o → ⊥) (λ t l e. omega arith) ts h))
+    ap₂ _∷_
+    (total-none o f ts (all-map (λ t. t .objective < o) (λ t. t .objective ≡ o → ⊥) (λ t l e. omega arith) ts h))
     (totals-none n (suc o) f ts (all-map (λ t. t .objective < o) (λ t. t .objective < suc o) (λ t l. omega arith) ts h))
 
 -- records of one objective alone: those before it sum to 0
-pub totals-last : (m i o : ℕ) (f : Table → ℕ) (ts : List Table) → m + i ≡ o → All (λ t. t .objective ≡ o) ts → totalsFrom (suc m) i f ts ≡ replicate m 0 ++ (total o f ts ∷ [])
+pub totals-last : (m i o : ℕ) (f : Table → ℕ) (ts : List Table) → m + i ≡ o → All (λ t. t .objective ≡ o) ts
+    → totalsFrom (suc m) i f ts ≡ replicate m 0 ++ (total o f ts ∷ [])
 unfolding totalsFrom
 totals-last zero i o f ts e h = let same : i ≡ o = omega arith in rw same refl
 totals-last (suc m) i o f ts e h =
-    ap₂ _∷_ (total-none i f ts (all-map (λ t. t .objective ≡ o) (λ t. t .objective ≡ i → ⊥) (λ t l r. omega arith) ts h)) (totals-last m (suc i) o f ts (omega arith) h)
+    ap₂ _∷_
+    (total-none i f ts (all-map (λ t. t .objective ≡ o) (λ t. t .objective ≡ i → ⊥) (λ t l r. omega arith) ts h))
+    (totals-last m (suc i) o f ts (omega arith) h)
 
-pub totals-padded : (p n o : ℕ) (f : Table → ℕ) (ts : List Table) → p ≤ n → All (λ t. t .objective < o + p) ts → totalsFrom n o f ts ≡ totalsFrom p o f ts ++ replicate (n - p) 0
+pub totals-padded : (p n o : ℕ) (f : Table → ℕ) (ts : List Table) → p ≤ n → All (λ t. t .objective < o + p) ts
+    → totalsFrom n o f ts ≡ totalsFrom p o f ts ++ replicate (n - p) 0
 unfolding totalsFrom
-totals-padded zero n o f ts l h = rw sub-zero (totals-none n o f ts (all-map (λ t. t .objective < o + 0) (λ t. t .objective < o) (λ t k. omega arith) ts h))
+totals-padded zero n o f ts l h =
+    rw sub-zero
+    (totals-none n o f ts (all-map (λ t. t .objective < o + 0) (λ t. t .objective < o) (λ t k. omega arith) ts h))
 totals-padded (suc p) zero o f ts l h = absurd (omega arith)
 totals-padded (suc p) (suc n) o f ts l h =
     rw suc-sub-suc
-    (ap (_∷_ (total o f ts)) (totals-padded p n (suc o) f ts (omega arith) (all-map (λ t. t .objective < o + suc p) (λ t. t .objective < suc o + p) (λ t k. omega arith) ts h)))
+    (ap (_∷_ (total o f ts))
+    (totals-padded p n (suc o) f ts (omega arith)
+    (all-map (λ t. t .objective < o + suc p) (λ t. t .objective < suc o + p) (λ t k. omega arith) ts h)))

@@ -48,12 +48,14 @@ not-earlier-none [] h = h
 not-earlier-none (x ∷ y) h = h
 
 -- before pre with w at its end: before pre, or on from pre with less than w
-earlier-end : (pre y : List ℕ) (w : ℕ) → Earlier y (pre ++ (w ∷ [])) → Earlier y pre ⊎ ((v : ℕ) × (v < w) × Completes (pre ++ (v ∷ [])) y)
+earlier-end : (pre y : List ℕ) (w : ℕ) → Earlier y (pre ++ (w ∷ []))
+    → Earlier y pre ⊎ ((v : ℕ) × (v < w) × Completes (pre ++ (v ∷ [])) y)
 earlier-end pre [] w h = inl h
 earlier-end [] (x ∷ y) w (inl h) = inr (x, h, (refl, tt))
 earlier-end [] (x ∷ y) w (inr h) = absurd (not-earlier-none y (h .1))
 earlier-end (p ∷ pre) (x ∷ y) w (inl h) = inl (inl h)
-earlier-end (p ∷ pre) (x ∷ y) w (inr h) = ⊎-elim (λ k. inl (inr (h .0, k))) (λ k. inr (k .0, k .1, (sym (h .0), k .2))) (earlier-end pre y w (h .1))
+earlier-end (p ∷ pre) (x ∷ y) w (inr h) =
+    ⊎-elim (λ k. inl (inr (h .0, k))) (λ k. inr (k .0, k .1, (sym (h .0), k .2))) (earlier-end pre y w (h .1))
 
 end-earlier : (pre y : List ℕ) (w : ℕ) → Earlier y pre → Earlier y (pre ++ (w ∷ []))
 end-earlier pre [] w h = h
@@ -68,7 +70,8 @@ end-less (p ∷ pre) [] v w h k = k
 end-less (p ∷ pre) (x ∷ y) v w h k = inr (sym (k .0), end-less pre y v w h (k .1))
 
 -- a choice that goes on from a prefix has a value of the next variable there
-completes-more : (ds pre y : List ℕ) → isChoice ds y ≡ true → length pre < length ds → Completes pre y → (v : ℕ) × (v < getD ds (length pre) 0) × Completes (pre ++ (v ∷ [])) y
+completes-more : (ds pre y : List ℕ) → isChoice ds y ≡ true → length pre < length ds → Completes pre y
+    → (v : ℕ) × (v < getD ds (length pre) 0) × Completes (pre ++ (v ∷ [])) y
 unfolding isChoice
 completes-more [] pre y c h k = absurd (omega arith)
 completes-more (d ∷ ds) pre [] c h k = absurd (false≢true c)
@@ -111,32 +114,46 @@ start ds y h = not-earlier-none y (h .1)
 
 -- opening a variable: its first value is due
 pub opened : (ds pre : List ℕ) → Same (Passed ds pre) (Passed ds (pre ++ (0 ∷ [])))
-opened ds pre = (λ y h. (h .0, end-earlier pre y 0 (h .1)), λ y h. (h .0, ⊎-elim (λ k. k) (λ k. absurd (omega (arith, k .1))) (earlier-end pre y 0 (h .1))))
+opened ds pre = (
+  λ y h. (h .0, end-earlier pre y 0 (h .1)),
+  λ y h. (h .0, ⊎-elim (λ k. k) (λ k. absurd (omega (arith, k .1))) (earlier-end pre y 0 (h .1))),
+)
 
 -- a value is tried: the next one is due
 pub tried : (ds pre : List ℕ) (v : ℕ) → Same (Through ds (pre ++ (v ∷ []))) (Passed ds (pre ++ (suc v ∷ [])))
 tried ds pre v = (into, out)
   where
     into : (y : List ℕ) → Through ds (pre ++ (v ∷ [])) y → Passed ds (pre ++ (suc v ∷ [])) y
-    into y (inl h) = (h .0, ⊎-elim (λ k. end-earlier pre y (suc v) k) (λ k. end-less pre y (k .0) (suc v) (omega (arith, k .1)) (k .2)) (earlier-end pre y v (h .1)))
+    into y (inl h) = (
+      h .0,
+      ⊎-elim (λ k. end-earlier pre y (suc v) k) (λ k. end-less pre y (k .0) (suc v) (omega (arith, k .1)) (k .2))
+          (earlier-end pre y v (h .1)),
+    )
     into y (inr h) = (h .0, end-less pre y v (suc v) (omega arith) (h .1))
 
-    past : (y : List ℕ) (u : ℕ) → isChoice ds y ≡ true → u < suc v → Completes (pre ++ (u ∷ [])) y → Through ds (pre ++ (v ∷ [])) y
+    past : (y : List ℕ) (u : ℕ) → isChoice ds y ≡ true → u < suc v → Completes (pre ++ (u ∷ [])) y
+        → Through ds (pre ++ (v ∷ [])) y
     past y u c h k =
         ⊎-elim
         (λ t. inl (c, end-less pre y u v (ltb-true u v t) k))
-        (λ t. let e : u ≡ v = omega (arith, ltb-false u v t) in inr (c, subst (λ (w : ℕ). Completes (pre ++ (w ∷ [])) y) e k))
+        (λ t. let e : u ≡ v = omega (arith, ltb-false u v t) in
+        inr (c, subst (λ (w : ℕ). Completes (pre ++ (w ∷ [])) y) e k))
         (test (ltb u v))
 
     out : (y : List ℕ) → Passed ds (pre ++ (suc v ∷ [])) y → Through ds (pre ++ (v ∷ [])) y
-    out y h = ⊎-elim (λ k. inl (h .0, end-earlier pre y v k)) (λ k. past y (k .0) (h .0) (k .1) (k .2)) (earlier-end pre y (suc v) (h .1))
+    out y h =
+        ⊎-elim (λ k. inl (h .0, end-earlier pre y v k)) (λ k. past y (k .0) (h .0) (k .1) (k .2))
+        (earlier-end pre y (suc v) (h .1))
 
 -- all values are tried: the prefix is done
-pub closed : (ds pre : List ℕ) → length pre < length ds → Same (Passed ds (pre ++ (getD ds (length pre) 0 ∷ []))) (Through ds pre)
+pub closed : (ds pre : List ℕ) → length pre < length ds
+    → Same (Passed ds (pre ++ (getD ds (length pre) 0 ∷ []))) (Through ds pre)
 closed ds pre l = (into, out)
   where
     into : (y : List ℕ) → Passed ds (pre ++ (getD ds (length pre) 0 ∷ [])) y → Through ds pre y
-    into y h = ⊎-elim (λ k. inl (h .0, k)) (λ k. inr (h .0, completes-less pre (k .0) y (k .2))) (earlier-end pre y (getD ds (length pre) 0) (h .1))
+    into y h =
+        ⊎-elim (λ k. inl (h .0, k)) (λ k. inr (h .0, completes-less pre (k .0) y (k .2)))
+        (earlier-end pre y (getD ds (length pre) 0) (h .1))
 
     out : (y : List ℕ) → Through ds pre y → Passed ds (pre ++ (getD ds (length pre) 0 ∷ [])) y
     out y (inl h) = (h .0, end-earlier pre y (getD ds (length pre) 0) (h .1))

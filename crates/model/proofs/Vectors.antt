@@ -1,4 +1,5 @@
--- The laws of the comparisons: `same` is equality, `atMost` an order, `earlier` a strict total order at one length, `beats` strict.
+-- The laws of the comparisons: `same` is equality, `atMost` an order, `earlier` a strict total order at one length,
+-- `beats` strict.
 -- Each test has a type beside it (AtMost, Earlier); the laws are proved of the types.
 use mathlib.Core.Path.{_≡_, refl, ap, sym, subst}
 use mathlib.Core.Logic.{_⊎_, inl, inr, ⊎-elim}
@@ -10,7 +11,8 @@ use lib.Dec.{eqb, ltb, leb}
 use lib.ListN.{length}
 use borrow.Author.Tests.{ltb-true, lt-ltb, leb-true, le-leb, eqb-true, eq-eqb, not-true, ltb-false}
 use Rattle.model.specs.Vectors.{atMost, same, beats, earlier}
-use Rattle.model.proofs.Bits.{test, true-false, not-true-false, and-left, and-right, and-both, or-cases, or-left, or-right}
+use Rattle.model.proofs.Bits.{test, true-false, not-true-false, and-left, and-right, and-both, or-cases, or-left}
+use Rattle.model.proofs.Bits.{or-right}
 
 abbrev pub AtMost : List ℕ → List ℕ → Type 0
 AtMost [] ys = Unit {0}
@@ -33,7 +35,9 @@ unfolding same
 same-true [] [] h = refl
 same-true [] (y ∷ ys) h = absurd (false≢true h)
 same-true (x ∷ xs) [] h = absurd (false≢true h)
-same-true (x ∷ xs) (y ∷ ys) h = let p = eqb-true x y (and-left (eqb x y) (same xs ys) h) in let q = same-true xs ys (and-right (eqb x y) (same xs ys) h) in cc
+same-true (x ∷ xs) (y ∷ ys) h =
+    let p = eqb-true x y (and-left (eqb x y) (same xs ys) h) in
+    let q = same-true xs ys (and-right (eqb x y) (same xs ys) h) in cc
 
 pub same-refl : (xs : List ℕ) → same xs xs ≡ true
 unfolding same
@@ -47,7 +51,10 @@ pub at-most-true : (xs ys : List ℕ) → atMost xs ys ≡ true → AtMost xs ys
 unfolding atMost
 at-most-true [] ys h = tt
 at-most-true (x ∷ xs) [] h = tt
-at-most-true (x ∷ xs) (y ∷ ys) h = (leb-true x y (and-left (leb x y) (atMost xs ys) h), at-most-true xs ys (and-right (leb x y) (atMost xs ys) h))
+at-most-true (x ∷ xs) (y ∷ ys) h = (
+  leb-true x y (and-left (leb x y) (atMost xs ys) h),
+  at-most-true xs ys (and-right (leb x y) (atMost xs ys) h),
+)
 
 pub at-most-test : (xs ys : List ℕ) → AtMost xs ys → atMost xs ys ≡ true
 unfolding atMost
@@ -60,7 +67,12 @@ unfolding earlier
 earlier-true [] ys h = absurd (false≢true h)
 earlier-true (x ∷ xs) [] h = absurd (false≢true h)
 earlier-true (x ∷ xs) (y ∷ ys) h =
-    ⊎-elim (λ p. inl (ltb-true x y p)) (λ p. inr (eqb-true x y (and-left (eqb x y) (earlier xs ys) p), earlier-true xs ys (and-right (eqb x y) (earlier xs ys) p))) (or-cases (ltb x y) (eqb x y && earlier xs ys) h)
+    ⊎-elim (λ p. inl (ltb-true x y p))
+    (λ p. inr (
+      eqb-true x y (and-left (eqb x y) (earlier xs ys) p),
+      earlier-true xs ys (and-right (eqb x y) (earlier xs ys) p),
+    ))
+    (or-cases (ltb x y) (eqb x y && earlier xs ys) h)
 
 pub earlier-test : (xs ys : List ℕ) → Earlier xs ys → earlier xs ys ≡ true
 unfolding earlier
@@ -70,10 +82,15 @@ earlier-test (x ∷ xs) (y ∷ ys) (inl p) = or-left (eqb x y && earlier xs ys) 
 earlier-test (x ∷ xs) (y ∷ ys) (inr p) = or-right (ltb x y) (and-both (eq-eqb x y (p .0)) (earlier-test xs ys (p .1)))
 
 pub beats-true : (xs ys : List ℕ) → beats xs ys ≡ true → AtMost xs ys × (xs ≡ ys → ⊥)
-beats-true xs ys h = (at-most-true xs ys (and-left (atMost xs ys) (not (same xs ys)) h), λ e. true-false (same-eq e) (not-true (same xs ys) (and-right (atMost xs ys) (not (same xs ys)) h)))
+beats-true xs ys h = (
+  at-most-true xs ys (and-left (atMost xs ys) (not (same xs ys)) h),
+  λ e. true-false (same-eq e) (not-true (same xs ys) (and-right (atMost xs ys) (not (same xs ys)) h)),
+)
 
 pub beats-false : (xs ys : List ℕ) → beats xs ys ≡ false → AtMost xs ys → xs ≡ ys
-beats-false xs ys f h = ⊎-elim (λ s. same-true xs ys s) (λ s. absurd (true-false (and-both (at-most-test xs ys h) (ap not s)) f)) (test (same xs ys))
+beats-false xs ys f h =
+    ⊎-elim (λ s. same-true xs ys s) (λ s. absurd (true-false (and-both (at-most-test xs ys h) (ap not s)) f))
+    (test (same xs ys))
 
 -- the laws
 
@@ -91,7 +108,8 @@ pub at-most-antisym : (xs ys : List ℕ) → length xs ≡ length ys → AtMost 
 at-most-antisym [] [] e h k = refl
 at-most-antisym [] (y ∷ ys) e h k = absurd (omega arith)
 at-most-antisym (x ∷ xs) [] e h k = absurd (omega arith)
-at-most-antisym (x ∷ xs) (y ∷ ys) e h k = let p : x ≡ y = omega arith in let q = at-most-antisym xs ys (omega arith) (h .1) (k .1) in cc
+at-most-antisym (x ∷ xs) (y ∷ ys) e h k =
+    let p : x ≡ y = omega arith in let q = at-most-antisym xs ys (omega arith) (h .1) (k .1) in cc
 
 pub earlier-irrefl : (xs : List ℕ) → Earlier xs xs → ⊥
 earlier-irrefl [] h = h
@@ -124,7 +142,11 @@ heads x y xs ys (inr (inl p)) o = grown x y xs ys p o
 heads x y xs ys (inr (inr p)) o = second (inl p)
 
 trichotomy : (x y : ℕ) → (x < y) ⊎ ((x ≡ y) ⊎ (y < x))
-trichotomy x y = ⊎-elim (λ t. inl (ltb-true x y t)) (λ t. ⊎-elim (λ u. inr (inr (ltb-true y x u))) (λ u. inr (inl (omega (arith, ltb-false x y t, ltb-false y x u)))) (test (ltb y x))) (test (ltb x y))
+trichotomy x y =
+    ⊎-elim (λ t. inl (ltb-true x y t))
+    (λ t. ⊎-elim (λ u. inr (inr (ltb-true y x u))) (λ u. inr (inl (omega (arith, ltb-false x y t, ltb-false y x u))))
+    (test (ltb y x)))
+    (test (ltb x y))
 
 pub ordered : (xs ys : List ℕ) → length xs ≡ length ys → Ordered xs ys
 ordered [] [] e = equal refl
@@ -137,7 +159,10 @@ at-most-earlier [] [] e h n = absurd (n refl)
 at-most-earlier [] (y ∷ ys) e h n = absurd (omega arith)
 at-most-earlier (x ∷ xs) [] e h n = absurd (omega arith)
 at-most-earlier (x ∷ xs) (y ∷ ys) e h n =
-    ⊎-elim (λ p. inl p) (λ p. ⊎-elim (λ (q : x ≡ y). inr (q, at-most-earlier xs ys (omega arith) (h .1) (λ r. n (cc)))) (λ q. absurd (omega arith)) p) (trichotomy x y)
+    ⊎-elim (λ p. inl p)
+    (λ p. ⊎-elim (λ (q : x ≡ y). inr (q, at-most-earlier xs ys (omega arith) (h .1) (λ r. n (cc))))
+    (λ q. absurd (omega arith)) p)
+    (trichotomy x y)
 
 pub at-most-sum : (xs ys : List ℕ) → length xs ≡ length ys → AtMost xs ys → Sum xs ≤ Sum ys
 at-most-sum [] ys e h = omega arith
@@ -149,7 +174,10 @@ less-sum [] [] e h n = absurd (n refl)
 less-sum [] (y ∷ ys) e h n = absurd (omega arith)
 less-sum (x ∷ xs) [] e h n = absurd (omega arith)
 less-sum (x ∷ xs) (y ∷ ys) e h n =
-    ⊎-elim (λ p. omega (arith, at-most-sum xs ys (omega arith) (h .1))) (λ p. ⊎-elim (λ (q : x ≡ y). omega (arith, less-sum xs ys (omega arith) (h .1) (λ r. n (cc)))) (λ q. absurd (omega arith)) p) (trichotomy x y)
+    ⊎-elim (λ p. omega (arith, at-most-sum xs ys (omega arith) (h .1)))
+    (λ p. ⊎-elim (λ (q : x ≡ y). omega (arith, less-sum xs ys (omega arith) (h .1) (λ r. n (cc))))
+    (λ q. absurd (omega arith)) p)
+    (trichotomy x y)
 
 -- not later: equal or earlier
 abbrev pub NotLater : List ℕ → List ℕ → Type 0

@@ -66,7 +66,8 @@ pub accepts-both : {a b : Verdict} → a ≡ accepted → b ≡ accepted → fir
 accepts-both p q = rw (p, q)
 
 -- the same where a test comes first
-pub test-accepts : (t : Bool) (n at : ℕ) (v : Verdict) → eqb n 0 ≡ false → pick t (verdict n at) v .number ≡ 0 → (t ≡ false) × (v .number ≡ 0)
+pub test-accepts : (t : Bool) (n at : ℕ) (v : Verdict) → eqb n 0 ≡ false → pick t (verdict n at) v .number ≡ 0
+    → (t ≡ false) × (v .number ≡ 0)
 test-accepts true n at v e h = absurd (eqb-false n 0 e h)
 test-accepts false n at v e h = (refl, h)
 

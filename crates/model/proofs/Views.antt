@@ -1,7 +1,9 @@
--- A half solved as a view of the same problem: the view's frontier list is that of the half, with its choices spread out.
+-- A half solved as a view of the same problem: the view's frontier list is that of the half, with its choices spread
+-- out.
 use mathlib.Core.Path.{_≡_, refl, ap, ap₂, sym, _∙_, subst}
 use mathlib.Core.Bool.{Bool, true, false}
-use mathlib.Core.List.{List, [], _∷_, List·Memᴰ as In, List·Memᴰ·head as here, List·Memᴰ·tail as there, List·Memᴰ·not-nil as in-none}
+use mathlib.Core.List.{List, [], _∷_, List·Memᴰ as In, List·Memᴰ·head as here, List·Memᴰ·tail as there}
+use mathlib.Core.List.{List·Memᴰ·not-nil as in-none}
 use Prim.Native.Nat.{ℕ, zero, suc}
 use lib.ListN.{length, getD}
 use borrow.Author.Tests.{eqb-true, eq-eqb}
@@ -18,8 +20,10 @@ use Rattle.model.proofs.Best.{Best}
 use Rattle.model.proofs.Choices.{choice-length}
 use Rattle.model.proofs.Frontier.{frontier-best, best-frontier}
 use Rattle.model.proofs.Sides.{part-choice}
-use Rattle.model.proofs.Spread.{narrowed-length, narrowed-side, spread-choice, spread-part, spread-order, spreadPoint, spread-each, in-spread, spread-rising, spread-length}
-use Rattle.model.proofs.Halves.{OnSide, InOne, in-zero, in-one, one-half, uncrossed-first, uncrossed-rest, table-half}
+use Rattle.model.proofs.Spread.{narrowed-length, narrowed-side, spread-choice, spread-part, spread-order}
+use Rattle.model.proofs.Spread.{spreadPoint, spread-each, in-spread, spread-rising, spread-length}
+use Rattle.model.proofs.Halves.{OnSide, InOne, in-zero, in-one, one-half, uncrossed-first, uncrossed-rest}
+use Rattle.model.proofs.Halves.{table-half}
 use Rattle.model.proofs.Cut.{sides-long, sides-all}
 
 -- a record that does not cross is in the view exactly if it is in the half
@@ -38,7 +42,8 @@ half-side k ss (v ∷ vs) n h w m = go n ∙ eqb-true (getD ss v 0) k h
     go (in-one a b o) = o w m ∙ sym (o v (here refl))
 
 -- the costs of a choice of the view
-module _ (ss : List ℕ) (all : allSides ss ≡ true) (ds zs : List ℕ) (long : length ds ≡ length ss) (wide : length zs ≡ length ss) (k : ℕ) where
+module _ (ss : List ℕ) (all : allSides ss ≡ true) (ds zs : List ℕ) (long : length ds ≡ length ss)
+    (wide : length zs ≡ length ss) (k : ℕ) where
   abbrev inView : Table → ℕ
   inView = costOf (narrowed k ss ds) zs
 
@@ -46,33 +51,44 @@ module _ (ss : List ℕ) (all : allSides ss ≡ true) (ds zs : List ℕ) (long :
   inPart = costOf (onSide k ss ds) (onSide k ss zs)
 
   table-view : (t : Table) → OnSide k ss (t .scope) → inView t ≡ inPart (halfTable k ss t)
-  table-view t o = table-half ss all (narrowed k ss ds) zs (narrowed-length k ss ds long) wide k t o ∙ ap (λ (ns : List ℕ). costOf ns (onSide k ss zs) (halfTable k ss t)) (narrowed-side k ss ds)
+  table-view t o =
+      table-half ss all (narrowed k ss ds) zs (narrowed-length k ss ds long) wide k t o
+      ∙ ap (λ (ns : List ℕ). costOf ns (onSide k ss zs) (halfTable k ss t)) (narrowed-side k ss ds)
 
   abbrev stays : Table → Bool
   stays t = within k ss (t .scope)
 
-  total-view : (o : ℕ) (ts : List Table) → uncrossed ss ts ≡ true → total o inView (kept stays ts) ≡ total o inPart (halfTables k ss ts)
+  total-view : (o : ℕ) (ts : List Table) → uncrossed ss ts ≡ true
+      → total o inView (kept stays ts) ≡ total o inPart (halfTables k ss ts)
   unfolding total kept halfTables crosses
   total-view o [] h = refl
-  total-view o (t ∷ ts) h = go (inHalf k ss (t .scope)) refl (half-side k ss (t .scope) (one-half ss all (t .scope) (uncrossed-first ss t ts h))) (total-view o ts (uncrossed-rest ss t ts h))
+  total-view o (t ∷ ts) h =
+      go (inHalf k ss (t .scope)) refl
+      (half-side k ss (t .scope) (one-half ss all (t .scope) (uncrossed-first ss t ts h)))
+      (total-view o ts (uncrossed-rest ss t ts h))
     where
-      go : (b : Bool) → inHalf k ss (t .scope) ≡ b → (inHalf k ss (t .scope) ≡ true → OnSide k ss (t .scope)) → total o inView (kept stays ts) ≡ total o inPart (halfTables k ss ts) → total o inView (kept stays (t ∷ ts)) ≡ total o inPart (halfTables k ss (t ∷ ts))
+      go : (b : Bool) → inHalf k ss (t .scope) ≡ b → (inHalf k ss (t .scope) ≡ true → OnSide k ss (t .scope))
+          → total o inView (kept stays ts) ≡ total o inPart (halfTables k ss ts)
+          → total o inView (kept stays (t ∷ ts)) ≡ total o inPart (halfTables k ss (t ∷ ts))
       go true e n r = rw (e, all-on k ss (t .scope) (n e), table-view t (n e), r) refl
       go false e n r = rw e r
 
-  totals-view : (p o : ℕ) (ts : List Table) → uncrossed ss ts ≡ true → totalsFrom p o inView (kept stays ts) ≡ totalsFrom p o inPart (halfTables k ss ts)
+  totals-view : (p o : ℕ) (ts : List Table) → uncrossed ss ts ≡ true
+      → totalsFrom p o inView (kept stays ts) ≡ totalsFrom p o inPart (halfTables k ss ts)
   unfolding totalsFrom
   totals-view zero o ts h = refl
   totals-view (suc p) o ts h = ap₂ _∷_ (total-view o ts h) (totals-view p (suc o) ts h)
 
 -- the points of the view and of the half
-module _ (q : Problem) (ss : List ℕ) (sides : sidesOk q ss ≡ true) (free : uncrossed ss (q .tables) ≡ true) (k : ℕ) where
+module _ (q : Problem) (ss : List ℕ) (sides : sidesOk q ss ≡ true) (free : uncrossed ss (q .tables) ≡ true)
+    (k : ℕ) where
   long : length (q .domains) ≡ length ss
   long = sides-long q ss sides
 
   costs-view : (zs : List ℕ) → length zs ≡ length ss → costsOf (view k q ss) zs ≡ costsOf (half k q ss) (onSide k ss zs)
   unfolding costsOf totals view half
-  costs-view zs wide = totals-view ss (sides-all q ss sides) (q .domains) zs long wide k (q .objectives) 0 (q .tables) free
+  costs-view zs wide =
+      totals-view ss (sides-all q ss sides) (q .domains) zs long wide k (q .objectives) 0 (q .tables) free
 
   -- a point of the view and its part, a point of the half and what it gives
   abbrev partPoint : Point → Point
@@ -86,7 +102,9 @@ module _ (q : Problem) (ss : List ℕ) (sides : sidesOk q ss ≡ true) (free : u
   part-reached p h =
       let e = costs-view (p .choice) (view-long (p .choice) (h .complete)) in
       record {
-        complete = subst (λ (ds : List ℕ). isChoice ds (onSide k ss (p .choice)) ≡ true) (narrowed-side k ss (q .domains)) (part-choice k ss (narrowed k ss (q .domains)) (p .choice) (h .complete));
+        complete =
+            subst (λ (ds : List ℕ). isChoice ds (onSide k ss (p .choice)) ≡ true) (narrowed-side k ss (q .domains))
+            (part-choice k ss (narrowed k ss (q .domains)) (p .choice) (h .complete));
         allowed = subst (λ (c : List ℕ). under c (q .ceilings) ≡ true) e (h .allowed);
         exact = h .exact ∙ e;
       }
@@ -96,8 +114,13 @@ module _ (q : Problem) (ss : List ℕ) (sides : sidesOk q ss ≡ true) (free : u
   spread-reached p h =
       let s = spread-choice k ss (q .domains) (p .choice) long (h .complete) in
       let z = spread k ss (p .choice) in
-      let e : costsOf (view k q ss) z ≡ costsOf (half k q ss) (p .choice) = costs-view z (view-long z (s .whole)) ∙ ap (costsOf (half k q ss)) (s .part) in
-      record { complete = s .whole; allowed = subst (λ (c : List ℕ). under c (q .ceilings) ≡ true) (sym e) (h .allowed); exact = h .exact ∙ sym e }
+      let e : costsOf (view k q ss) z ≡ costsOf (half k q ss) (p .choice) =
+      costs-view z (view-long z (s .whole)) ∙ ap (costsOf (half k q ss)) (s .part) in
+      record {
+        complete = s .whole;
+        allowed = subst (λ (c : List ℕ). under c (q .ceilings) ≡ true) (sym e) (h .allowed);
+        exact = h .exact ∙ sym e;
+      }
 
   -- a point of the view is its part spread out
   spread-back : (p : Point) → CoreReached (view k q ss) p → spread k ss (onSide k ss (p .choice)) ≡ p .choice
@@ -111,13 +134,20 @@ module _ (q : Problem) (ss : List ℕ) (sides : sidesOk q ss ≡ true) (free : u
       record {
         listed = record {
           sound = spread-each k ss (CoreReached (view k q ss)) fs (λ s i. spread-reached s (b .listed .sound s i));
-          unbeaten = λ p r m h. spread-each k ss (λ p. AtMost (r .costs) (p .costs) → r .costs ≡ p .costs) fs (λ s i. b .listed .unbeaten s (partPoint r) i (part-reached r h)) p m;
+          unbeaten =
+              λ p r m h. spread-each k ss (λ p. AtMost (r .costs) (p .costs) → r .costs ≡ p .costs) fs
+              (λ s i. b .listed .unbeaten s (partPoint r) i (part-reached r h)) p m;
           order = spread-rising k ss fs (b .listed .order);
           earliest =
               λ p r m h. spread-each k ss (λ p. r .costs ≡ p .costs → NotLater (p .choice) (r .choice)) fs
-              (λ s i e. subst (NotLater (spread k ss (s .choice))) (spread-back r h) (spread-order k ss (s .choice) (onSide k ss (r .choice)) (b .listed .earliest s (partPoint r) i (part-reached r h) e))) p m;
+              (λ s i e. subst (NotLater (spread k ss (s .choice))) (spread-back r h)
+              (spread-order k ss (s .choice) (onSide k ss (r .choice))
+              (b .listed .earliest s (partPoint r) i (part-reached r h) e)))
+              p m;
         };
-        matched = λ r h. let (s, i, a) = b .matched (partPoint r) (part-reached r h) in (spreadPoint k ss s, in-spread k ss fs s i, a);
+        matched =
+            λ r h. let (s, i, a) = b .matched (partPoint r) (part-reached r h) in
+            (spreadPoint k ss s, in-spread k ss fs s i, a);
       }
 
   -- the view's list, and its length
@@ -128,6 +158,7 @@ module _ (q : Problem) (ss : List ℕ) (sides : sidesOk q ss ≡ true) (free : u
   view-size = ap length view-list ∙ spread-length k ss (coreFrontier (half k q ss))
 
 -- a listed choice of the view: 0 for the other side's variables, a value of its domain for each of its own
-pub view-choice : (q : Problem) (ss : List ℕ) (k : ℕ) (p : Point) → In p (coreFrontier (view k q ss)) → isChoice (narrowed k ss (q .domains)) (p .choice) ≡ true
+pub view-choice : (q : Problem) (ss : List ℕ) (k : ℕ) (p : Point) → In p (coreFrontier (view k q ss))
+    → isChoice (narrowed k ss (q .domains)) (p .choice) ≡ true
 unfolding view
 view-choice q ss k p m = frontier-best (view k q ss) .listed .sound p m .complete

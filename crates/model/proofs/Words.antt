@@ -57,7 +57,8 @@ four-written (a ∷ []) l h = absurd (omega arith)
 four-written (a ∷ b ∷ s) l h =
     let low : word4 (a ∷ b ∷ s) % shortEnd ≡ word2 0 (a ∷ b ∷ s) = omega arith in
     let high : word4 (a ∷ b ∷ s) / shortEnd ≡ word2 0 s = omega arith in
-    rw (fourBytes, low, high, append-assoc, two-written s (omega arith) (h .1 .1)) (two-written (a ∷ b ∷ s) (omega arith) h)
+    rw (fourBytes, low, high, append-assoc, two-written s (omega arith) (h .1 .1))
+    (two-written (a ∷ b ∷ s) (omega arith) h)
 
 pub length-wordsIn : (n : ℕ) (s : List ℕ) → length (wordsIn n s) ≡ n
 unfolding wordsIn
@@ -68,7 +69,8 @@ pub words-written : (n : ℕ) (s : List ℕ) → 4 * n ≤ length s → All Byte
 unfolding wordBytes wordsIn
 words-written zero s l h = refl
 words-written (suc n) s l h =
-    let rest : wordBytes (wordsIn n (drop 4 s)) ++ drop (4 * n) (drop 4 s) ≡ drop 4 s = words-written n (drop 4 s) (omega (arith, length-drop 4 s)) (all-drop Byte 4 s h) in
+    let rest : wordBytes (wordsIn n (drop 4 s)) ++ drop (4 * n) (drop 4 s) ≡ drop 4 s =
+    words-written n (drop 4 s) (omega (arith, length-drop 4 s)) (all-drop Byte 4 s h) in
     let place : 4 * suc n ≡ 4 + 4 * n = omega arith in
     rw (place, ← drop-drop (4 * n) 4 s, append-assoc, rest) (four-written s (omega arith) h)
 

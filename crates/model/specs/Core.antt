@@ -17,8 +17,8 @@ entryEnd = 1099511627776
 abbrev pub coreSumEnd : ℕ
 coreSumEnd = 281474976710656
 
--- a ceiling is any number of eight bytes; the second form of the search asks that the numbers below it have four, as the
--- corners of its zones have
+-- a ceiling is any number of eight bytes; the second form of the search asks that the numbers below it have four,
+-- as the corners of its zones have
 abbrev pub WordCeiling : ℕ → Type 0
 WordCeiling c = c ≤ wordEnd
 

@@ -1,4 +1,5 @@
--- What callers get of an accepted problem: whole cost records, sizes of domains, and the plain facts of a reading with number 0.
+-- What callers get of an accepted problem: whole cost records, sizes of domains, and the plain facts of a reading with
+-- number 0.
 use mathlib.Core.Path.{_≡_, sym, _∙_}
 use mathlib.Core.List.{List}
 use Prim.Native.Nat.{ℕ, _≤_}
@@ -6,7 +7,8 @@ use lib.ListN.{length, take}
 use Rattle.model.specs.Basics.{All}
 use Rattle.model.specs.Limits.{maxBytes, maxVariables, maxObjectives, maxTables}
 use Rattle.model.specs.Problems.{DomainSize}
-use Rattle.model.specs.Reading.{headVariables, headObjectives, headTables, headLength, domainsOf, tablesStart, verdictOf, problemOf}
+use Rattle.model.specs.Reading.{headVariables, headObjectives, headTables, headLength, domainsOf, tablesStart}
+use Rattle.model.specs.Reading.{verdictOf, problemOf}
 use Rattle.model.specs.Calls.{padded}
 use Rattle.model.proofs.DomainRecords.{domain-sizes, domains-end}
 use Rattle.model.proofs.Reading.{accepted-parts, accepted-place}
@@ -23,7 +25,8 @@ module _ (s : List ℕ) (e : verdictOf s .number ≡ 0) where
   pub accepted-whole : AllWhole (headTables s) (domainsOf s) s (tablesStart s)
   accepted-whole =
       let a = accepted-parts s e in
-      all-whole (headTables s) (headObjectives s) (domainsOf s) s (tablesStart s) (a .head .objectives .1) (domains-end (headVariables s) s (headLength s) (a .head .long) (a .domains)) (a .tables)
+      all-whole (headTables s) (headObjectives s) (domainsOf s) s (tablesStart s) (a .head .objectives .1)
+      (domains-end (headVariables s) s (headLength s) (a .head .long) (a .domains)) (a .tables)
 
 -- what `read_problem` gives with number 0
 pub record AcceptedReading (s : List ℕ) (r : DG.Reading) : Type 0 where
@@ -51,7 +54,8 @@ read-accepted s r says h =
     let p : r .head .objectives ≡ headObjectives s = rw v at (says .objectives) in
     let t : r .head .tables ≡ headTables s = rw v at (says .tables) in
     let filled : r .sizes ≡ padded maxVariables (domainsOf s) = rw v at (says .sizes) in
-    let domains : take (r .head .variables) (r .sizes) ≡ domainsOf s = rw (filled, n) (domains-taken (headVariables s) s (headLength s)) in
+    let domains : take (r .head .variables) (r .sizes) ≡ domainsOf s =
+    rw (filled, n) (domains-taken (headVariables s) s (headLength s)) in
     record {
       none = e;
       short = a .short;

@@ -18,7 +18,8 @@ pub four-halves : (at : ℕ) (s : List ℕ) → word4 (drop at s) ≡ word2 0 (d
 unfolding word4
 four-halves at s = rw (two-at 2 (drop at s), drop-drop 2 at s)
 
-pub take-cons : (k at : ℕ) (s : List ℕ) → 0 < k → at < length s → take k (drop at s) ≡ getD s at 0 ∷ take (k - 1) (drop (at + 1) s)
+pub take-cons : (k at : ℕ) (s : List ℕ) → 0 < k → at < length s
+    → take k (drop at s) ≡ getD s at 0 ∷ take (k - 1) (drop (at + 1) s)
 take-cons zero at s p h = absurd (omega arith)
 take-cons (suc k) at s p h =
     let m : suc k - 1 ≡ k = omega arith in

@@ -1,4 +1,5 @@
--- Chains of tests and of verdicts, read from the front: what refuses nothing is passed, what refuses is the answer of the whole.
+-- Chains of tests and of verdicts, read from the front: what refuses nothing is passed, what refuses is the answer of
+-- the whole.
 use mathlib.Core.Path.{_≡_, refl, sym, _∙_}
 use mathlib.Core.Bool.{Bool, true, false, not}
 use Prim.Native.Nat.{ℕ, zero, suc}

@@ -38,11 +38,13 @@ module _ (k : ℕ) (s : List ℕ) (at : ℕ) where
   unfolding domainsVerdict
   domains-go e = pass-record at (domainNumber (drop at s)) (domainsVerdict k s (at + 3)) e
 
-  pub domains-stop : (domainNumber (drop at s) ≡ 0 → ⊥) → domainsVerdict (suc k) s at ≡ verdict (domainNumber (drop at s)) at
+  pub domains-stop : (domainNumber (drop at s) ≡ 0 → ⊥)
+      → domainsVerdict (suc k) s at ≡ verdict (domainNumber (drop at s)) at
   unfolding domainsVerdict
   domains-stop e = stop-record at (domainNumber (drop at s)) (domainsVerdict k s (at + 3)) e
 
-pub domains-more : (s : List ℕ) (at i : ℕ) → domainsAt (suc i) s at ≡ domainsAt i s at ++ (domainSize (drop (at + 3 * i) s) ∷ [])
+pub domains-more : (s : List ℕ) (at i : ℕ)
+    → domainsAt (suc i) s at ≡ domainsAt i s at ++ (domainSize (drop (at + 3 * i) s) ∷ [])
 unfolding domainsAt
 domains-more s at zero = rw add-zero
 domains-more s at (suc i) =
@@ -53,7 +55,8 @@ domains-more s at (suc i) =
 pub domains-taken : (n : ℕ) (s : List ℕ) (at : ℕ) → take n (padded maxVariables (domainsAt n s at)) ≡ domainsAt n s at
 domains-taken n s at = take-padded maxVariables n (domainsAt n s at) (length-domainsAt n s at)
 
-pub domains-room : (n : ℕ) (s : List ℕ) (at : ℕ) → n ≤ maxVariables → length (padded maxVariables (domainsAt n s at)) ≡ maxVariables
+pub domains-room : (n : ℕ) (s : List ℕ) (at : ℕ) → n ≤ maxVariables
+    → length (padded maxVariables (domainsAt n s at)) ≡ maxVariables
 domains-room n s at h = length-padded maxVariables (domainsAt n s at) (rw length-domainsAt h)
 
 -- the next record starts in the list, or at its end
@@ -63,8 +66,11 @@ domain-next s at e = omega (arith, domain-good (drop at s) e .start .long, lengt
 -- the same after all of them
 -- ## what `read_domains` answers
 
-pub domains-refused : (s : List ℕ) (at n : ℕ) (r : DD.Domains) → (r .number ≡ 0 → ⊥) → domainsVerdict n s at ≡ verdict (r .number) (r .place) → r .sizes ≡ padded maxVariables [] → DomainsSays s at n r
+pub domains-refused : (s : List ℕ) (at n : ℕ) (r : DD.Domains) → (r .number ≡ 0 → ⊥)
+    → domainsVerdict n s at ≡ verdict (r .number) (r .place) → r .sizes ≡ padded maxVariables [] → DomainsSays s at n r
 domains-refused s at n r h v z = record { number = rw v; place = rw v; sizes = rw (v, ne-eqb _ _ h) z }
 
-pub domains-accepted : (s : List ℕ) (at n : ℕ) (sizes : List ℕ) → domainsVerdict n s at ≡ accepted → sizes ≡ padded maxVariables (domainsAt n s at) → DomainsSays s at n (record { number = 0; place = 0; sizes = sizes })
+pub domains-accepted : (s : List ℕ) (at n : ℕ) (sizes : List ℕ) → domainsVerdict n s at ≡ accepted
+    → sizes ≡ padded maxVariables (domainsAt n s at)
+    → DomainsSays s at n (record { number = 0; place = 0; sizes = sizes })
 domains-accepted s at n sizes v z = record { number = rw v; place = rw v; sizes = rw v z }

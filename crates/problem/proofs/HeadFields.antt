@@ -13,7 +13,8 @@ use Rattle.model.specs.Basics.{when}
 use Rattle.model.specs.Limits.{maxVariables, maxObjectives, maxTables}
 use Rattle.model.specs.Refusals.{cutShort, badVariables, badObjectives, badTables}
 use Rattle.model.specs.Encoding.{letterH, letterD}
-use Rattle.model.specs.Reading.{word4, wordsIn, startNumber, outside, headVariables, headObjectives, headTables, headLength, headNumber}
+use Rattle.model.specs.Reading.{word4, wordsIn, startNumber, outside, headVariables, headObjectives, headTables}
+use Rattle.model.specs.Reading.{headLength, headNumber}
 use Rattle.model.proofs.Verdicts.{none-when}
 use Rattle.problem.proofs.Chains.{pass-number, stop-number, pass-test, stop-test, when-on}
 
@@ -35,12 +36,20 @@ module _ (s : List ℕ) where
       module _ (objectives : outside maxObjectives (headObjectives s) ≡ false) where
         pub head-tables : maxTables < headTables s → headNumber s ≡ badTables
         unfolding headNumber
-        head-tables h = pass-number _ start ∙ pass-test badVariables _ variables ∙ pass-test badObjectives _ objectives ∙ stop-test badTables _ refl (lt-ltb _ _ h)
+        head-tables h =
+            pass-number _ start
+            ∙ pass-test badVariables _ variables
+            ∙ pass-test badObjectives _ objectives
+            ∙ stop-test badTables _ refl (lt-ltb _ _ h)
 
         module _ (tables : headTables s ≤ maxTables) where
           head-last : headNumber s ≡ when (ltb (length s) (headLength s)) cutShort
           unfolding headNumber
-          head-last = pass-number _ start ∙ pass-test badVariables _ variables ∙ pass-test badObjectives _ objectives ∙ pass-test badTables _ (le-ltb _ _ tables)
+          head-last =
+              pass-number _ start
+              ∙ pass-test badVariables _ variables
+              ∙ pass-test badObjectives _ objectives
+              ∙ pass-test badTables _ (le-ltb _ _ tables)
 
           pub head-short : length s < headLength s → headNumber s ≡ cutShort
           head-short h = head-last ∙ when-on cutShort (lt-ltb _ _ h)
@@ -48,7 +57,8 @@ module _ (s : List ℕ) where
           pub head-whole : headLength s ≤ length s → headNumber s ≡ 0
           head-whole h = head-last ∙ none-when cutShort (le-ltb _ _ h)
 
-pub words-more : (at : ℕ) (s : List ℕ) (i : ℕ) → wordsIn (suc i) (drop at s) ≡ wordsIn i (drop at s) ++ (word4 (drop (at + 4 * i) s) ∷ [])
+pub words-more : (at : ℕ) (s : List ℕ) (i : ℕ)
+    → wordsIn (suc i) (drop at s) ≡ wordsIn i (drop at s) ++ (word4 (drop (at + 4 * i) s) ∷ [])
 unfolding wordsIn
 words-more at s zero = rw add-zero
 words-more at s (suc i) =

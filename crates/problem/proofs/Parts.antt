@@ -10,7 +10,8 @@ use Rattle.model.specs.Basics.{All}
 use Rattle.model.specs.Limits.{maxBytes, maxVariables}
 use Rattle.model.specs.Refusals.{oversize, Verdict, verdict}
 use Rattle.model.specs.Problems.{DomainSize}
-use Rattle.model.specs.Reading.{headVariables, headObjectives, headTables, headLength, headNumber, domainsVerdict, domainsOf, tablesVerdict, tablesStart, bodyVerdict, verdictOf, problemOf}
+use Rattle.model.specs.Reading.{headVariables, headObjectives, headTables, headLength, headNumber, domainsVerdict}
+use Rattle.model.specs.Reading.{domainsOf, tablesVerdict, tablesStart, bodyVerdict, verdictOf, problemOf}
 use Rattle.model.specs.Calls.{padded}
 use Rattle.model.specs.declared.Header as DH
 use Rattle.model.proofs.HeadRecord.{head-good}
@@ -66,7 +67,8 @@ pub record Begun (s : List ℕ) (h : DH.Header) (d : DD.Domains) : Type 0 where
   pub end : startOf h ≤ length s
 
 module _ (s : List ℕ) (h : DH.Header) (d : DD.Domains) (says : HeadSays s h) where
-  pub domains-said : DomainsSays s (6 + 4 * h .objectives) (h .variables) d → DomainsSays s (headLength s) (headVariables s) d
+  pub domains-said : DomainsSays s (6 + 4 * h .objectives) (h .variables) d
+      → DomainsSays s (headLength s) (headVariables s) d
   domains-said x = rw (says .variables, says .objectives) at x
 
   pub begun : headNumber s ≡ 0 → DomainsSays s (headLength s) (headVariables s) d → d .number ≡ 0 → Begun s h d
@@ -76,7 +78,8 @@ module _ (s : List ℕ) (h : DH.Header) (d : DD.Domains) (says : HeadSays s h) w
       let start = headLength s in
       let none : domainsPart s .number ≡ 0 = sym (said .number) ∙ e in
       let filled : d .sizes ≡ padded maxVariables (domainsOf s) = rw (eq-eqb _ _ none) at (said .sizes) in
-      let taken : take (h .variables) (d .sizes) ≡ domainsOf s = rw (filled, says .variables) (domains-taken n s start) in
+      let taken : take (h .variables) (d .sizes) ≡ domainsOf s = rw (filled, says .variables)
+      (domains-taken n s start) in
       record {
         none = none;
         few = rw (says .variables) (good .variables .1);
@@ -107,7 +110,8 @@ reads-refused s n at e v =
       sizes = rw (v, e);
     }
 
-pub reads-accepted : (s : List ℕ) (h : DH.Header) (sizes : List ℕ) → verdictOf s .number ≡ 0 → HeadSays s h → sizes ≡ padded maxVariables (domainsOf s) → ReadSays s (record { number = 0; place = 0; head = h; sizes = sizes })
+pub reads-accepted : (s : List ℕ) (h : DH.Header) (sizes : List ℕ) → verdictOf s .number ≡ 0 → HeadSays s h
+    → sizes ≡ padded maxVariables (domainsOf s) → ReadSays s (record { number = 0; place = 0; head = h; sizes = sizes })
 unfolding problemOf
 reads-accepted s h sizes e says k =
     let v = accepted-place s e in

@@ -1,4 +1,5 @@
--- A scope that is read from the front: the next variable exists and is above the one before, or the scope is refused. One that is good exists.
+-- A scope that is read from the front: the next variable exists and is above the one before, or the scope is refused.
+-- One that is good exists.
 use mathlib.Core.Path.{_≡_, ap, _∙_}
 use mathlib.Core.Bool.{true, false}
 use mathlib.Core.List.{List}
@@ -11,7 +12,8 @@ use Rattle.model.proofs.Scopes.{scope-distinct, distinct-range}
 use Rattle.problem.proofs.Behind.{take-cons}
 
 module _ (n low k at : ℕ) (s : List ℕ) (p : 0 < k) (h : at < length s) where
-  pub scope-goes : getD s at 0 < n → low ≤ getD s at 0 → scopeOk n low (take k (drop at s)) ≡ scopeOk n (getD s at 0 + 1) (take (k - 1) (drop (at + 1) s))
+  pub scope-goes : getD s at 0 < n → low ≤ getD s at 0
+      → scopeOk n low (take k (drop at s)) ≡ scopeOk n (getD s at 0 + 1) (take (k - 1) (drop (at + 1) s))
   unfolding scopeOk
   scope-goes b r = ap (scopeOk n low) (take-cons k at s p h) ∙ simp (lt-ltb _ _ b, le-leb _ _ r, add-one)
 

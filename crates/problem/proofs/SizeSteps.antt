@@ -22,7 +22,8 @@ module _ (ds s : List ℕ) (total size here left : ℕ) (u : Sizing ds s total s
   sizing-end e = sym (mul-one size) ∙ (rw e at (u .rest))
 
   pub sizing-small : All DomainSize ds → size ≤ total
-  sizing-small sizes = rw (u .rest) at (le-mul-of-pos-right size (size-positive ds sizes (take left (drop here s)) (u .range)))
+  sizing-small sizes =
+      rw (u .rest) at (le-mul-of-pos-right size (size-positive ds sizes (take left (drop here s)) (u .range)))
 
   module _ (more : 0 < left) where
     first : take left (drop here s) ≡ getD s here 0 ∷ take (left - 1) (drop (here + 1) s)

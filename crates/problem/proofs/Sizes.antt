@@ -1,4 +1,5 @@
--- The number of a table's entries: at least one where the scope's variables exist, at most 512 where they are at most three.
+-- The number of a table's entries: at least one where the scope's variables exist, at most 512 where they are at most
+-- three.
 use Prim.Native.Nat.{ℕ, _^_, _≤_, _<_}
 use mathlib.Core.List.{List, [], _∷_}
 use native.Mathlib.Omega.{arith}

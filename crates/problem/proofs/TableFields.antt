@@ -30,13 +30,19 @@ module _ (p : ℕ) (ds s : List ℕ) where
     module _ (owner : tableObjective s < p) where
       pub table-arity : maxArity < tableArity s → tableNumber p ds s ≡ badArity
       unfolding tableNumber
-      table-arity h = pass-number _ start ∙ pass-test badOwner _ (lt-leb _ _ owner) ∙ stop-test badArity _ refl (lt-ltb _ _ h)
+      table-arity h =
+          pass-number _ start ∙ pass-test badOwner _ (lt-leb _ _ owner) ∙ stop-test badArity _ refl (lt-ltb _ _ h)
 
       module _ (few : tableArity s ≤ maxArity) where
         -- the tests from the scope's length on
-        fields-passed : tableNumber p ds s ≡ firstOf (when (ltb (length s) (4 + tableArity s)) cutShort) (firstOf (when (not (scopeRule (length ds) (tableScope s))) badScope) (when (ltb (length s) (tableLength ds s)) cutShort))
+        fields-passed :
+            tableNumber p ds s
+            ≡ firstOf (when (ltb (length s) (4 + tableArity s)) cutShort)
+            (firstOf (when (not (scopeRule (length ds) (tableScope s))) badScope)
+            (when (ltb (length s) (tableLength ds s)) cutShort))
         unfolding tableNumber
-        fields-passed = pass-number _ start ∙ pass-test badOwner _ (lt-leb _ _ owner) ∙ pass-test badArity _ (le-ltb _ _ few)
+        fields-passed =
+            pass-number _ start ∙ pass-test badOwner _ (lt-leb _ _ owner) ∙ pass-test badArity _ (le-ltb _ _ few)
 
         pub table-cut : length s < 4 + tableArity s → tableNumber p ds s ≡ cutShort
         table-cut h = fields-passed ∙ stop-test cutShort _ refl (lt-ltb _ _ h)
@@ -57,10 +63,12 @@ module _ (p : ℕ) (ds s : List ℕ) where
 
   -- ## what `scan_table` answers
 
-  pub scan-refused : (n : ℕ) → eqb n 0 ≡ false → tableNumber p ds s ≡ n → ScanSays p ds s (record { number = n; length = 0 })
+  pub scan-refused : (n : ℕ) → eqb n 0 ≡ false → tableNumber p ds s ≡ n
+      → ScanSays p ds s (record { number = n; length = 0 })
   scan-refused n e h = record { number = rw h; width = rw (h, e) }
 
-  pub scan-accepted : (long : ℕ) → tableNumber p ds s ≡ 0 → long ≡ tableLength ds s → ScanSays p ds s (record { number = 0; length = long })
+  pub scan-accepted : (long : ℕ) → tableNumber p ds s ≡ 0 → long ≡ tableLength ds s
+      → ScanSays p ds s (record { number = 0; length = long })
   scan-accepted long h e = record { number = rw h; width = rw h e }
 
   pub scanned-length : (r : DS.Scan) → ScanSays p ds s r → r .number ≡ 0 → r .length ≡ tableLength ds s

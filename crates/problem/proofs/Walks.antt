@@ -37,12 +37,16 @@ sliceOf s = sliceVal (s .ptr) (length (s .now))
 abbrev pub OwnedSlice : (R : RattleType) → NamedLft → RefT (List (R .Denot)) → Fml
 OwnedSlice R α s = ShrSlice (α .mir) (α .lft) R .own s (sliceOf s ∷ [])
 
-module _ {M : Type 1} {𝓤 : URA M} {H : Heap 𝓤} {A : Atoms 𝓤} {K : Type 0} {W : Given 𝓤 H A} {Γ : List (Item 𝓤)} {G : Goal 𝓤 H} where
+module _ {M : Type 1} {𝓤 : URA M} {H : Heap 𝓤} {A : Atoms 𝓤} {K : Type 0} {W : Given 𝓤 H A} {Γ : List (Item 𝓤)}
+    {G : Goal 𝓤 H} where
   pub number : K → (n : ℕ) → n < 2 ^ 64 → Step K W (‵ (usize .own n (vint w64 n ∷ [])) ∷ Γ) G Γ G
   number t n fits = owned t usize (Is usize) (uint-makes 𝓤 H A W w64) n _ (refl, fits)
 
-  pub twice : K → (R : RattleType) (α : NamedLft) (s : RefT (List (R .Denot))) → Step K W (‵ (OwnedSlice R α s) ∷ ‵ (OwnedSlice R α s) ∷ Γ) G (‵ (OwnedSlice R α s) ∷ Γ) G
-  twice t R α s = step (λ p. use1 W (‵ (OwnedSlice R α s) ⊛ ‵ (OwnedSlice R α s)) (shr-slice-copy 𝓤 H A W (α .mir) (α .lft) R .twice s (sliceOf s ∷ [])) $ split t $ p)
+  pub twice : K → (R : RattleType) (α : NamedLft) (s : RefT (List (R .Denot)))
+      → Step K W (‵ (OwnedSlice R α s) ∷ ‵ (OwnedSlice R α s) ∷ Γ) G (‵ (OwnedSlice R α s) ∷ Γ) G
+  twice t R α s =
+      step (λ p. use1 W (‵ (OwnedSlice R α s) ⊛ ‵ (OwnedSlice R α s))
+      (shr-slice-copy 𝓤 H A W (α .mir) (α .lft) R .twice s (sliceOf s ∷ [])) $ split t $ p)
 
 -- a call of a function with the clauses c, at the ghost value y: the tokens come back, as Back, and the result, of
 -- which `ensures` gives the fact Says

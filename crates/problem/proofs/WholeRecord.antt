@@ -15,7 +15,8 @@ module _ (s : List ℕ) (at : ℕ) where
   unfolding tableScope
   scope-place = rw (getD-drop, drop-drop)
 
-  pub length-place : (ds : List ℕ) → tableLength ds (drop at s) ≡ 4 + (getD s (at + 3) 0 + 4 * sizeOf ds (tableScope (drop at s)))
+  pub length-place : (ds : List ℕ)
+      → tableLength ds (drop at s) ≡ 4 + (getD s (at + 3) 0 + 4 * sizeOf ds (tableScope (drop at s)))
   unfolding tableLength
   length-place ds = rw getD-drop
 

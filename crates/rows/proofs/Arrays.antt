@@ -11,7 +11,8 @@ use denote.Array.{Array, each}
 use denote.Shadow.{shadow}
 use denote.Laws.{Is}
 
-each-fits : (w : Width) (xs : List ℕ) (us : List Val) → shadow (each ℕ (UInt w .own) xs us) → (i : ℕ) → i < length xs → getD xs i 0 < 2 ^ bits w
+each-fits : (w : Width) (xs : List ℕ) (us : List Val) → shadow (each ℕ (UInt w .own) xs us) → (i : ℕ) → i < length xs
+    → getD xs i 0 < 2 ^ bits w
 each-fits w [] us p i h = absurd (omega arith)
 each-fits w (x ∷ xs) [] p i h = absurd p
 each-fits w (x ∷ xs) (u ∷ us) p zero h = p .0 .1

@@ -1,4 +1,5 @@
--- The first n elements of a list, written over a buffer from a place on, one after another; and a list written behind another.
+-- The first n elements of a list, written over a buffer from a place on, one after another; and a list written behind
+-- another.
 use mathlib.Core.Path.{_≡_, ap₂, _∙_}
 use mathlib.Core.List.{List, _++_}
 use Prim.Native.Nat.{ℕ, _+_, _≤_, _<_}
@@ -14,7 +15,8 @@ pub record Copied (old : List ℕ) (at : ℕ) (xs : List ℕ) (n : ℕ) (new : L
   pub long : n ≤ length xs
   pub holds : new ≡ paste old at xs i
 
-pub copied-start : (old : List ℕ) (at : ℕ) (xs : List ℕ) (n : ℕ) → at + n ≤ length old → n ≤ length xs → Copied old at xs n old 0
+pub copied-start : (old : List ℕ) (at : ℕ) (xs : List ℕ) (n : ℕ) → at + n ≤ length old → n ≤ length xs
+    → Copied old at xs n old 0
 copied-start old at xs n r l = record { fewer = omega arith; room = r; long = l; holds = paste-zero old at xs }
 
 module _ {old : List ℕ} {at : ℕ} {xs : List ℕ} {n : ℕ} {new : List ℕ} {i : ℕ} (u : Copied old at xs n new i) where
@@ -36,6 +38,8 @@ module _ {old : List ℕ} {at : ℕ} {xs : List ℕ} {n : ℕ} {new : List ℕ} 
       }
 
 -- ys written behind xs, where xs ends at a
-pub written-behind : (xs ys old : List ℕ) (a b : ℕ) → length xs ≡ a → take a (xs ++ drop a old) ++ ys ++ drop (a + b) (xs ++ drop a old) ≡ xs ++ ys ++ drop (a + b) old
+pub written-behind : (xs ys old : List ℕ) (a b : ℕ) → length xs ≡ a
+    → take a (xs ++ drop a old) ++ ys ++ drop (a + b) (xs ++ drop a old) ≡ xs ++ ys ++ drop (a + b) old
 written-behind xs ys old a b e =
-    ap₂ (λ (f r : List ℕ). f ++ ys ++ r) (take-at xs (drop a old) a e) ((rw e at (drop-append-add xs (drop a old) b)) ∙ drop-drop b a old)
+    ap₂ (λ (f r : List ℕ). f ++ ys ++ r) (take-at xs (drop a old) a e)
+    ((rw e at (drop-append-add xs (drop a old) b)) ∙ drop-drop b a old)

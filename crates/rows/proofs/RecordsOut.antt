@@ -24,11 +24,13 @@ records-last [] t = refl
 records-last (u ∷ ts) t = ap (_∷_ (recordOf u)) (records-last ts t)
 
 -- one more is written
-over-next : (xs : List DP.Point) (x : DP.Point) (old : List DP.Point) (i : ℕ) → length xs ≡ i → i < length old → set (over xs old) i x ≡ over (xs ++ (x ∷ [])) old
+over-next : (xs : List DP.Point) (x : DP.Point) (old : List DP.Point) (i : ℕ) → length xs ≡ i → i < length old
+    → set (over xs old) i x ≡ over (xs ++ (x ∷ [])) old
 unfolding over
 over-next xs x old i e h =
     let more : length (xs ++ (x ∷ [])) ≡ suc i = omega (arith, length-append xs (x ∷ [])) in
-    rw (e, more, append-assoc) (ap (λ rest. set (xs ++ rest) i x) (drop-cons old i x h) ∙ set-at xs _ (drop (suc i) old) x i e)
+    rw (e, more, append-assoc)
+    (ap (λ rest. set (xs ++ rest) i x) (drop-cons old i x h) ∙ set-at xs _ (drop (suc i) old) x i e)
 
 module _ (p n : ℕ) (work : List ℕ) (old : List DP.Point) where
   -- the records of the first i rows are written
@@ -51,5 +53,6 @@ module _ (p n : ℕ) (work : List ℕ) (old : List DP.Point) where
   pub written-next : (i : ℕ) → i < length old → set (written i) i (recordOf (pointIn p n work i)) ≡ written (i + 1)
   written-next i h =
       let t = pointIn p n work i in
-      let more : listIn p n work 0 (i + 1) ≡ listIn p n work 0 i ++ (t ∷ []) = rw add-one (rows-more p n work 0 i ∙ rw zero-add) in
+      let more : listIn p n work 0 (i + 1) ≡ listIn p n work 0 i ++ (t ∷ []) =
+      rw add-one (rows-more p n work 0 i ∙ rw zero-add) in
       rw (more, records-last) (over-next (recordsOf (listIn p n work 0 i)) (recordOf t) old i (long i) h)

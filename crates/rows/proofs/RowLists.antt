@@ -15,17 +15,23 @@ use Rattle.rows.proofs.RowParts.{rows-length, rows-more}
 use Rattle.rows.proofs.RowPlaces.{equal-or, rows-at, same-point}
 
 -- where the other points stand
-pub list-split : (p n : ℕ) (work : List ℕ) (i c : ℕ) → i < c → listIn p n work 0 c ≡ take i (listIn p n work 0 c) ++ (pointIn p n work i ∷ drop (suc i) (listIn p n work 0 c))
+pub list-split : (p n : ℕ) (work : List ℕ) (i c : ℕ) → i < c
+    → listIn p n work 0 c ≡ take i (listIn p n work 0 c) ++ (pointIn p n work i ∷ drop (suc i) (listIn p n work 0 c))
 list-split p n work i c l =
     split-at (listIn p n work 0 c) i (point [] []) (omega (arith, rows-length p n work 0 c))
     ∙ rw (rows-at p n work 0 c i (point [] []) l, zero-add)
 
-module _ {work : List ℕ} {i : ℕ} {row : Point} {work′ : List ℕ} (w : RowWritten work i row work′) (p n : ℕ) (few : p ≤ maxObjectives) (small : n ≤ maxVariables) where
+module _ {work : List ℕ} {i : ℕ} {row : Point} {work′ : List ℕ} (w : RowWritten work i row work′) (p n : ℕ)
+    (few : p ≤ maxObjectives) (small : n ≤ maxVariables) where
   pub other-point : (j : ℕ) → j ≤ maxPoints → (j ≡ i → ⊥) → pointIn p n work′ j ≡ pointIn p n work j
   other-point j l m = same-point work work′ j j (w .others j l m) p n few small
 
-  pub list-replaced : (c : ℕ) → i < c → c ≤ maxPoints + 1 → listIn p n work′ 0 c ≡ take i (listIn p n work 0 c) ++ (pointIn p n work′ i ∷ drop (suc i) (listIn p n work 0 c))
-  list-replaced c l count = ext-getD none new (set old i (pointIn p n work′ i)) long each ∙ set-split old i (pointIn p n work′ i) (omega (arith, rows-length p n work 0 c))
+  pub list-replaced : (c : ℕ) → i < c → c ≤ maxPoints + 1
+      → listIn p n work′ 0 c
+      ≡ take i (listIn p n work 0 c) ++ (pointIn p n work′ i ∷ drop (suc i) (listIn p n work 0 c))
+  list-replaced c l count =
+      ext-getD none new (set old i (pointIn p n work′ i)) long each
+      ∙ set-split old i (pointIn p n work′ i) (omega (arith, rows-length p n work 0 c))
     where
       none : Point
       none = point [] []
@@ -45,12 +51,15 @@ module _ {work : List ℕ} {i : ℕ} {row : Point} {work′ : List ℕ} (w : Row
           rows-at p n work′ 0 c j none below
           ∙ rw zero-add
           (⊎-elim
-          (λ (t : j ≡ i). rw t (sym (getD-set-same old i (pointIn p n work′ i) none (omega (arith, rows-length p n work 0 c)))))
-          (λ t. other-point j (omega arith) t ∙ sym (getD-set-other old i j (pointIn p n work′ i) none t ∙ rows-at p n work 0 c j none below ∙ rw zero-add))
+          (λ (t : j ≡ i).
+          rw t (sym (getD-set-same old i (pointIn p n work′ i) none (omega (arith, rows-length p n work 0 c)))))
+          (λ t. other-point j (omega arith) t
+          ∙ sym (getD-set-other old i j (pointIn p n work′ i) none t ∙ rows-at p n work 0 c j none below ∙ rw zero-add))
           (equal-or j i))
 
   pub list-added : i ≤ maxPoints → listIn p n work′ 0 (i + 1) ≡ listIn p n work 0 i ++ (pointIn p n work′ i ∷ [])
-  list-added l = rw (add-one, rows-more p n work′ 0 i, zero-add) (ap (λ (ps : List Point). ps ++ (pointIn p n work′ i ∷ [])) kept)
+  list-added l =
+      rw (add-one, rows-more p n work′ 0 i, zero-add) (ap (λ (ps : List Point). ps ++ (pointIn p n work′ i ∷ [])) kept)
     where
       none : Point
       none = point [] []
@@ -64,4 +73,6 @@ module _ {work : List ℕ} {i : ℕ} {row : Point} {work′ : List ℕ} (w : Row
           (rows-length p n work′ 0 i ∙ sym (rows-length p n work 0 i))
           (λ j h.
           let below : j < i = omega (arith, rows-length p n work′ 0 i) in
-          rows-at p n work′ 0 i j none below ∙ rw zero-add (other-point j (omega arith) (λ e. omega arith) ∙ sym (rows-at p n work 0 i j none below ∙ rw zero-add)))
+          rows-at p n work′ 0 i j none below
+          ∙ rw zero-add
+          (other-point j (omega arith) (λ e. omega arith) ∙ sym (rows-at p n work 0 i j none below ∙ rw zero-add)))

@@ -1,4 +1,5 @@
--- The rows of the list: how many, one more, what each has of what all have; their costs and values as the buffers take them.
+-- The rows of the list: how many, one more, what each has of what all have; their costs and values as the buffers take
+-- them.
 use mathlib.Core.Path.{_≡_, refl, ap}
 use mathlib.Core.List.{List, [], _∷_, _++_}
 use Prim.Native.Nat.{ℕ, zero, suc, _+_, _<_}
@@ -36,7 +37,8 @@ module _ (p n : ℕ) (work : List ℕ) where
       ap (_∷_ (pointIn p n work i)) (rw e at (rows-more (i + 1) k))
 
   -- what every listed point has, each row has
-  pub row-has : (P : Point → Type 0) (i k : ℕ) → All P (listIn p n work i k) → (row : ℕ) → row < k → P (pointIn p n work (i + row))
+  pub row-has : (P : Point → Type 0) (i k : ℕ) → All P (listIn p n work i k) → (row : ℕ) → row < k
+      → P (pointIn p n work (i + row))
   unfolding listIn
   row-has P i zero h row l = absurd (omega arith)
   row-has P i (suc k) h zero l = rw add-zero (h .0)

@@ -22,7 +22,9 @@ pub equal-or : (a b : ℕ) → (a ≡ b) ⊎ (a ≡ b → ⊥)
 equal-or a b = ⊎-elim (λ t. inl (eqb-true a b t)) (λ t. inr (eqb-false a b t)) (test (eqb a b))
 
 pub one-first : (a b : ℕ) → (a ≡ b → ⊥) → (a < b) ⊎ (b < a)
-one-first a b n = ⊎-elim (λ t. inl (ltb-true a b t)) (λ t. ⊎-elim (λ e. absurd (n (sym e))) (λ l. inr l) (eq-or-lt-of-le (ltb-false a b t))) (test (ltb a b))
+one-first a b n =
+    ⊎-elim (λ t. inl (ltb-true a b t))
+    (λ t. ⊎-elim (λ e. absurd (n (sym e))) (λ l. inr l) (eq-or-lt-of-le (ltb-false a b t))) (test (ltb a b))
 
 module _ (p n : ℕ) (work : List ℕ) where
   pub rows-at : (i k j : ℕ) (none : Point) → j < k → getD (listIn p n work i k) j none ≡ pointIn p n work (i + j)
@@ -34,7 +36,9 @@ module _ (p n : ℕ) (work : List ℕ) where
       rw e at (rows-at (i + 1) k j none (omega arith))
 
   pub row-listed : (k j : ℕ) → j < k → In (pointIn p n work j) (listIn p n work 0 k)
-  row-listed k j l = rw (rows-at 0 k j (point [] []) l, zero-add) at (at-in (listIn p n work 0 k) j (point [] []) (rw (rows-length p n work 0 k) l))
+  row-listed k j l =
+      rw (rows-at 0 k j (point [] []) l, zero-add)
+      at (at-in (listIn p n work 0 k) j (point [] []) (rw (rows-length p n work 0 k) l))
 
   pub listed-row : (k : ℕ) (a : Point) → In a (listIn p n work 0 k) → (j : ℕ) × (j < k) × (a ≡ pointIn p n work j)
   listed-row k a m =

@@ -43,7 +43,8 @@ module _ {part : ℕ → List ℕ} {b : ℕ} {old new : List ℕ} {row : ℕ} (u
   unfolding over
   out-length = rw (u .holds) (omega (arith, length-append done (drop (length done) old), length-drop (length done) old))
 
-  pub out-next : row * b + b ≤ length old → length (part row) ≡ b → (next : List ℕ) → next ≡ take (row * b) new ++ part row ++ drop (row * b + b) new → Out part b old next (row + 1)
+  pub out-next : row * b + b ≤ length old → length (part row) ≡ b → (next : List ℕ)
+      → next ≡ take (row * b) new ++ part row ++ drop (row * b + b) new → Out part b old next (row + 1)
   unfolding over
   out-next r l next e =
       let grown : joined part 0 (row + 1) ≡ done ++ part row = rw (add-one, joined-next, zero-add) in

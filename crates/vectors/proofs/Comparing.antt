@@ -22,15 +22,33 @@ module _ {p : ℕ} {a b : List ℕ} {i : ℕ} (u : Comparing p a b i) (la : p �
   module _ (h : i < p) where
     pub comparing-less : getD a i 0 < getD b i 0 → true ≡ frontEarlier p a b
     unfolding earlier
-    comparing-less l = sym (u .left ∙ rw (front-cons p a la i h, front-cons p b lb i h, lt-ltb (getD a i 0) (getD b i 0) l))
+    comparing-less l =
+        sym (u .left ∙ rw (front-cons p a la i h, front-cons p b lb i h, lt-ltb (getD a i 0) (getD b i 0) l))
 
     pub comparing-more : getD b i 0 < getD a i 0 → false ≡ frontEarlier p a b
     unfolding earlier
-    comparing-more l = sym (u .left ∙ rw (front-cons p a la i h, front-cons p b lb i h, le-ltb (getD a i 0) (getD b i 0) (omega arith), ne-eqb (getD a i 0) (getD b i 0) (λ e. omega arith)))
+    comparing-more l =
+        sym (u .left
+        ∙ rw (
+          front-cons p a la i h,
+          front-cons p b lb i h,
+          le-ltb (getD a i 0) (getD b i 0) (omega arith),
+          ne-eqb (getD a i 0) (getD b i 0) (λ e. omega arith),
+        ))
 
     pub comparing-next : getD a i 0 ≡ getD b i 0 → Comparing p a b (i + 1)
     unfolding earlier
-    comparing-next e = record { fewer = omega arith; left = u .left ∙ rw (front-cons p a la i h, front-cons p b lb i h, le-ltb (getD a i 0) (getD b i 0) (omega arith), eq-eqb (getD a i 0) (getD b i 0) e) }
+    comparing-next e = record {
+      fewer = omega arith;
+      left =
+          u .left
+          ∙ rw (
+            front-cons p a la i h,
+            front-cons p b lb i h,
+            le-ltb (getD a i 0) (getD b i 0) (omega arith),
+            eq-eqb (getD a i 0) (getD b i 0) e,
+          );
+    }
 
   pub comparing-end : p ≤ i → false ≡ frontEarlier p a b
   unfolding earlier

@@ -25,14 +25,17 @@ four-listed (a ∷ b ∷ c ∷ d ∷ xs) h = refl
 pub four-all : (xs : List ℕ) → length xs ≡ maxObjectives → listed (λ i. getD xs i 0) ≡ xs
 four-all xs e = sym (four-listed xs (omega arith)) ∙ take-all maxObjectives xs (omega arith)
 
-pub four-from : (xs : List ℕ) (at : ℕ) → at + maxObjectives ≤ length xs → getD xs at 0 ∷ getD xs (at + 1) 0 ∷ getD xs (at + 2) 0 ∷ getD xs (at + 3) 0 ∷ [] ≡ take maxObjectives (drop at xs)
+pub four-from : (xs : List ℕ) (at : ℕ) → at + maxObjectives ≤ length xs
+    → getD xs at 0 ∷ getD xs (at + 1) 0 ∷ getD xs (at + 2) 0 ∷ getD xs (at + 3) 0 ∷ [] ≡ take maxObjectives (drop at xs)
 four-from xs at h = sym (four-listed (drop at xs) (omega (arith, length-drop at xs)) ∙ simp (getD-drop, add-zero))
 
-pub four-at : (xs : List ℕ) (at : ℕ) (c : List ℕ) → c ≡ take maxObjectives (drop at xs) → (o : ℕ) → o < maxObjectives → getD c o 0 ≡ getD xs (at + o) 0
+pub four-at : (xs : List ℕ) (at : ℕ) (c : List ℕ) → c ≡ take maxObjectives (drop at xs) → (o : ℕ) → o < maxObjectives
+    → getD c o 0 ≡ getD xs (at + o) 0
 four-at xs at c e o l = rw (e, getD-take maxObjectives (drop at xs) o 0 l, getD-drop at xs o 0)
 
 -- four words from a place on are of half the range
-pub four-half : (xs : List ℕ) (at : ℕ) → at + maxObjectives ≤ length xs → ((i : ℕ) → getD xs i 0 < wordEnd) → All Half (take maxObjectives (drop at xs))
+pub four-half : (xs : List ℕ) (at : ℕ) → at + maxObjectives ≤ length xs → ((i : ℕ) → getD xs i 0 < wordEnd)
+    → All Half (take maxObjectives (drop at xs))
 four-half xs at l h =
     let small : (i : ℕ) → Half (getD (drop at xs) i 0) = λ i. rw (getD-drop at xs i 0) (omega (arith, h (at + i))) in
     rw (four-listed (drop at xs) (omega (arith, length-drop at xs))) (small 0, (small 1, (small 2, (small 3, tt))))
@@ -52,6 +55,7 @@ take-added (suc p) [] ys = refl
 take-added (suc p) (x ∷ xs) [] = refl
 take-added (suc p) (x ∷ xs) (y ∷ ys) = ap (_∷_ (x + y)) (take-added p xs ys)
 
-pub added-listed : (xs ys : List ℕ) → length xs ≡ maxObjectives → length ys ≡ maxObjectives → listed (λ o. getD xs o 0 + getD ys o 0) ≡ added xs ys
+pub added-listed : (xs ys : List ℕ) → length xs ≡ maxObjectives → length ys ≡ maxObjectives
+    → listed (λ o. getD xs o 0 + getD ys o 0) ≡ added xs ys
 unfolding added
 added-listed xs ys e d = ap (λ l. added l (listed (λ o. getD ys o 0))) (four-all xs e) ∙ ap (added xs) (four-all ys d)

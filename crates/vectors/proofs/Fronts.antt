@@ -13,7 +13,8 @@ use denote.Array.{Array}
 use denote.Laws.{Is}
 
 -- an array that is a parameter by value has its length
-pub array-front : (w : Width) (n : ℕ) (a : List ℕ) (vs : List Val) → Is (Array (UInt w) n) a vs → (p : ℕ) → p ≤ n → p ≤ length a
+pub array-front : (w : Width) (n : ℕ) (a : List ℕ) (vs : List Val) → Is (Array (UInt w) n) a vs → (p : ℕ) → p ≤ n
+    → p ≤ length a
 array-front w n a vs good p few =
     let all : length a ≡ n = good .1 .0 .1 in
     omega arith
@@ -24,7 +25,10 @@ module _ (p : ℕ) (a : List ℕ) (long : p ≤ length a) (i : ℕ) where
 
   -- what is left from i on begins with number i
   pub front-cons : i < p → drop i (take p a) ≡ getD a i 0 ∷ drop (i + 1) (take p a)
-  front-cons h = rw add-one (drop-cons (take p a) i 0 (omega (arith, front-long)) ∙ ap (λ x. x ∷ drop (Prim.Native.Nat.suc i) (take p a)) (getD-take p a i 0 h))
+  front-cons h =
+      rw add-one
+      (drop-cons (take p a) i 0 (omega (arith, front-long))
+      ∙ ap (λ x. x ∷ drop (Prim.Native.Nat.suc i) (take p a)) (getD-take p a i 0 h))
 
   -- nothing is left from p on
   pub front-end : p ≤ i → drop i (take p a) ≡ []

@@ -1,4 +1,5 @@
--- The places of the wanted records: how many, that their records are whole over the sizes that the side leaves, and which tables they have.
+-- The places of the wanted records: how many, that their records are whole over the sizes that the side leaves, and
+-- which tables they have.
 use mathlib.Core.Path.{_≡_, refl, ap, ap₂}
 use mathlib.Core.Bool.{Bool, true, false}
 use mathlib.Core.List.{List, [], _∷_}
@@ -35,20 +36,28 @@ module _ (low high k : ℕ) (ss s : List ℕ) where
       and-right (ltb o high) _ (and-right (leb low o) _ e)
 
   module _ (ds : List ℕ) (same : length ss ≡ length ds) where
-    pub kept-whole : (places : List ℕ) → All (Whole ds s) places → All (Whole (narrowed k ss ds) s) (keptPlaces low high k ss s places)
+    pub kept-whole : (places : List ℕ) → All (Whole ds s) places
+        → All (Whole (narrowed k ss ds) s) (keptPlaces low high k ss s places)
     unfolding keptPlaces
     kept-whole [] h = tt
     kept-whole (at ∷ places) h = go (wantedAt at) refl (kept-whole places (h .1))
       where
-        go : (b : Bool) → wantedAt at ≡ b → All (Whole (narrowed k ss ds) s) (keptPlaces low high k ss s places) → All (Whole (narrowed k ss ds) s) (keepIf b at (keptPlaces low high k ss s places))
+        go : (b : Bool) → wantedAt at ≡ b → All (Whole (narrowed k ss ds) s) (keptPlaces low high k ss s places)
+            → All (Whole (narrowed k ss ds) s) (keepIf b at (keptPlaces low high k ss s places))
         go true e r = (whole-same k ss ds same s at (wanted-inside at e) (h .0), r)
         go false e r = r
 
-    pub kept-tables : (places : List ℕ) → tablesOver (narrowed k ss ds) s (keptPlaces low high k ss s places) ≡ kept (wantedTable low high k ss) (tablesOver ds s places)
+    pub kept-tables : (places : List ℕ)
+        → tablesOver (narrowed k ss ds) s (keptPlaces low high k ss s places)
+        ≡ kept (wantedTable low high k ss) (tablesOver ds s places)
     unfolding keptPlaces tablesOver kept tableOf
     kept-tables [] = refl
     kept-tables (at ∷ places) = go (wantedAt at) refl (kept-tables places)
       where
-        go : (b : Bool) → wantedAt at ≡ b → tablesOver (narrowed k ss ds) s (keptPlaces low high k ss s places) ≡ kept (wantedTable low high k ss) (tablesOver ds s places) → tablesOver (narrowed k ss ds) s (keepIf b at (keptPlaces low high k ss s places)) ≡ keepIf b (tableAt ds s at) (kept (wantedTable low high k ss) (tablesOver ds s places))
+        go : (b : Bool) → wantedAt at ≡ b
+            → tablesOver (narrowed k ss ds) s (keptPlaces low high k ss s places)
+            ≡ kept (wantedTable low high k ss) (tablesOver ds s places)
+            → tablesOver (narrowed k ss ds) s (keepIf b at (keptPlaces low high k ss s places))
+            ≡ keepIf b (tableAt ds s at) (kept (wantedTable low high k ss) (tablesOver ds s places))
         go true e r = ap₂ _∷_ (ap coreTable (table-same k ss ds same (drop at s) (wanted-inside at e))) r
         go false e r = r

@@ -27,10 +27,12 @@ only-one x o b = below (leb o x) refl
     below true e = above (ltb x (o + 1)) refl (leb-true o x e)
     below false e = rw (ne-eqb x o (λ k. omega (arith, leb-false o x e)))
 
-pub wanted-suffix : (q : Problem) (o k : ℕ) → kept (wantedTable o (o + 1) 1 (suffixSides (length (q .domains)) k)) (q .tables) ≡ suffixOf q o k .tables
+pub wanted-suffix : (q : Problem) (o k : ℕ)
+    → kept (wantedTable o (o + 1) 1 (suffixSides (length (q .domains)) k)) (q .tables) ≡ suffixOf q o k .tables
 unfolding suffixOf
 wanted-suffix q o k =
-    ap (λ (f : Table → Bool). kept f (q .tables)) (fun-ext (λ t. only-one (t .objective) o (inSuffix (length (q .domains)) k t)))
+    ap (λ (f : Table → Bool). kept f (q .tables))
+    (fun-ext (λ t. only-one (t .objective) o (inSuffix (length (q .domains)) k t)))
 
 -- tests that agree on the tables keep the same
 kept-same : (f g : Table → Bool) (ts : List Table) → All (λ t. f t ≡ g t) ts → kept f ts ≡ kept g ts
@@ -38,7 +40,9 @@ unfolding kept
 kept-same f g [] h = refl
 kept-same f g (t ∷ ts) h = rw (h .0, kept-same f g ts (h .1))
 
-pub wanted-view : (k : ℕ) (ss : List ℕ) (ts : List Table) → All (λ t. t .objective < maxObjectives) ts → kept (wantedTable 0 maxObjectives k ss) ts ≡ kept (λ t. within k ss (t .scope)) ts
+pub wanted-view : (k : ℕ) (ss : List ℕ) (ts : List Table) → All (λ t. t .objective < maxObjectives) ts
+    → kept (wantedTable 0 maxObjectives k ss) ts ≡ kept (λ t. within k ss (t .scope)) ts
 wanted-view k ss ts h =
     kept-same (wantedTable 0 maxObjectives k ss) (λ t. within k ss (t .scope)) ts
-    (all-map (λ t. t .objective < maxObjectives) (λ t. wantedTable 0 maxObjectives k ss t ≡ within k ss (t .scope)) (λ t l. rw (le-leb 0 (t .objective) (omega arith), lt-ltb (t .objective) maxObjectives l)) ts h)
+    (all-map (λ t. t .objective < maxObjectives) (λ t. wantedTable 0 maxObjectives k ss t ≡ within k ss (t .scope))
+    (λ t l. rw (le-leb 0 (t .objective) (omega arith), lt-ltb (t .objective) maxObjectives l)) ts h)

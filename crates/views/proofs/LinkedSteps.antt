@@ -25,7 +25,9 @@ not-both true b (inl e) = absurd (false≢true (sym e))
 not-both true b (inr e) = e
 not-both false b e = refl
 
-linked-next : (ds s ss : List ℕ) (r at : ℕ) → 0 < r → linkedFrom ds s ss r at ≡ pick (both s ss at) (verdict linked at) (linkedFrom ds s ss (r - 1) (at + tableLength ds (drop at s)))
+linked-next : (ds s ss : List ℕ) (r at : ℕ) → 0 < r
+    → linkedFrom ds s ss r at
+    ≡ pick (both s ss at) (verdict linked at) (linkedFrom ds s ss (r - 1) (at + tableLength ds (drop at s)))
 unfolding linkedVerdict crosses tablesAt placesAt tableOf
 linked-next ds s ss zero at h = absurd (omega arith)
 linked-next ds s ss (suc r) at h =
@@ -49,10 +51,13 @@ module _ {ds s ss : List ℕ} {r at here left : ℕ} (u : Linking ds s ss r at h
     pub linking-whole : Whole ds s here
     linking-whole = whole-next left ds s here more (u .whole) .0
 
-    pub linking-found : hasSide 0 ss (tableScope (drop here s)) ≡ true → hasSide 1 ss (tableScope (drop here s)) ≡ true → linkedVerdict ss (tablesAt r ds s at) (placesAt r ds s at) ≡ verdict linked here
+    pub linking-found : hasSide 0 ss (tableScope (drop here s)) ≡ true → hasSide 1 ss (tableScope (drop here s)) ≡ true
+        → linkedVerdict ss (tablesAt r ds s at) (placesAt r ds s at) ≡ verdict linked here
     linking-found e f = sym (u .rest) ∙ linked-next ds s ss left here more ∙ rw (e, f)
 
-    pub linking-next : (hasSide 0 ss (tableScope (drop here s)) ≡ false) ⊎ (hasSide 1 ss (tableScope (drop here s)) ≡ false) → (width : ℕ) → width ≡ tableLength ds (drop here s) → Linking ds s ss r at (here + width) (left - 1)
+    pub linking-next :
+        (hasSide 0 ss (tableScope (drop here s)) ≡ false) ⊎ (hasSide 1 ss (tableScope (drop here s)) ≡ false)
+        → (width : ℕ) → width ≡ tableLength ds (drop here s) → Linking ds s ss r at (here + width) (left - 1)
     linking-next e width wide =
         record {
           whole = rw wide (whole-next left ds s here more (u .whole) .1);

@@ -35,7 +35,8 @@ module _ (k : ℕ) (ss ds : List ℕ) (same : length ss ≡ length ds) where
     unfolding tableOf
     table-same = rw size-same
 
-  pub whole-same : (s : List ℕ) (at : ℕ) → within k ss (tableScope (drop at s)) ≡ true → Whole ds s at → Whole (narrowed k ss ds) s at
+  pub whole-same : (s : List ℕ) (at : ℕ) → within k ss (tableScope (drop at s)) ≡ true → Whole ds s at
+      → Whole (narrowed k ss ds) s at
   whole-same s at inside w =
       record {
         owner = w .owner;

@@ -1,4 +1,5 @@
--- The domain sizes that a side leaves: how many they are, that they are domain sizes, and an array filled with them one by one.
+-- The domain sizes that a side leaves: how many they are, that they are domain sizes, and an array filled with them one
+-- by one.
 use mathlib.Core.Path.{_≡_, refl, sym, _∙_}
 use mathlib.Core.Bool.{true, false}
 use mathlib.Core.List.{List, [], _∷_, _++_}
@@ -24,9 +25,13 @@ module _ (k : ℕ) where
   unfolding narrowed
   narrowed-small [] ds h = tt
   narrowed-small (s ∷ ss) [] h = tt
-  narrowed-small (s ∷ ss) (d ∷ ds) h = (pick-both DomainSize (eqb s k) (h .0) (omega arith), narrowed-small ss ds (h .1))
+  narrowed-small (s ∷ ss) (d ∷ ds) h = (
+    pick-both DomainSize (eqb s k) (h .0) (omega arith),
+    narrowed-small ss ds (h .1),
+  )
 
-  narrowed-snoc : (ss ds : List ℕ) (s d : ℕ) → length ss ≡ length ds → narrowed k (ss ++ s ∷ []) (ds ++ d ∷ []) ≡ narrowed k ss ds ++ pick (eqb s k) d 1 ∷ []
+  narrowed-snoc : (ss ds : List ℕ) (s d : ℕ) → length ss ≡ length ds
+      → narrowed k (ss ++ s ∷ []) (ds ++ d ∷ []) ≡ narrowed k ss ds ++ pick (eqb s k) d 1 ∷ []
   unfolding narrowed
   narrowed-snoc [] [] s d e = refl
   narrowed-snoc [] (x ∷ ds) s d e = absurd (omega arith)
@@ -40,7 +45,8 @@ pub record Narrowing (k : ℕ) (ss ds array : List ℕ) (v : ℕ) : Type 0 where
   pub before : v ≤ length ds
   pub holds : array ≡ narrowed k (take v ss) (take v ds) ++ replicate (maxVariables - v) 1
 
-pub narrowing-start : (k : ℕ) (ss ds : List ℕ) → length ss ≡ length ds → length ds ≤ maxVariables → Narrowing k ss ds (replicate maxVariables 1) 0
+pub narrowing-start : (k : ℕ) (ss ds : List ℕ) → length ss ≡ length ds → length ds ≤ maxVariables
+    → Narrowing k ss ds (replicate maxVariables 1) 0
 unfolding narrowed
 narrowing-start k ss ds e few = record { same = e; few = few; before = omega arith; holds = refl }
 
@@ -69,13 +75,18 @@ module _ {k : ℕ} {ss ds array : List ℕ} {v : ℕ} (u : Narrowing k ss ds arr
         let one : maxVariables - v ≡ suc (maxVariables - (v + 1)) = omega (arith, u .few) in
         rw one at (u .holds)
 
-    grown : narrowed k (take (v + 1) ss) (take (v + 1) ds) ++ rest ≡ front ++ pick (eqb (getD ss v 0) k) (getD ds v 0) 1 ∷ rest
+    grown :
+        narrowed k (take (v + 1) ss) (take (v + 1) ds) ++ rest
+        ≡ front ++ pick (eqb (getD ss v 0) k) (getD ds v 0) 1 ∷ rest
     grown =
-        let side : take (v + 1) ss ≡ take v ss ++ getD ss v 0 ∷ [] = rw add-one (take-suc ss v 0 (omega (arith, u .same))) in
+        let side : take (v + 1) ss ≡ take v ss ++ getD ss v 0 ∷ [] = rw add-one
+        (take-suc ss v 0 (omega (arith, u .same))) in
         let size : take (v + 1) ds ≡ take v ds ++ getD ds v 0 ∷ [] = rw add-one (take-suc ds v 0 more) in
-        rw (side, size, narrowed-snoc k (take v ss) (take v ds) (getD ss v 0) (getD ds v 0) fronts-length) (append-snoc front (pick (eqb (getD ss v 0) k) (getD ds v 0) 1) rest)
+        rw (side, size, narrowed-snoc k (take v ss) (take v ds) (getD ss v 0) (getD ds v 0) fronts-length)
+        (append-snoc front (pick (eqb (getD ss v 0) k) (getD ds v 0) 1) rest)
 
-    next : (new : List ℕ) → new ≡ front ++ pick (eqb (getD ss v 0) k) (getD ds v 0) 1 ∷ rest → Narrowing k ss ds new (v + 1)
+    next : (new : List ℕ) → new ≡ front ++ pick (eqb (getD ss v 0) k) (getD ds v 0) 1 ∷ rest
+        → Narrowing k ss ds new (v + 1)
     next new e = record { same = u .same; few = u .few; before = omega arith; holds = e ∙ sym grown }
 
     -- a variable of the side keeps its domain, another has one value

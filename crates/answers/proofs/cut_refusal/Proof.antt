@@ -53,9 +53,6 @@ lent c = c .before .before .before
 
 -- ## the tests
 
-early-refusal-requires : tie.Need-early-refusal-requires
-early-refusal-requires c κs = search needs
-
 returns : tie.Need-returns
 returns c =
     let told : tie.After-early-refusal = c .before .before in
@@ -63,12 +60,6 @@ returns c =
     let early = told .early-refusal in
     early-cut (bytes told) (sides told) (s .args .memory) (early .result)
     (early-said (bytes told) (s .args .memory) (s .args .g) (s .pre) (early .ensures)) (c .if1 .taken)
-
-cast-n : tie.Need-cast-n
-cast-n c = search needs
-
-sides-ok-requires : tie.Need-sides-ok-requires
-sides-ok-requires c κs = search needs
 
 returns-2 : tie.Need-returns-2
 returns-2 c =
@@ -82,16 +73,10 @@ returns-2 c =
 
 -- ## the linked records
 
-tables-start-requires : tie.Need-tables-start-requires
-tables-start-requires c κs = search needs
-
 array-share-prefix-sizes : tie.Need-array-share-prefix-sizes
 array-share-prefix-sizes c =
     let a = accepted (sided (c .before .before .before)) in
     omega (arith, a .room, a .few-variables)
-
-slice-aggregate-first-linked : tie.Need-slice-aggregate-first-linked
-slice-aggregate-first-linked c = sym (sized _ _ (accepted (sided (lent c .before))))
 
 first-linked-requires : tie.Need-first-linked-requires
 first-linked-requires c κs =
@@ -117,13 +102,13 @@ pub cut-refusal-spec : {M : Type 1} → statement M
 cut-refusal-spec =
     tie.close
     (tie.spec
-    early-refusal-requires
+    (λ c κs. search needs)  -- early-refusal-requires
     returns
-    cast-n
-    sides-ok-requires
+    (λ c. search needs)  -- cast-n
+    (λ c κs. search needs)  -- sides-ok-requires
     returns-2
-    tables-start-requires
+    (λ c κs. search needs)  -- tables-start-requires
     array-share-prefix-sizes
-    slice-aggregate-first-linked
+    (λ c. sym (sized _ _ (accepted (sided (lent c .before)))))  -- slice-aggregate-first-linked
     first-linked-requires
     returns-3)

@@ -4,21 +4,6 @@ use borrow.Author.Needs.{needs}
 use Rattle.answers.proofs.found_rows.Statement.{statement}
 use Rattle.answers.proofs.found_rows.Tie as tie
 
-full-number-requires : tie.Need-full-number-requires
-full-number-requires c κs = search needs
-
-cast-t6 : tie.Need-cast-t6
-cast-t6 c = search needs
-
-cast-t7 : tie.Need-cast-t7
-cast-t7 c = search needs
-
-clear-requires : tie.Need-clear-requires
-clear-requires c κs = search needs
-
-same-length : tie.Need-same-length
-same-length c = search needs
-
 returns : tie.Need-returns
 returns c =
     let cleared : tie.After-clear = c .before .before in
@@ -34,4 +19,11 @@ returns-2 c =
 pub found-rows-spec : {M : Type 1} → statement M
 found-rows-spec =
     tie.close
-    (tie.spec full-number-requires cast-t6 cast-t7 clear-requires same-length returns returns-2)
+    (tie.spec
+    (λ c κs. search needs)  -- full-number-requires
+    (λ c. search needs)  -- cast-t6
+    (λ c. search needs)  -- cast-t7
+    (λ c κs. search needs)  -- clear-requires
+    (λ c. search needs)  -- same-length
+    returns
+    returns-2)

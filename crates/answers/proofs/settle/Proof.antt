@@ -5,15 +5,6 @@ use borrow.Author.Tests.{ne-eqb}
 use Rattle.answers.proofs.settle.Statement.{statement}
 use Rattle.answers.proofs.settle.Tie as tie
 
-cast-count : tie.Need-cast-count
-cast-count c = search needs
-
-clear-requires : tie.Need-clear-requires
-clear-requires c κs = search needs
-
-same-length : tie.Need-same-length
-same-length c = search needs
-
 returns : tie.Need-returns
 returns c = (refl, rw (c .before .before .before .before .if1 .taken) (c .before .before .clear .ensures))
 
@@ -21,4 +12,11 @@ returns-2 : tie.Need-returns-2
 returns-2 c = (refl, rw (ne-eqb (c .before .before .before .before .args .found .number) 0 (c .if1 .left)) refl)
 
 pub settle-spec : {M : Type 1} → statement M
-settle-spec = tie.close (tie.spec cast-count clear-requires same-length returns returns-2)
+settle-spec =
+    tie.close
+    (tie.spec
+    (λ c. search needs)  -- cast-count
+    (λ c κs. search needs)  -- clear-requires
+    (λ c. search needs)  -- same-length
+    returns
+    returns-2)

@@ -1,5 +1,7 @@
--- `costs::least_from` meets its contract. By recursion on the scope's variables, with a loop over the values of a free one.
--- The invariant: the least so far is the least over the first x values, and below the entries' limit. The measure is how many variables are left, of three at most.
+-- `costs::least_from` meets its contract. By recursion on the scope's variables, with a loop over the values of a free
+-- one.
+-- The invariant: the least so far is the least over the first x values, and below the entries' limit. The measure is
+-- how many variables are left, of three at most.
 use mathlib.Core.Path.{_≡_}
 use mathlib.Core.Bool.{true}
 use mathlib.Core.List.{List}
@@ -42,11 +44,19 @@ abbrev asked-below : ℕ → In 3 kinds.ps
 asked-below t = and 3 kinds.ps (falls 3 kinds.ps _<_ μ-least-from t) least-from.Pre
 
 abbrev calls : ℕ → lts.Claims
-calls t = (table-entry-reads.Asked, table-entry-reads.Learnt, asked-below t, least-from.Post, lesser-reads.Asked, lesser-reads.Learnt)
+calls t = (
+  table-entry-reads.Asked,
+  table-entry-reads.Learnt,
+  asked-below t,
+  least-from.Post,
+  lesser-reads.Asked,
+  lesser-reads.Learnt,
+)
 
 -- the least over the variables after number k, where it takes the value y of a domain of d
 abbrev after : List ℕ → ℕ → ℕ → ℕ → List ℕ → List ℕ → ℕ → ℕ → ℕ
-after s at k index sizes prefix d = λ y. leastFrom sizes prefix (entryAt sizes s at) (index * d + y) (drop (k + 1) (scopeAt s at))
+after s at k index sizes prefix d =
+    λ y. leastFrom sizes prefix (entryAt sizes s at) (index * d + y) (drop (k + 1) (scopeAt s at))
 
 abbrev Inv-loop : lts.InvT-loop
 Inv-loop s at k index sizes prefix a v d least₀ x₀ least x =
@@ -74,7 +84,9 @@ module _ (t : ℕ) where
   domain c = let a = start c .args in getD (now (a .sizes)) (getD (now (a .s)) (a .at + 4 + a .k) 0) 0
 
   abbrev rest : Variable → ℕ → ℕ
-  rest c = let a = start c .args in after (now (a .s)) (a .at) (a .k) (a .index) (now (a .sizes)) (now (a .prefix)) (domain c)
+  rest c =
+      let a = start c .args in
+      after (now (a .s)) (a .at) (a .k) (a .index) (now (a .sizes)) (now (a .prefix)) (domain c)
 
   inside : (c : Variable) → let a = start c .args in a .k < getD (now (a .s)) (a .at + 3) 0
   inside c =
@@ -95,13 +107,15 @@ module _ (t : ℕ) where
       let q = start c .pre .1 in
       variable-size (now (a .sizes)) (now (a .s)) (a .at) (q .0) (a .k) (inside c) (q .1)
 
-  room : (c : Variable) (x : ℕ) → x < domain c → let a = start c .args in Room (now (a .sizes)) (now (a .s)) (a .at) (a .k + 1) (a .index * domain c + x)
+  room : (c : Variable) (x : ℕ) → x < domain c
+      → let a = start c .args in Room (now (a .sizes)) (now (a .s)) (a .at) (a .k + 1) (a .index * domain c + x)
   room c x l =
       let a = start c .args in
       let q = start c .pre .1 in
       room-next (now (a .sizes)) (now (a .s)) (a .at) (q .0) (a .k) (a .index) (q .4) (inside c) x l
 
-  first : (c : Variable) → let a = start c .args in Room (now (a .sizes)) (now (a .s)) (a .at) (a .k + 1) (a .index * domain c)
+  first : (c : Variable)
+      → let a = start c .args in Room (now (a .sizes)) (now (a .s)) (a .at) (a .k + 1) (a .index * domain c)
   first c = rw add-zero at (room c 0 (size c .0))
 
   fits : (c : Variable) (x : ℕ) → x < domain c → let a = start c .args in a .index * domain c + x < length (now (a .s))
@@ -111,22 +125,38 @@ module _ (t : ℕ) where
       room-fits (now (a .sizes)) (now (a .s)) (a .at) (q .0) (q .1) (a .k + 1) _ (room c x l)
 
   -- what a call for the next variable asks
-  again : (c : Variable) (i : ℕ) → let a = start c .args in Room (now (a .sizes)) (now (a .s)) (a .at) (a .k + 1) i → (maxArity - (a .k + 1) < t) × (Whole (now (a .sizes)) (now (a .s)) (a .at) × All DomainSize (now (a .sizes)) × (prefixOk (now (a .sizes)) (now (a .prefix)) ≡ true) × (a .k + 1 ≤ tableArity (drop (a .at) (now (a .s)))) × Room (now (a .sizes)) (now (a .s)) (a .at) (a .k + 1) i)
+  again : (c : Variable) (i : ℕ)
+      → let a = start c .args in
+      Room (now (a .sizes)) (now (a .s)) (a .at) (a .k + 1) i
+      → (maxArity - (a .k + 1) < t)
+      × (Whole (now (a .sizes)) (now (a .s)) (a .at) × All DomainSize (now (a .sizes))
+      × (prefixOk (now (a .sizes)) (now (a .prefix)) ≡ true) × (a .k + 1 ≤ tableArity (drop (a .at) (now (a .s))))
+      × Room (now (a .sizes)) (now (a .s)) (a .at) (a .k + 1) i)
   again c i next =
       let q = start c .pre .1 in
       (omega (arith, short c, start c .pre .0), (q .0, q .1, q .2, rw getD-drop (omega (arith, inside c)), next))
 
-  below : (c : Fixed) → let a = start (c .before .before .before) .args in getD (now (a .prefix)) (getD (now (a .s)) (a .at + 4 + a .k) 0) 0 < domain (c .before .before .before)
+  below : (c : Fixed)
+      → let a = start (c .before .before .before) .args in
+      getD (now (a .prefix)) (getD (now (a .s)) (a .at + 4 + a .k) 0) 0 < domain (c .before .before .before)
   below c =
       let a = start (c .before .before .before) .args in
       let q = start (c .before .before .before) .pre .1 in
       prefix-below (now (a .sizes)) (now (a .prefix)) (q .2) _ (c .if2 .taken)
 
-  free : (c : Free) (r : ℕ) → r ≡ leastTo (domain (c .before .before .before) - 1) (rest (c .before .before .before)) → let a = start (c .before .before .before) .args in r ≡ leastFrom (now (a .sizes)) (now (a .prefix)) (entryAt (now (a .sizes)) (now (a .s)) (a .at)) (a .index) (drop (a .k) (scopeAt (now (a .s)) (a .at)))
+  free : (c : Free) (r : ℕ) → r ≡ leastTo (domain (c .before .before .before) - 1) (rest (c .before .before .before))
+      → let a = start (c .before .before .before) .args in
+      r
+      ≡ leastFrom (now (a .sizes)) (now (a .prefix)) (entryAt (now (a .sizes)) (now (a .s)) (a .at)) (a .index)
+      (drop (a .k) (scopeAt (now (a .s)) (a .at)))
   free c r e =
       let a = start (c .before .before .before) .args in
       let q = start (c .before .before .before) .pre .1 in
-      rw (scope-next (now (a .sizes)) (now (a .s)) (a .at) (q .0) (a .k) (inside (c .before .before .before)), least-free (now (a .sizes)) (now (a .prefix)) (entryAt (now (a .sizes)) (now (a .s)) (a .at)) (a .index) _ (drop (a .k + 1) (scopeAt (now (a .s)) (a .at))) (c .if2 .left)) e
+      rw (
+        scope-next (now (a .sizes)) (now (a .s)) (a .at) (q .0) (a .k) (inside (c .before .before .before)),
+        least-free (now (a .sizes)) (now (a .prefix)) (entryAt (now (a .sizes)) (now (a .s)) (a .at)) (a .index) _
+            (drop (a .k + 1) (scopeAt (now (a .s)) (a .at))) (c .if2 .left),
+      ) e
 
   -- ## the needs, in the order of the code
 
@@ -155,8 +185,10 @@ module _ (t : ℕ) where
   returns c =
       let a = c .before .before .before .before .before .before .args in
       let q = c .before .before .before .before .before .before .pre .1 in
-      let entry = c .table-entry .ensures in
-      (rw (c .before .if1 .taken, scope-end (now (a .sizes)) (now (a .s)) (a .at) (q .0), least-none) (entry .0), entry .1)
+      let entry = c .table-entry .ensures in (
+        rw (c .before .if1 .taken, scope-end (now (a .sizes)) (now (a .s)) (a .at) (q .0), least-none) (entry .0),
+        entry .1,
+      )
 
   add-v : lts.Need-add-v (calls t) (asked t) least-from.Post Inv-loop μ-loop
   add-v c =
@@ -196,7 +228,8 @@ module _ (t : ℕ) where
   mul-least-from : lts.Need-mul-least-from (calls t) (asked t) least-from.Post Inv-loop μ-loop
   mul-least-from c = omega (arith, fits (c .before .before .before) _ (below c))
 
-  shared-slice-read-least-from : lts.Need-shared-slice-read-least-from (calls t) (asked t) least-from.Post Inv-loop μ-loop
+  shared-slice-read-least-from :
+      lts.Need-shared-slice-read-least-from (calls t) (asked t) least-from.Post Inv-loop μ-loop
   shared-slice-read-least-from c = omega (arith, c .before .if2 .taken)
 
   cast-least-from : lts.Need-cast-least-from (calls t) (asked t) least-from.Post Inv-loop μ-loop
@@ -206,7 +239,8 @@ module _ (t : ℕ) where
   add-least-from-2 c = omega (arith, fits (c .before .before .before .before) _ (below (c .before)))
 
   least-from-requires : lts.Need-least-from-requires (calls t) (asked t) least-from.Post Inv-loop μ-loop
-  least-from-requires c κs = again (c .before .before .before .before) _ (room (c .before .before .before .before) _ (below (c .before)))
+  least-from-requires c κs =
+      again (c .before .before .before .before) _ (room (c .before .before .before .before) _ (below (c .before)))
 
   returns-2 : lts.Need-returns-2 (calls t) (asked t) least-from.Post Inv-loop μ-loop
   returns-2 c =
@@ -214,8 +248,10 @@ module _ (t : ℕ) where
       let s = start (fixed .before .before .before) in
       let a = s .args in
       let vs = drop (a .k + 1) (scopeAt (now (a .s)) (a .at)) in
-      let next = scope-next (now (a .sizes)) (now (a .s)) (a .at) (s .pre .1 .0) (a .k) (inside (fixed .before .before .before)) in
-      let value = least-fixed (now (a .sizes)) (now (a .prefix)) (entryAt (now (a .sizes)) (now (a .s)) (a .at)) (a .index) _ vs (fixed .if2 .taken) in
+      let next = scope-next (now (a .sizes)) (now (a .s)) (a .at) (s .pre .1 .0) (a .k)
+      (inside (fixed .before .before .before)) in
+      let value = least-fixed (now (a .sizes)) (now (a .prefix)) (entryAt (now (a .sizes)) (now (a .s)) (a .at))
+      (a .index) _ vs (fixed .if2 .taken) in
       (rw (next, value) (c .least-from .ensures .0), c .least-from .ensures .1)
 
   add-least-from-3 : lts.Need-add-least-from-3 (calls t) (asked t) least-from.Post Inv-loop μ-loop
@@ -237,13 +273,21 @@ module _ (t : ℕ) where
   add-least-from-4 c = omega (arith, short (c .before .before .before .before .before .before))
 
   mul-least-from-3 : lts.Need-mul-least-from-3 (calls t) (asked t) least-from.Post Inv-loop μ-loop
-  mul-least-from-3 c = omega (arith, fits (c .before .before .before .before .before .before) 0 (size (c .before .before .before .before .before .before) .0))
+  mul-least-from-3 c =
+      omega (
+        arith,
+        fits (c .before .before .before .before .before .before) 0
+            (size (c .before .before .before .before .before .before) .0),
+      )
 
   add-least-from-5 : lts.Need-add-least-from-5 (calls t) (asked t) least-from.Post Inv-loop μ-loop
-  add-least-from-5 c = omega (arith, fits (c .before .before .before .before .before .before) (c .before .loop .x) (c .loop-test .taken))
+  add-least-from-5 c =
+      omega (arith, fits (c .before .before .before .before .before .before) (c .before .loop .x) (c .loop-test .taken))
 
   least-from-requires-3 : lts.Need-least-from-requires-3 (calls t) (asked t) least-from.Post Inv-loop μ-loop
-  least-from-requires-3 c κs = again (c .before .before .before .before .before .before) _ (room (c .before .before .before .before .before .before) (c .before .loop .x) (c .loop-test .taken))
+  least-from-requires-3 c κs =
+      again (c .before .before .before .before .before .before) _
+      (room (c .before .before .before .before .before .before) (c .before .loop .x) (c .loop-test .taken))
 
   lesser-requires : lts.Need-lesser-requires (calls t) (asked t) least-from.Post Inv-loop μ-loop
   lesser-requires c κs = tt

@@ -1,6 +1,5 @@
 -- `costs::costs_of` meets its contract. The invariant, `Summing`, over the cost of a table; a weight is taken back.
 use mathlib.Core.Path.{_≡_, ap, _∙_}
-use mathlib.Core.List.{List}
 use Prim.Native.Nat.{ℕ, _<_}
 use native.Mathlib.Omega.{arith}
 use lib.ListN.{drop}
@@ -23,7 +22,8 @@ use Rattle.costs.proofs.unweighed.Reads as unweighed-reads
 use Rattle.problem.proofs.record_at.Reads as record-at-reads
 
 abbrev Inv-loop : tie.InvT-loop
-Inv-loop s at r sizes choice sums₀ here₀ left₀ sums here left = Summing (costOf sizes choice) sizes s r at sums here left
+Inv-loop s at r sizes choice sums₀ here₀ left₀ sums here left =
+    Summing (costOf sizes choice) sizes s r at sums here left
 
 abbrev μ-loop : tie.MeasureT-loop
 μ-loop s at r sizes choice sums₀ here₀ left₀ sums here left = left
@@ -67,19 +67,22 @@ whole : (c : Turn) → let a = start c .args in Whole (now (a .sizes)) (now (a .
 whole c =
     let a = start c .args in
     let w = c .before .loop in
-    next-whole (share c) (now (a .sizes)) (now (a .s)) (a .r) (a .at) (w .sums) (w .here) (w .left) (w .inv) (omega arith)
+    next-whole (share c) (now (a .sizes)) (now (a .s)) (a .r) (a .at) (w .sums) (w .here) (w .left) (w .inv)
+    (omega arith)
 
 own : (c : Read) → c .before .record-at .result .objective < maxObjectives
 own c = omega (arith, c .before .record-at .ensures .objective, whole (turn c) .owner)
 
 -- what was added is the cost of the table that was read
 added : (c : Back) → let a = start (turn (read c)) .args in
-    c .unweighed .result ≡ share (turn (read c)) (tableOf (now (a .sizes)) (drop (turn (read c) .before .loop .here) (now (a .s))))
+    c .unweighed .result
+    ≡ share (turn (read c)) (tableOf (now (a .sizes)) (drop (turn (read c) .before .loop .here) (now (a .s))))
 added c =
     let t = turn (read c) in
     let a = start t .args in
     c .unweighed .ensures .0 ∙ ap plain (c .before .cost-at .ensures .0)
-    ∙ plain-cost (now (a .sizes)) (now (a .s)) (t .before .loop .here) (λ i. omega (arith, t .before .before .before .before .shared-slice-known .given i)) (now (a .choice))
+    ∙ plain-cost (now (a .sizes)) (now (a .s)) (t .before .loop .here)
+    (λ i. omega (arith, t .before .before .before .before .shared-slice-known .given i)) (now (a .choice))
 
 -- ## the needs, in the order of the code
 
@@ -89,48 +92,27 @@ loop-holds c =
     let a = s .args in
     summing-start (costOf (now (a .sizes)) (now (a .choice))) (now (a .sizes)) (now (a .s)) (a .r) (a .at) (s .pre .0)
 
-record-at-requires : tie.Need-record-at-requires Inv-loop μ-loop
-record-at-requires c κs = (whole c, start c .pre .2)
-
-cast-o : tie.Need-cast-o Inv-loop μ-loop
-cast-o c = omega (arith, own c)
-
-mul-sums : tie.Need-mul-sums Inv-loop μ-loop
-mul-sums c = omega (arith, own c)
-
-array-read-sums : tie.Need-array-read-sums Inv-loop μ-loop
-array-read-sums c = omega (arith, own c)
-
 cost-at-requires : tie.Need-cost-at-requires Inv-loop μ-loop
 cost-at-requires c κs = (whole (turn c), start (turn c) .pre .2, start (turn c) .pre .3)
-
-unweighed-requires : tie.Need-unweighed-requires Inv-loop μ-loop
-unweighed-requires c κs = search needs
 
 add-sums : tie.Need-add-sums Inv-loop μ-loop
 add-sums c =
     let t = turn (read c) in
     let a = start t .args in
     let w = t .before .loop in
-    let small = sum-small (share t) (now (a .sizes)) (now (a .s)) (a .r) (a .at) (w .sums) (w .here) (w .left) (w .inv) (start t .pre .1) in
-    omega (arith, c .unweighed .ensures .1, c .before .cost-at .ensures .1, small (read c .before .record-at .result .objective))
-
-mul-sums-2 : tie.Need-mul-sums-2 Inv-loop μ-loop
-mul-sums-2 c = omega (arith, own (read c))
-
-array-write-sums : tie.Need-array-write-sums Inv-loop μ-loop
-array-write-sums c = omega (arith, own (read c))
+    let small = sum-small (share t) (now (a .sizes)) (now (a .s)) (a .r) (a .at) (w .sums) (w .here) (w .left) (w .inv)
+    (start t .pre .1) in
+    omega (
+      arith,
+      c .unweighed .ensures .1,
+      c .before .cost-at .ensures .1,
+      small (read c .before .record-at .result .objective),
+    )
 
 add-here : tie.Need-add-here Inv-loop μ-loop
 add-here c =
     let r = read (c .before) in
     omega (arith, r .before .record-at .ensures .width, whole (turn r) .long)
-
-sub-left : tie.Need-sub-left Inv-loop μ-loop
-sub-left c = omega arith
-
-loop-less : tie.Need-loop-less Inv-loop μ-loop
-loop-less c = omega arith
 
 loop-again : tie.Need-loop-again Inv-loop μ-loop
 loop-again c =
@@ -148,7 +130,8 @@ returns c =
     let s = c .before .before .before .before .before in
     let a = s .args in
     let w = c .before .loop in
-    summing-end (costOf (now (a .sizes)) (now (a .choice))) (now (a .sizes)) (now (a .s)) (a .r) (a .at) (w .sums) (w .here)
+    summing-end (costOf (now (a .sizes)) (now (a .choice))) (now (a .sizes)) (now (a .s)) (a .r) (a .at) (w .sums)
+    (w .here)
     (w .left) (w .inv) (omega arith)
 
 pub costs-of-spec : {M : Type 1} → statement M
@@ -158,17 +141,17 @@ costs-of-spec =
     Inv-loop
     μ-loop
     loop-holds
-    record-at-requires
-    cast-o
-    mul-sums
-    array-read-sums
+    (λ c κs. (whole c, start c .pre .2))  -- record-at-requires
+    (λ c. omega (arith, own c))  -- cast-o
+    (λ c. omega (arith, own c))  -- mul-sums
+    (λ c. omega (arith, own c))  -- array-read-sums
     cost-at-requires
-    unweighed-requires
+    (λ c κs. search needs)  -- unweighed-requires
     add-sums
-    mul-sums-2
-    array-write-sums
+    (λ c. omega (arith, own (read c)))  -- mul-sums-2
+    (λ c. omega (arith, own (read c)))  -- array-write-sums
     add-here
-    sub-left
-    loop-less
+    (λ c. omega arith)  -- sub-left
+    (λ c. omega arith)  -- loop-less
     loop-again
     returns)

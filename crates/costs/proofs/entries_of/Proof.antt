@@ -7,9 +7,6 @@ use borrow.Author.Needs.{needs}
 use Rattle.costs.proofs.entries_of.Statement.{statement}
 use Rattle.costs.proofs.entries_of.Tie as tie
 
-add-a : tie.Need-add-a
-add-a c = search needs
-
 shared-slice-read-a : tie.Need-shared-slice-read-a
 shared-slice-read-a c =
     let start = c .before .before .before in
@@ -18,9 +15,6 @@ shared-slice-read-a c =
 
 cast-a : tie.Need-cast-a
 cast-a c = omega (arith, c .shared-slice-known3 .given (c .before .before .before .args .at + 3))
-
-add-size-of : tie.Need-add-size-of
-add-size-of c = search needs
 
 size-of-requires : tie.Need-size-of-requires
 size-of-requires c κs =
@@ -37,4 +31,12 @@ returns c =
     rw (scope-place (now (a .s)) (a .at)) (c .size-of .ensures .0)
 
 pub entries-of-spec : {M : Type 1} → statement M
-entries-of-spec = tie.close (tie.spec add-a shared-slice-read-a cast-a add-size-of size-of-requires returns)
+entries-of-spec =
+    tie.close
+    (tie.spec
+    (λ c. search needs)  -- add-a
+    shared-slice-read-a
+    cast-a
+    (λ c. search needs)  -- add-size-of
+    size-of-requires
+    returns)

@@ -7,18 +7,9 @@ use borrow.Author.Needs.{needs}
 use Rattle.costs.proofs.least_at.Statement.{statement}
 use Rattle.costs.proofs.least_at.Tie as tie
 
-run-at-requires : tie.Need-run-at-requires
-run-at-requires c κs = search needs
-
-least-from-requires : tie.Need-least-from-requires
-least-from-requires c κs = search needs
-
 returns : tie.Need-returns
 unfolding leastOf tableOf
 returns c = c .least-from .ensures
-
-least-row-requires : tie.Need-least-row-requires
-least-row-requires c κs = search needs
 
 returns-2 : tie.Need-returns-2
 unfolding leastOf tableOf
@@ -28,4 +19,10 @@ returns-2 c =
 
 pub least-at-spec : {M : Type 1} → statement M
 least-at-spec =
-    tie.close (tie.spec run-at-requires least-from-requires returns least-row-requires returns-2)
+    tie.close
+    (tie.spec
+    (λ c κs. search needs)  -- run-at-requires
+    (λ c κs. search needs)  -- least-from-requires
+    returns
+    (λ c κs. search needs)  -- least-row-requires
+    returns-2)

@@ -40,15 +40,6 @@ table-entry-requires-2 c κs =
     let q = c .before .before .before .before .before .pre in
     (q .0, omega arith)
 
-lesser-requires : tie.Need-lesser-requires Inv-loop μ-loop
-lesser-requires c κs = tt
-
-add-i : tie.Need-add-i Inv-loop μ-loop
-add-i c = omega arith
-
-loop-less : tie.Need-loop-less Inv-loop μ-loop
-loop-less c = omega arith
-
 loop-again : tie.Need-loop-again Inv-loop μ-loop
 loop-again c =
     let a = c .before .before .before .before .before .before .before .args in
@@ -77,8 +68,8 @@ least-row-spec =
     loop-holds
     add-table-entry
     table-entry-requires-2
-    lesser-requires
-    add-i
-    loop-less
+    (λ c κs. tt)  -- lesser-requires
+    (λ c. omega arith)  -- add-i
+    (λ c. omega arith)  -- loop-less
     loop-again
     returns)

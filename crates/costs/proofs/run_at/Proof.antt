@@ -1,4 +1,5 @@
--- `costs::run_at` meets its contract. The invariant, `Running`: after the first k variables the indices that agree are a run.
+-- `costs::run_at` meets its contract. The invariant, `Running`: after the first k variables the indices that agree are
+-- a run.
 use mathlib.Core.Path.{_≡_}
 use Prim.Native.Nat.{ℕ, _+_, _-_, _*_, _≤_, _<_}
 use native.Mathlib.Omega.{arith}
@@ -8,7 +9,8 @@ use Rattle.model.specs.Problems.{DomainSize}
 use Rattle.model.proofs.Prefixes.{prefix-below}
 use Rattle.problem.proofs.WholeRecord.{whole-few, whole-long}
 use Rattle.costs.proofs.ScopeVariables.{variable-exists, variable-size}
-use Rattle.costs.proofs.RunSteps.{Running, running-start, running-inside, running-end, running-fits, running-free, running-fixed}
+use Rattle.costs.proofs.RunSteps.{Running, running-start, running-inside, running-end, running-fits}
+use Rattle.costs.proofs.RunSteps.{running-free, running-fixed}
 use Rattle.costs.proofs.run_at.Statement.{statement}
 use Rattle.costs.proofs.run_at.Tie as tie
 use Rattle.costs.proofs.run_at.Reads as reads
@@ -43,28 +45,38 @@ exists c =
 size : (c : Turn) → DomainSize (domain c)
 size c =
     let a = start c .args in
-    variable-size (now (a .sizes)) (now (a .s)) (a .at) (start c .pre .0) (c .before .loop .k) (omega arith) (start c .pre .1)
+    variable-size (now (a .sizes)) (now (a .s)) (a .at) (start c .pre .0) (c .before .loop .k) (omega arith)
+    (start c .pre .1)
 
-fits : (c : Turn) → let w = c .before .loop in w .first * domain c + w .count * domain c ≤ length (now (start c .args .s))
+fits : (c : Turn)
+    → let w = c .before .loop in w .first * domain c + w .count * domain c ≤ length (now (start c .args .s))
 fits c =
     let a = start c .args in
     let q = start c .pre in
     let w = c .before .loop in
-    running-fits (now (a .sizes)) (now (a .prefix)) (now (a .s)) (a .at) (q .0) (q .1) (w .k) (w .first) (w .count) (w .inv) (omega arith)
+    running-fits (now (a .sizes)) (now (a .prefix)) (now (a .s)) (a .at) (q .0) (q .1) (w .k) (w .first) (w .count)
+    (w .inv) (omega arith)
 
-below : (c : Fixed) → let t = c .before .before .before .before in getD (now (start t .args .prefix)) (variable t) 0 < domain t
+below : (c : Fixed)
+    → let t = c .before .before .before .before in getD (now (start t .args .prefix)) (variable t) 0 < domain t
 below c =
     let t = c .before .before .before .before in
     let a = start t .args in
     prefix-below (now (a .sizes)) (now (a .prefix)) (start t .pre .2) (variable t) (c .before .if1 .left)
 
-fixed : (c : Fixed) → let t = c .before .before .before .before in let a = start t .args in let w = t .before .loop in Running (now (a .sizes)) (now (a .prefix)) (now (a .s)) (a .at) (w .k + 1) (w .first * domain t + getD (now (a .prefix)) (variable t) 0) (w .count)
+fixed : (c : Fixed)
+    → let t = c .before .before .before .before in
+    let a = start t .args in
+    let w = t .before .loop in
+    Running (now (a .sizes)) (now (a .prefix)) (now (a .s)) (a .at) (w .k + 1)
+    (w .first * domain t + getD (now (a .prefix)) (variable t) 0) (w .count)
 fixed c =
     let t = c .before .before .before .before in
     let a = start t .args in
     let q = start t .pre in
     let w = t .before .loop in
-    running-fixed (now (a .sizes)) (now (a .prefix)) (now (a .s)) (a .at) (q .0) (q .1) (w .k) (w .first) (w .count) (w .inv) (t .loop-test .taken) (c .before .if1 .left) (c .if2 .left) (below c)
+    running-fixed (now (a .sizes)) (now (a .prefix)) (now (a .s)) (a .at) (q .0) (q .1) (w .k) (w .first) (w .count)
+    (w .inv) (t .loop-test .taken) (c .before .if1 .left) (c .if2 .left) (below c)
 
 add-a : tie.Need-add-a Inv-loop μ-loop
 add-a c =
@@ -102,25 +114,13 @@ shared-slice-read-v c =
 cast-v : tie.Need-cast-v Inv-loop μ-loop
 cast-v c = omega (arith, c .shared-slice-known2 .given (start (c .before) .args .at + 4 + c .before .before .loop .k))
 
-shared-slice-read-d : tie.Need-shared-slice-read-d Inv-loop μ-loop
-shared-slice-read-d c = exists (c .before .before)
-
-cast-d : tie.Need-cast-d Inv-loop μ-loop
-cast-d c = omega (arith, size (c .before .before))
-
 add-k : tie.Need-add-k Inv-loop μ-loop
 add-k c =
     let a = start (c .before .before) .args in
     omega (arith, whole-few (now (a .sizes)) (now (a .s)) (a .at) (start (c .before .before) .pre .0))
 
-mul-first : tie.Need-mul-first Inv-loop μ-loop
-mul-first c = omega (arith, fits (c .before .before))
-
 mul-count : tie.Need-mul-count Inv-loop μ-loop
 mul-count c = omega (arith, fits (c .before .before .before))
-
-loop-less : tie.Need-loop-less Inv-loop μ-loop
-loop-less c = omega arith
 
 loop-again : tie.Need-loop-again Inv-loop μ-loop
 loop-again c =
@@ -128,7 +128,8 @@ loop-again c =
     let a = start t .args in
     let q = start t .pre in
     let w = t .before .loop in
-    running-free (now (a .sizes)) (now (a .prefix)) (now (a .s)) (a .at) (q .0) (q .1) (w .k) (w .first) (w .count) (w .inv) (t .loop-test .taken) (c .if1 .taken)
+    running-free (now (a .sizes)) (now (a .prefix)) (now (a .s)) (a .at) (q .0) (q .1) (w .k) (w .first) (w .count)
+    (w .inv) (t .loop-test .taken) (c .if1 .taken)
 
 returns : tie.Need-returns Inv-loop μ-loop
 returns c =
@@ -136,9 +137,6 @@ returns c =
       inside = omega arith;
       least = λ h. absurd (omega arith);
     }
-
-shared-slice-read-first : tie.Need-shared-slice-read-first Inv-loop μ-loop
-shared-slice-read-first c = omega (arith, c .before .before .if1 .left)
 
 cast-first : tie.Need-cast-first Inv-loop μ-loop
 cast-first c = omega (arith, below (c .before), size (c .before .before .before .before .before))
@@ -148,13 +146,11 @@ add-first c =
     let t = c .before .before .before .before .before in
     let a = start t .args in
     let q = start t .pre in
-    omega (arith, running-inside (now (a .sizes)) (now (a .prefix)) (now (a .s)) (a .at) (q .0) (q .1) _ _ _ (fixed (c .before)), whole-long (now (a .sizes)) (now (a .s)) (a .at) (q .0))
-
-loop-less-2 : tie.Need-loop-less-2 Inv-loop μ-loop
-loop-less-2 c = omega arith
-
-loop-again-2 : tie.Need-loop-again-2 Inv-loop μ-loop
-loop-again-2 c = fixed (c .before)
+    omega (
+      arith,
+      running-inside (now (a .sizes)) (now (a .prefix)) (now (a .s)) (a .at) (q .0) (q .1) _ _ _ (fixed (c .before)),
+      whole-long (now (a .sizes)) (now (a .s)) (a .at) (q .0),
+    )
 
 returns-2 : tie.Need-returns-2 Inv-loop μ-loop
 returns-2 c =
@@ -163,8 +159,12 @@ returns-2 c =
     let w = c .before .loop in
     let end : w .k ≡ getD (now (a .s)) (a .at + 3) 0 = omega (arith, w .inv .inside) in
     record {
-      inside = running-inside (now (a .sizes)) (now (a .prefix)) (now (a .s)) (a .at) (q .0) (q .1) (w .k) (w .first) (w .count) (w .inv);
-      least = λ h. running-end (now (a .sizes)) (now (a .prefix)) (now (a .s)) (a .at) (q .0) (q .1) (w .k) (w .first) (w .count) (w .inv) end;
+      inside =
+          running-inside (now (a .sizes)) (now (a .prefix)) (now (a .s)) (a .at) (q .0) (q .1) (w .k) (w .first)
+          (w .count) (w .inv);
+      least =
+          λ h. running-end (now (a .sizes)) (now (a .prefix)) (now (a .s)) (a .at) (q .0) (q .1) (w .k) (w .first)
+          (w .count) (w .inv) end;
     }
 
 pub run-at-spec : {M : Type 1} → statement M
@@ -181,17 +181,17 @@ run-at-spec =
     add-v-2
     shared-slice-read-v
     cast-v
-    shared-slice-read-d
-    cast-d
+    (λ c. exists (c .before .before))  -- shared-slice-read-d
+    (λ c. omega (arith, size (c .before .before)))  -- cast-d
     add-k
-    mul-first
+    (λ c. omega (arith, fits (c .before .before)))  -- mul-first
     mul-count
-    loop-less
+    (λ c. omega arith)  -- loop-less
     loop-again
     returns
-    shared-slice-read-first
+    (λ c. omega (arith, c .before .before .if1 .left))  -- shared-slice-read-first
     cast-first
     add-first
-    loop-less-2
-    loop-again-2
+    (λ c. omega arith)  -- loop-less-2
+    (λ c. fixed (c .before))  -- loop-again-2
     returns-2)

@@ -11,9 +11,6 @@ use borrow.Author.Needs.{needs}
 use Rattle.costs.proofs.table_entry.Statement.{statement}
 use Rattle.costs.proofs.table_entry.Tie as tie
 
-add-a : tie.Need-add-a
-add-a c = search needs
-
 shared-slice-read-a : tie.Need-shared-slice-read-a
 shared-slice-read-a c =
     let a = c .before .before .before .args in
@@ -22,9 +19,6 @@ shared-slice-read-a c =
 
 cast-a : tie.Need-cast-a
 cast-a c = omega (arith, c .shared-slice-known3 .given (c .before .before .before .args .at + 3))
-
-add-four-at : tie.Need-add-four-at
-add-four-at c = search needs
 
 add-four-at-2 : tie.Need-add-four-at-2
 add-four-at-2 c =
@@ -50,9 +44,6 @@ four-at-requires c κs =
     let q = c .before .before .before .pre in
     omega (arith, entry-inside (now (a .sizes)) (now (a .s)) (a .at) (a .i) (q .1) (q .0))
 
-weigh-requires : tie.Need-weigh-requires
-weigh-requires c κs = search needs
-
 returns : tie.Need-returns
 returns c =
     let read = c .before in
@@ -65,13 +56,13 @@ pub table-entry-spec : {M : Type 1} → statement M
 table-entry-spec =
     tie.close
     (tie.spec
-    add-a
+    (λ c. search needs)  -- add-a
     shared-slice-read-a
     cast-a
-    add-four-at
+    (λ c. search needs)  -- add-four-at
     add-four-at-2
     mul-four-at
     add-four-at-3
     four-at-requires
-    weigh-requires
+    (λ c κs. search needs)  -- weigh-requires
     returns)

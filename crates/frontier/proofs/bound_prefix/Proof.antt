@@ -6,9 +6,6 @@ use Rattle.frontier.proofs.Promises.{bound-promise}
 use Rattle.frontier.proofs.bound_prefix.Statement.{statement}
 use Rattle.frontier.proofs.bound_prefix.Tie as tie
 
-bound-of-requires : tie.Need-bound-of-requires
-bound-of-requires c κs = search needs
-
 returns : tie.Need-returns
 returns c =
     let known : tie.After-shared-slice-known = c .before .before in
@@ -17,4 +14,8 @@ returns c =
     (c .bound-of .result) (c .bound-of .ensures)
 
 pub bound-prefix-spec : {M : Type 1} → statement M
-bound-prefix-spec = tie.close (tie.spec bound-of-requires returns)
+bound-prefix-spec =
+    tie.close
+    (tie.spec
+    (λ c κs. search needs)  -- bound-of-requires
+    returns)

@@ -6,21 +6,6 @@ use Rattle.frontier.proofs.Promises.{cut-export}
 use Rattle.frontier.proofs.frontier_cut.Statement.{statement}
 use Rattle.frontier.proofs.frontier_cut.Tie as tie
 
-solve-cut-requires : tie.Need-solve-cut-requires
-solve-cut-requires c κs = search needs
-
-tell-halves-requires : tie.Need-tell-halves-requires
-tell-halves-requires c κs = search needs
-
-same-length : tie.Need-same-length
-same-length c = search needs
-
-same-length-2 : tie.Need-same-length-2
-same-length-2 c = search needs
-
-same-length-3 : tie.Need-same-length-3
-same-length-3 c = search needs
-
 returns : tie.Need-returns
 returns c =
     let lent : tie.After-tell-halves-arg = c .before .before .before .before in
@@ -35,4 +20,11 @@ returns c =
 
 pub frontier-cut-spec : {M : Type 1} → statement M
 frontier-cut-spec =
-    tie.close (tie.spec solve-cut-requires tell-halves-requires same-length same-length-2 same-length-3 returns)
+    tie.close
+    (tie.spec
+    (λ c κs. search needs)  -- solve-cut-requires
+    (λ c κs. search needs)  -- tell-halves-requires
+    (λ c. search needs)  -- same-length
+    (λ c. search needs)  -- same-length-2
+    (λ c. search needs)  -- same-length-3
+    returns)

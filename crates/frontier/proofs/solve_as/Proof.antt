@@ -7,18 +7,6 @@ use Rattle.frontier.proofs.Promises.{solve-promise}
 use Rattle.frontier.proofs.solve_as.Statement.{statement}
 use Rattle.frontier.proofs.solve_as.Tie as tie
 
-solve-with-requires : tie.Need-solve-with-requires
-solve-with-requires c κs = search needs
-
-same-length : tie.Need-same-length
-same-length c = search needs
-
-same-length-2 : tie.Need-same-length-2
-same-length-2 c = search needs
-
-same-length-3 : tie.Need-same-length-3
-same-length-3 c = search needs
-
 returns : tie.Need-returns
 returns c =
     let copied : tie.After-choices = c .before .before .before in
@@ -31,4 +19,11 @@ returns c =
     (solved .solve-with .result) (solved .solve-with .ensures)
 
 pub solve-as-spec : {M : Type 1} → statement M
-solve-as-spec = tie.close (tie.spec solve-with-requires same-length same-length-2 same-length-3 returns)
+solve-as-spec =
+    tie.close
+    (tie.spec
+    (λ c κs. search needs)  -- solve-with-requires
+    (λ c. search needs)  -- same-length
+    (λ c. search needs)  -- same-length-2
+    (λ c. search needs)  -- same-length-3
+    returns)

@@ -7,18 +7,6 @@ use Rattle.frontier.proofs.Promises.{cut-promise}
 use Rattle.frontier.proofs.solve_cut.Statement.{statement}
 use Rattle.frontier.proofs.solve_cut.Tie as tie
 
-cut-problem-requires : tie.Need-cut-problem-requires
-cut-problem-requires c κs = search needs
-
-same-length : tie.Need-same-length
-same-length c = search needs
-
-same-length-2 : tie.Need-same-length-2
-same-length-2 c = search needs
-
-same-length-3 : tie.Need-same-length-3
-same-length-3 c = search needs
-
 returns : tie.Need-returns
 returns c =
     let copied : tie.After-choices = c .before .before .before in
@@ -31,4 +19,11 @@ returns c =
     (cut .cut-problem .result) (cut .cut-problem .ensures)
 
 pub solve-cut-spec : {M : Type 1} → statement M
-solve-cut-spec = tie.close (tie.spec cut-problem-requires same-length same-length-2 same-length-3 returns)
+solve-cut-spec =
+    tie.close
+    (tie.spec
+    (λ c κs. search needs)  -- cut-problem-requires
+    (λ c. search needs)  -- same-length
+    (λ c. search needs)  -- same-length-2
+    (λ c. search needs)  -- same-length-3
+    returns)

@@ -1,4 +1,5 @@
--- `groups::add_group` meets its contract. The invariant, `Adding`: the group of the places passed is written, and nothing else.
+-- `groups::add_group` meets its contract. The invariant, `Adding`: the group of the places passed is written, and
+-- nothing else.
 use mathlib.Core.Path.{sym, _∙_}
 use mathlib.Core.Logic.{⊎-elim}
 use Prim.Native.Nat.{_+_, _-_, _≤_, _<_}
@@ -10,7 +11,8 @@ use Rattle.layout.specs.Layout.{recordsAt}
 use Rattle.groups.specs.Groups.{groupOf}
 use Rattle.problem.proofs.Scopes.{whole-inside}
 use Rattle.groups.proofs.Keeping.{touches, group-keeps}
-use Rattle.groups.proofs.Adding.{Adding, adding-start, adding-length, adding-end, adding-has, adding-skip, adding-below, adding-next}
+use Rattle.groups.proofs.Adding.{Adding, adding-start, adding-length, adding-end, adding-has, adding-skip}
+use Rattle.groups.proofs.Adding.{adding-below, adding-next}
 use Rattle.groups.proofs.PlacedRecords.{group-apart}
 use Rattle.groups.proofs.add_group.Statement.{statement}
 use Rattle.groups.proofs.add_group.Tie as tie
@@ -19,7 +21,8 @@ use Rattle.groups.proofs.add_group.Lts as lts
 use Rattle.groups.proofs.has_variable.Reads as has-variable-reads
 
 abbrev Inv-loop : tie.InvT-loop
-Inv-loop s sizes r v from work₀ end₀ i₀ work end i = Adding (touches s v) (groupOf s v) work₀ r recordsAt from work end i
+Inv-loop s sizes r v from work₀ end₀ i₀ work end i =
+    Adding (touches s v) (groupOf s v) work₀ r recordsAt from work end i
 
 abbrev μ-loop : tie.MeasureT-loop
 μ-loop s sizes r v from work₀ end₀ i₀ work end i = r - i
@@ -28,7 +31,8 @@ loop-holds : tie.Need-loop-holds Inv-loop μ-loop
 loop-holds c =
     let a = c .before .before .before .args in
     let q = c .before .before .before .pre in
-    adding-start (group-keeps (now (a .s)) (a .v)) (group-apart (now (a .sizes)) (now (a .s)) (now (a .work)) (a .r) (q .0) (a .v) (a .from) (q .2))
+    adding-start (group-keeps (now (a .s)) (a .v))
+    (group-apart (now (a .sizes)) (now (a .s)) (now (a .work)) (a .r) (q .0) (a .v) (a .from) (q .2))
 
 add-at : tie.Need-add-at Inv-loop μ-loop
 add-at c = omega (arith, c .before .before .before .before .before .pre .0 .few)
@@ -48,30 +52,20 @@ has-variable-requires : tie.Need-has-variable-requires Inv-loop μ-loop
 has-variable-requires c κs =
     let a = c .before .before .before .before .before .before .args in
     let q = c .before .before .before .before .before .before .pre in
-    whole-inside (now (a .sizes)) (now (a .s)) _ (adding-has (c .before .before .loop .inv) (omega arith) (Whole (now (a .sizes)) (now (a .s))) (q .0 .whole))
+    whole-inside (now (a .sizes)) (now (a .s)) _
+    (adding-has (c .before .before .loop .inv) (omega arith) (Whole (now (a .sizes)) (now (a .s))) (q .0 .whole))
 
 -- a place that is kept has room
-room : (c : lts.Then1 (has-variable-reads.Asked, has-variable-reads.Learnt) reads.Pre reads.Post Inv-loop μ-loop) → let w = c .before .before .before .before .loop in (w .end < recordsAt) × (recordsAt ≤ length (w .work))
+room : (c : lts.Then1 (has-variable-reads.Asked, has-variable-reads.Learnt) reads.Pre reads.Post Inv-loop μ-loop)
+    → let w = c .before .before .before .before .loop in (w .end < recordsAt) × (recordsAt ≤ length (w .work))
 room c =
     let q = c .before .before .before .before .before .before .before .before .pre in
     let u = c .before .before .before .before .loop .inv in
     let has = sym (c .before .has-variable .ensures) ∙ c .if1 .taken in
     (omega (arith, adding-below u (omega arith) has, q .2), omega (arith, u .parts .inside, adding-length u))
 
-mul-work : tie.Need-mul-work Inv-loop μ-loop
-mul-work c = omega (arith, room c)
-
-slice-write-work : tie.Need-slice-write-work Inv-loop μ-loop
-slice-write-work c = omega (arith, room c)
-
-add-end : tie.Need-add-end Inv-loop μ-loop
-add-end c = omega (arith, room c)
-
 add-i : tie.Need-add-i Inv-loop μ-loop
 add-i c = omega (arith, c .before .before .before .before .before .before .before .before .pre .0 .few)
-
-loop-less : tie.Need-loop-less Inv-loop μ-loop
-loop-less c = omega arith
 
 loop-again : tie.Need-loop-again Inv-loop μ-loop
 loop-again c =
@@ -81,12 +75,6 @@ loop-again c =
     (λ t. rw (t .1, t .2) (adding-next u (omega arith) (says ∙ t .0 .taken)))
     (λ t. rw (t .1, t .2) (adding-skip u (omega arith) (says ∙ t .0 .left)))
     (c .if1 .came)
-
-same-length : tie.Need-same-length Inv-loop μ-loop
-same-length c = adding-length (c .before .loop .inv)
-
-returns : tie.Need-returns Inv-loop μ-loop
-returns c = adding-end (c .before .loop .inv) (omega arith)
 
 pub add-group-spec : {M : Type 1} → statement M
 add-group-spec =
@@ -100,11 +88,11 @@ add-group-spec =
     slice-read-at
     cast-has-variable
     has-variable-requires
-    mul-work
-    slice-write-work
-    add-end
+    (λ c. omega (arith, room c))  -- mul-work
+    (λ c. omega (arith, room c))  -- slice-write-work
+    (λ c. omega (arith, room c))  -- add-end
     add-i
-    loop-less
+    (λ c. omega arith)  -- loop-less
     loop-again
-    same-length
-    returns)
+    (λ c. adding-length (c .before .loop .inv))  -- same-length
+    (λ c. adding-end (c .before .loop .inv) (omega arith)))  -- returns

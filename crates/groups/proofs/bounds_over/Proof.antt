@@ -26,21 +26,20 @@ loop-holds : tie.Need-loop-holds Inv-loop μ-loop
 loop-holds c =
     let a = c .before .before .before .before .args in
     let q = c .before .before .before .before .pre in
-    sums-start (leastOf (now (a .sizes)) (now (a .prefix))) (now (a .sizes)) (now (a .s)) (now (a .work)) (a .from) (a .to) (q .1) (q .2) (q .3) (q .4)
+    sums-start (leastOf (now (a .sizes)) (now (a .prefix))) (now (a .sizes)) (now (a .s)) (now (a .work)) (a .from)
+    (a .to) (q .1) (q .2) (q .3) (q .4)
 
 -- the next place has a whole record
-whole : (c : lts.In-loop (least-at-reads.Asked, least-at-reads.Learnt) reads.Pre reads.Post Inv-loop μ-loop) → let a = c .before .before .before .before .before .before .args in Whole (now (a .sizes)) (now (a .s)) (getD (now (a .work)) (c .before .loop .i) 0)
+whole : (c : lts.In-loop (least-at-reads.Asked, least-at-reads.Learnt) reads.Pre reads.Post Inv-loop μ-loop)
+    → let a = c .before .before .before .before .before .before .args in
+    Whole (now (a .sizes)) (now (a .s)) (getD (now (a .work)) (c .before .loop .i) 0)
 whole c = place-whole (c .before .loop .inv) (omega arith)
 
 -- and its objective exists
-own : (c : lts.In-loop (least-at-reads.Asked, least-at-reads.Learnt) reads.Pre reads.Post Inv-loop μ-loop) → let a = c .before .before .before .before .before .before .args in getD (now (a .s)) (getD (now (a .work)) (c .before .loop .i) 0 + 2) 0 < maxObjectives
+own : (c : lts.In-loop (least-at-reads.Asked, least-at-reads.Learnt) reads.Pre reads.Post Inv-loop μ-loop)
+    → let a = c .before .before .before .before .before .before .args in
+    getD (now (a .s)) (getD (now (a .work)) (c .before .loop .i) 0 + 2) 0 < maxObjectives
 own c = rw getD-drop at (whole c .owner)
-
-mul-at : tie.Need-mul-at Inv-loop μ-loop
-mul-at c = omega (arith, c .before .loop .inv .inside)
-
-shared-slice-read-at : tie.Need-shared-slice-read-at Inv-loop μ-loop
-shared-slice-read-at c = omega (arith, c .before .before .loop .inv .inside)
 
 cast-at : tie.Need-cast-at Inv-loop μ-loop
 cast-at c = omega (arith, c .shared-slice-known5 .given (c .before .before .loop .i))
@@ -55,15 +54,6 @@ shared-slice-read-o c =
     let a = c .before .before .before .before .before .before .before .before .args in
     omega (arith, whole-long (now (a .sizes)) (now (a .s)) _ (whole (c .before .before)))
 
-cast-o : tie.Need-cast-o Inv-loop μ-loop
-cast-o c = omega (arith, own (c .before .before))
-
-mul-sums : tie.Need-mul-sums Inv-loop μ-loop
-mul-sums c = omega (arith, own (c .before .before))
-
-array-read-sums : tie.Need-array-read-sums Inv-loop μ-loop
-array-read-sums c = omega (arith, own (c .before .before))
-
 least-at-requires : tie.Need-least-at-requires Inv-loop μ-loop
 least-at-requires c κs =
     let q = c .before .before .before .before .before .before .before .before .pre in
@@ -73,7 +63,11 @@ add-sums : tie.Need-add-sums Inv-loop μ-loop
 add-sums c =
     let a = c .before .before .before .before .before .before .before .before .before .args in
     let w = c .before .before .before .before .loop in
-    omega (arith, c .least-at .ensures .1, sums-small (w .inv) (getD (now (a .s)) (getD (now (a .work)) (w .i) 0 + 2) 0))
+    omega (
+      arith,
+      c .least-at .ensures .1,
+      sums-small (w .inv) (getD (now (a .s)) (getD (now (a .work)) (w .i) 0 + 2) 0),
+    )
 
 mul-sums-2 : tie.Need-mul-sums-2 Inv-loop μ-loop
 mul-sums-2 c = omega (arith, own (c .before .before .before))
@@ -84,18 +78,13 @@ array-write-sums c = omega (arith, own (c .before .before .before))
 add-i : tie.Need-add-i Inv-loop μ-loop
 add-i c = omega (arith, c .before .before .before .before .loop .inv .inside)
 
-loop-less : tie.Need-loop-less Inv-loop μ-loop
-loop-less c = omega arith
-
 loop-again : tie.Need-loop-again Inv-loop μ-loop
 loop-again c =
     let a = c .before .before .before .before .before .before .before .before .before .args in
     let w = c .before .before .before .before .loop in
     let cost = c .least-at in
-    sums-next (w .inv) (omega arith) _ (cost .result) (sym (getD-drop _ (now (a .s)) 2 0)) (cost .ensures .0) (cost .ensures .1)
-
-returns : tie.Need-returns Inv-loop μ-loop
-returns c = sums-end (c .before .loop .inv) (omega arith)
+    sums-next (w .inv) (omega arith) _ (cost .result) (sym (getD-drop _ (now (a .s)) 2 0)) (cost .ensures .0)
+    (cost .ensures .1)
 
 pub bounds-over-spec : {M : Type 1} → statement M
 bounds-over-spec =
@@ -104,19 +93,19 @@ bounds-over-spec =
     Inv-loop
     μ-loop
     loop-holds
-    mul-at
-    shared-slice-read-at
+    (λ c. omega (arith, c .before .loop .inv .inside))  -- mul-at
+    (λ c. omega (arith, c .before .before .loop .inv .inside))  -- shared-slice-read-at
     cast-at
     add-o
     shared-slice-read-o
-    cast-o
-    mul-sums
-    array-read-sums
+    (λ c. omega (arith, own (c .before .before)))  -- cast-o
+    (λ c. omega (arith, own (c .before .before)))  -- mul-sums
+    (λ c. omega (arith, own (c .before .before)))  -- array-read-sums
     least-at-requires
     add-sums
     mul-sums-2
     array-write-sums
     add-i
-    loop-less
+    (λ c. omega arith)  -- loop-less
     loop-again
-    returns)
+    (λ c. sums-end (c .before .loop .inv) (omega arith)))  -- returns

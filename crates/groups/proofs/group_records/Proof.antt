@@ -1,10 +1,12 @@
--- `groups::group_records` meets its contract. The invariant, `Grouping`: the groups of the variables passed are written, each with its start.
+-- `groups::group_records` meets its contract. The invariant, `Grouping`: the groups of the variables passed are
+-- written, each with its start.
 use mathlib.Core.Path.{_≡_}
 use Prim.Native.Nat.{_-_, _≤_}
 use native.Mathlib.Omega.{arith}
 use lib.ListN.{length, length-set}
 use denote.Ref.{now}
-use Rattle.groups.proofs.Grouping.{Grouping, grouping-start, grouping-next, grouping-end, end-inside, marked-placed, marked-room}
+use Rattle.groups.proofs.Grouping.{Grouping, grouping-start, grouping-next, grouping-end, end-inside}
+use Rattle.groups.proofs.Grouping.{marked-placed, marked-room}
 use Rattle.groups.proofs.group_records.Statement.{statement}
 use Rattle.groups.proofs.group_records.Tie as tie
 
@@ -24,7 +26,10 @@ cast-work c =
     let a = c .before .before .before .before .before .args in
     let q = c .before .before .before .before .before .pre in
     let w = c .before .loop in
-    omega (arith, end-inside (now (a .sizes)) (now (a .s)) (now (a .work)) (a .r) q (w .work) (w .end) (w .v) (w .inv .1))
+    omega (
+      arith,
+      end-inside (now (a .sizes)) (now (a .s)) (now (a .work)) (a .r) q (w .work) (w .end) (w .v) (w .inv .1),
+    )
 
 mul-work : tie.Need-mul-work Inv-loop μ-loop
 mul-work c =
@@ -42,29 +47,37 @@ add-group-requires : tie.Need-add-group-requires Inv-loop μ-loop
 add-group-requires c κs =
     let a = c .before .before .before .before .before .before .args in
     let q = c .before .before .before .before .before .before .pre in
-    let w = c .before .before .loop in
-    (marked-placed (now (a .sizes)) (now (a .s)) (now (a .work)) (a .r) q (w .work) (w .end) (w .v) (w .inv .1) _ _ (omega (arith, q .variables)), omega (arith, w .inv .1 .ends), marked-room (now (a .sizes)) (now (a .s)) (now (a .work)) (a .r) q (w .work) (w .end) (w .v) (w .inv .1) _ _ (omega (arith, q .variables)))
+    let w = c .before .before .loop in (
+      marked-placed (now (a .sizes)) (now (a .s)) (now (a .work)) (a .r) q (w .work) (w .end) (w .v) (w .inv .1) _ _
+          (omega (arith, q .variables)),
+      omega (arith, w .inv .1 .ends),
+      marked-room (now (a .sizes)) (now (a .s)) (now (a .work)) (a .r) q (w .work) (w .end) (w .v) (w .inv .1) _ _
+          (omega (arith, q .variables)),
+    )
 
 add-v : tie.Need-add-v Inv-loop μ-loop
 add-v c = omega (arith, c .before .before .before .before .before .before .before .before .before .pre .variables)
-
-loop-less : tie.Need-loop-less Inv-loop μ-loop
-loop-less c = omega arith
 
 loop-again : tie.Need-loop-again Inv-loop μ-loop
 loop-again c =
     let a = c .before .before .before .before .before .before .before .before .before .args in
     let q = c .before .before .before .before .before .before .before .before .before .pre in
     let w = c .before .before .before .before .before .loop in
-    let says = c .before .before .add-group .ensures in
-    (omega arith, grouping-next (now (a .sizes)) (now (a .s)) (now (a .work)) (a .r) q (w .work) (w .end) (w .v) (w .inv .1) (omega (arith, q .variables)) _ _ (says .0) (says .1))
+    let says = c .before .before .add-group .ensures in (
+      omega arith,
+      grouping-next (now (a .sizes)) (now (a .s)) (now (a .work)) (a .r) q (w .work) (w .end) (w .v) (w .inv .1)
+          (omega (arith, q .variables)) _ _ (says .0) (says .1),
+    )
 
 cast-work-2 : tie.Need-cast-work-2 Inv-loop μ-loop
 cast-work-2 c =
     let a = c .before .before .before .before .before .args in
     let q = c .before .before .before .before .before .pre in
     let w = c .before .loop in
-    omega (arith, end-inside (now (a .sizes)) (now (a .s)) (now (a .work)) (a .r) q (w .work) (w .end) (w .v) (w .inv .1))
+    omega (
+      arith,
+      end-inside (now (a .sizes)) (now (a .s)) (now (a .work)) (a .r) q (w .work) (w .end) (w .v) (w .inv .1),
+    )
 
 mul-work-2 : tie.Need-mul-work-2 Inv-loop μ-loop
 mul-work-2 c =
@@ -89,7 +102,9 @@ returns c =
     let q = c .before .before .before .before .before .pre in
     let w = c .before .loop in
     let last : w .v ≡ length (now (a .sizes)) = omega arith in
-    rw last at (grouping-end (now (a .sizes)) (now (a .s)) (now (a .work)) (a .r) q (w .work) (w .end) (w .v) (w .inv .1) (omega (arith, q .variables)) last)
+    rw last
+    at (grouping-end (now (a .sizes)) (now (a .s)) (now (a .work)) (a .r) q (w .work) (w .end) (w .v) (w .inv .1)
+    (omega (arith, q .variables)) last)
 
 pub group-records-spec : {M : Type 1} → statement M
 group-records-spec =
@@ -103,7 +118,7 @@ group-records-spec =
     slice-write-work
     add-group-requires
     add-v
-    loop-less
+    (λ c. omega arith)  -- loop-less
     loop-again
     cast-work-2
     mul-work-2

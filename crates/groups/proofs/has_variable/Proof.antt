@@ -12,25 +12,14 @@ use Rattle.groups.proofs.has_variable.Statement.{statement}
 use Rattle.groups.proofs.has_variable.Tie as tie
 
 abbrev Inv-loop : tie.InvT-loop
-Inv-loop s at v a i₀ i = (i ≤ a) × (hasVariable v (drop i (tableScope (drop at s))) ≡ hasVariable v (tableScope (drop at s)))
+Inv-loop s at v a i₀ i =
+    (i ≤ a) × (hasVariable v (drop i (tableScope (drop at s))) ≡ hasVariable v (tableScope (drop at s)))
 
 abbrev μ-loop : tie.MeasureT-loop
 μ-loop s at v a i₀ i = a - i
 
-add-a : tie.Need-add-a Inv-loop μ-loop
-add-a c = omega arith
-
-shared-slice-read-a : tie.Need-shared-slice-read-a Inv-loop μ-loop
-shared-slice-read-a c = omega arith
-
 cast-a : tie.Need-cast-a Inv-loop μ-loop
 cast-a c = omega (arith, c .shared-slice-known .given (c .before .args .at + 3))
-
-loop-holds : tie.Need-loop-holds Inv-loop μ-loop
-loop-holds c = (omega arith, refl)
-
-add-if1 : tie.Need-add-if1 Inv-loop μ-loop
-add-if1 c = omega arith
 
 add-if1-2 : tie.Need-add-if1-2 Inv-loop μ-loop
 add-if1-2 c =
@@ -43,7 +32,11 @@ shared-slice-read-if1 c =
     omega (arith, arity-inside (now (a .s)) (a .at) (c .before .before .before .before .pre))
 
 cast-if1 : tie.Need-cast-if1 Inv-loop μ-loop
-cast-if1 c = omega (arith, c .shared-slice-known2 .given (c .before .before .before .before .args .at + 4 + c .before .before .loop .i))
+cast-if1 c =
+    omega (
+      arith,
+      c .shared-slice-known2 .given (c .before .before .before .before .args .at + 4 + c .before .before .loop .i),
+    )
 
 returns : tie.Need-returns Inv-loop μ-loop
 unfolding hasVariable
@@ -58,9 +51,6 @@ add-i : tie.Need-add-i Inv-loop μ-loop
 add-i c =
     let a = c .before .before .before .before .before .args in
     omega (arith, arity-inside (now (a .s)) (a .at) (c .before .before .before .before .before .pre))
-
-loop-less : tie.Need-loop-less Inv-loop μ-loop
-loop-less c = omega arith
 
 loop-again : tie.Need-loop-again Inv-loop μ-loop
 unfolding hasVariable
@@ -84,16 +74,16 @@ has-variable-spec =
     (tie.spec
     Inv-loop
     μ-loop
-    add-a
-    shared-slice-read-a
+    (λ c. omega arith)  -- add-a
+    (λ c. omega arith)  -- shared-slice-read-a
     cast-a
-    loop-holds
-    add-if1
+    (λ c. (omega arith, refl))  -- loop-holds
+    (λ c. omega arith)  -- add-if1
     add-if1-2
     shared-slice-read-if1
     cast-if1
     returns
     add-i
-    loop-less
+    (λ c. omega arith)  -- loop-less
     loop-again
     returns-2)

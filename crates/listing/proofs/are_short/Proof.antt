@@ -9,30 +9,6 @@ use Rattle.listing.proofs.FourCeilings.{four-short}
 use Rattle.listing.proofs.are_short.Statement.{statement}
 use Rattle.listing.proofs.are_short.Tie as tie
 
-array-read-larger : tie.Need-array-read-larger
-array-read-larger c = search needs
-
-array-read-larger-2 : tie.Need-array-read-larger-2
-array-read-larger-2 c = search needs
-
-larger-requires : tie.Need-larger-requires
-larger-requires c κs = search needs
-
-array-read-larger-3 : tie.Need-array-read-larger-3
-array-read-larger-3 c = search needs
-
-array-read-larger-4 : tie.Need-array-read-larger-4
-array-read-larger-4 c = search needs
-
-larger-requires-2 : tie.Need-larger-requires-2
-larger-requires-2 c κs = search needs
-
-larger-requires-3 : tie.Need-larger-requires-3
-larger-requires-3 c κs = search needs
-
-returns : tie.Need-returns
-returns c = λ t. absurd (false≢true t)
-
 returns-2 : tie.Need-returns-2
 returns-2 c =
     let all = c .before in
@@ -52,12 +28,12 @@ pub are-short-spec : {M : Type 1} → statement M
 are-short-spec =
     tie.close
     (tie.spec
-    array-read-larger
-    array-read-larger-2
-    larger-requires
-    array-read-larger-3
-    array-read-larger-4
-    larger-requires-2
-    larger-requires-3
-    returns
+    (λ c. search needs)  -- array-read-larger
+    (λ c. search needs)  -- array-read-larger-2
+    (λ c κs. search needs)  -- larger-requires
+    (λ c. search needs)  -- array-read-larger-3
+    (λ c. search needs)  -- array-read-larger-4
+    (λ c κs. search needs)  -- larger-requires-2
+    (λ c κs. search needs)  -- larger-requires-3
+    (λ c t. absurd (false≢true t))  -- returns
     returns-2)

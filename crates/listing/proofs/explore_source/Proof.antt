@@ -34,38 +34,14 @@ planned c = c .before .before
 abbrev start : tie.After-plan-source → tie.Start
 start c = begun (costly (worth (aimed c)) .before)
 
-given-up-requires : tie.Need-given-up-requires
-given-up-requires c κs = search needs
-
 returns : tie.Need-returns
 returns c = (record { long = refl; source = refl }, λ t. absurd (true-false t (c .given-up .ensures)))
-
-given-up-requires-2 : tie.Need-given-up-requires-2
-given-up-requires-2 c κs = search needs
 
 returns-2 : tie.Need-returns-2
 returns-2 c = (record { long = refl; source = refl }, λ t. absurd (true-false t (c .given-up2 .ensures)))
 
-are-short-requires : tie.Need-are-short-requires
-are-short-requires c κs = search needs
-
-given-up-requires-3 : tie.Need-given-up-requires-3
-given-up-requires-3 c κs = search needs
-
 returns-3 : tie.Need-returns-3
 returns-3 c = (record { long = refl; source = refl }, λ t. absurd (true-false t (c .given-up3 .ensures)))
-
-sub-spreads-of : tie.Need-sub-spreads-of
-sub-spreads-of c = search needs
-
-part-spreads-of-start : tie.Need-part-spreads-of-start
-part-spreads-of-start c = search needs
-
-part-spreads-of-end : tie.Need-part-spreads-of-end
-part-spreads-of-end c = search needs
-
-spreads-of-requires : tie.Need-spreads-of-requires
-spreads-of-requires c κs = spreads-asked (begun (costly (some c) .before) .pre .0)
 
 choose-directions-requires : tie.Need-choose-directions-requires
 choose-directions-requires c κs =
@@ -76,12 +52,6 @@ plan-source-requires : tie.Need-plan-source-requires
 plan-source-requires c κs =
     let aim : tie.After-choose-directions = c .before in
     (source-plannable (begun (costly (worth aim) .before) .pre .0), aim .choose-directions .ensures .0)
-
-given-up-requires-4 : tie.Need-given-up-requires-4
-given-up-requires-4 c κs = search needs
-
-same-length : tie.Need-same-length
-same-length c = search needs
 
 returns-4 : tie.Need-returns-4
 returns-4 c =
@@ -100,9 +70,6 @@ explore-requires c κs =
     (made .1 (not-false _ (sound .if4 .left))) (omega (arith, costly short .before .if1 .left))
     (short .before .are-short .ensures (not-false _ (short .if3 .left)))
 
-same-length-2 : tie.Need-same-length-2
-same-length-2 c = search needs
-
 returns-5 : tie.Need-returns-5
 returns-5 c =
     let e : tie.After-explore = c .before .before in
@@ -117,22 +84,22 @@ pub explore-source-spec : {M : Type 1} → statement M
 explore-source-spec =
     tie.close
     (tie.spec
-    given-up-requires
+    (λ c κs. search needs)  -- given-up-requires
     returns
-    given-up-requires-2
+    (λ c κs. search needs)  -- given-up-requires-2
     returns-2
-    are-short-requires
-    given-up-requires-3
+    (λ c κs. search needs)  -- are-short-requires
+    (λ c κs. search needs)  -- given-up-requires-3
     returns-3
-    sub-spreads-of
-    part-spreads-of-start
-    part-spreads-of-end
-    spreads-of-requires
+    (λ c. search needs)  -- sub-spreads-of
+    (λ c. search needs)  -- part-spreads-of-start
+    (λ c. search needs)  -- part-spreads-of-end
+    (λ c κs. spreads-asked (begun (costly (some c) .before) .pre .0))  -- spreads-of-requires
     choose-directions-requires
     plan-source-requires
-    given-up-requires-4
-    same-length
+    (λ c κs. search needs)  -- given-up-requires-4
+    (λ c. search needs)  -- same-length
     returns-4
     explore-requires
-    same-length-2
+    (λ c. search needs)  -- same-length-2
     returns-5)

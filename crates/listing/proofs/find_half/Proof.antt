@@ -56,31 +56,10 @@ sided c = c .before .before
 
 -- ## all records
 
-cast-n : tie.Need-cast-n
-cast-n c = search needs
-
-cast-p : tie.Need-cast-p
-cast-p c = search needs
-
-tables-start-requires : tie.Need-tables-start-requires
-tables-start-requires c κs = search needs
-
 array-share-prefix-sizes : tie.Need-array-share-prefix-sizes
 array-share-prefix-sizes c =
     let a = accepted (headed c) in
     omega (arith, a .room, a .few-variables)
-
-slice-aggregate-keep-places : tie.Need-slice-aggregate-keep-places
-slice-aggregate-keep-places c = sym (sized _ _ (accepted (headed (c .before))))
-
-sub-keep-places : tie.Need-sub-keep-places
-sub-keep-places c = search needs
-
-part-keep-places-start : tie.Need-part-keep-places-start
-part-keep-places-start c = search needs
-
-part-keep-places-end : tie.Need-part-keep-places-end
-part-keep-places-end c = search needs
 
 keep-places-requires : tie.Need-keep-places-requires
 keep-places-requires c κs =
@@ -116,9 +95,6 @@ array-share-prefix-sizes-3 c =
 
 slice-aggregate-keep-records : tie.Need-slice-aggregate-keep-records
 slice-aggregate-keep-records c = sym (sized _ _ (accepted (headed (started (kept (c .before))))))
-
-cast-keep-records : tie.Need-cast-keep-records
-cast-keep-records c = search needs
 
 keep-records-requires : tie.Need-keep-records-requires
 keep-records-requires c κs =
@@ -160,9 +136,6 @@ find-source-requires c κs =
     _ _ (sided chosen .keep-records .ensures) _ _ (narrow-is narrow) in
     (source, omega arith)
 
-same-length : tie.Need-same-length
-same-length c = search needs
-
 returns : tie.Need-returns
 returns c =
     let found : tie.After-find-source = c .before .before in
@@ -180,24 +153,24 @@ pub find-half-spec : {M : Type 1} → statement M
 find-half-spec =
     tie.close
     (tie.spec
-    cast-n
-    cast-p
-    tables-start-requires
+    (λ c. search needs)  -- cast-n
+    (λ c. search needs)  -- cast-p
+    (λ c κs. search needs)  -- tables-start-requires
     array-share-prefix-sizes
-    slice-aggregate-keep-places
-    sub-keep-places
-    part-keep-places-start
-    part-keep-places-end
+    (λ c. sym (sized _ _ (accepted (headed (c .before)))))  -- slice-aggregate-keep-places
+    (λ c. search needs)  -- sub-keep-places
+    (λ c. search needs)  -- part-keep-places-start
+    (λ c. search needs)  -- part-keep-places-end
     keep-places-requires
     array-share-prefix-sizes-2
     slice-aggregate-narrow
     narrow-requires
     array-share-prefix-sizes-3
     slice-aggregate-keep-records
-    cast-keep-records
+    (λ c. search needs)  -- cast-keep-records
     keep-records-requires
     array-share-prefix-narrow
     slice-aggregate-find-source
     find-source-requires
-    same-length
+    (λ c. search needs)  -- same-length
     returns)

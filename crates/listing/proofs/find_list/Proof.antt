@@ -40,31 +40,10 @@ kept c = c .before .before .before .before
 
 -- ## the records
 
-cast-n : tie.Need-cast-n
-cast-n c = search needs
-
-cast-p : tie.Need-cast-p
-cast-p c = search needs
-
-tables-start-requires : tie.Need-tables-start-requires
-tables-start-requires c κs = search needs
-
 array-share-prefix-sizes : tie.Need-array-share-prefix-sizes
 array-share-prefix-sizes c =
     let a = accepted (headed c) in
     omega (arith, a .room, a .few-variables)
-
-slice-aggregate-keep-places : tie.Need-slice-aggregate-keep-places
-slice-aggregate-keep-places c = sym (sized _ _ (accepted (headed (c .before))))
-
-sub-keep-places : tie.Need-sub-keep-places
-sub-keep-places c = search needs
-
-part-keep-places-start : tie.Need-part-keep-places-start
-part-keep-places-start c = search needs
-
-part-keep-places-end : tie.Need-part-keep-places-end
-part-keep-places-end c = search needs
 
 keep-places-requires : tie.Need-keep-places-requires
 keep-places-requires c κs =
@@ -73,9 +52,6 @@ keep-places-requires c κs =
     let s = start (headed begun) .args in
     let fits = places-fit (s .g .head .tables) sourceAt (now (s .work)) (omega (arith, a .tables, a .memory)) in
     (rw (begun .tables-start .ensures) (a .whole), a .small, fits, a .bytes)
-
-widened-requires : tie.Need-widened-requires
-widened-requires c κs = search needs
 
 -- ## the search
 
@@ -87,9 +63,6 @@ array-share-prefix-sizes-2 c =
 slice-aggregate-find-source : tie.Need-slice-aggregate-find-source
 slice-aggregate-find-source c = sym (sized _ _ (accepted (headed (started (kept (c .before))))))
 
-cast-find-source : tie.Need-cast-find-source
-cast-find-source c = search needs
-
 find-source-requires : tie.Need-find-source-requires
 find-source-requires c κs =
     let wide : tie.After-widened = c .before .before in
@@ -97,9 +70,6 @@ find-source-requires c κs =
     let says = places-at _ _ _ _ (begun .tables-start .ensures) (kept wide .keep-places .ensures) in
     let source = kept-source _ _ _ _ _ _ _ (records (headed begun)) _ says _ (wide .widened .ensures) in
     (source, start (headed begun) .pre .1)
-
-same-length : tie.Need-same-length
-same-length c = search needs
 
 returns : tie.Need-returns
 returns c =
@@ -115,19 +85,19 @@ pub find-list-spec : {M : Type 1} → statement M
 find-list-spec =
     tie.close
     (tie.spec
-    cast-n
-    cast-p
-    tables-start-requires
+    (λ c. search needs)  -- cast-n
+    (λ c. search needs)  -- cast-p
+    (λ c κs. search needs)  -- tables-start-requires
     array-share-prefix-sizes
-    slice-aggregate-keep-places
-    sub-keep-places
-    part-keep-places-start
-    part-keep-places-end
+    (λ c. sym (sized _ _ (accepted (headed (c .before)))))  -- slice-aggregate-keep-places
+    (λ c. search needs)  -- sub-keep-places
+    (λ c. search needs)  -- part-keep-places-start
+    (λ c. search needs)  -- part-keep-places-end
     keep-places-requires
-    widened-requires
+    (λ c κs. search needs)  -- widened-requires
     array-share-prefix-sizes-2
     slice-aggregate-find-source
-    cast-find-source
+    (λ c. search needs)  -- cast-find-source
     find-source-requires
-    same-length
+    (λ c. search needs)  -- same-length
     returns)

@@ -1,4 +1,5 @@
--- `listing::plan_source` meets its contract: the records are copied behind the archive's rows and planned there, and the plan is tested.
+-- `listing::plan_source` meets its contract: the records are copied behind the archive's rows and planned there, and
+-- the plan is tested.
 use borrow.Author.Needs.{needs}
 use Rattle.listing.proofs.PlanKept.{copy-asked, plan-asked, plan-kept, test-asked, plan-says}
 use Rattle.listing.proofs.plan_source.Statement.{statement}
@@ -9,56 +10,40 @@ copy-numbers-requires c κs =
     let s = c .before .before .before .before in
     copy-asked (s .pre .0) (s .args .d) (s .pre .1)
 
-sub-make-plan : tie.Need-sub-make-plan
-sub-make-plan c = search needs
-
-part-make-plan-start : tie.Need-part-make-plan-start
-part-make-plan-start c = search needs
-
-part-make-plan-end : tie.Need-part-make-plan-end
-part-make-plan-end c = search needs
-
 make-plan-requires : tie.Need-make-plan-requires
 make-plan-requires c κs =
     let s = c .before .before .before .before .before .before .before .before in
     plan-asked (s .pre .0) (s .args .d) (s .pre .1) _ (c .before .before .before .copy-numbers .ensures)
 
-sub-is-sound : tie.Need-sub-is-sound
-sub-is-sound c = search needs
-
-part-is-sound-start : tie.Need-part-is-sound-start
-part-is-sound-start c = search needs
-
-part-is-sound-end : tie.Need-part-is-sound-end
-part-is-sound-end c = search needs
-
 is-sound-requires : tie.Need-is-sound-requires
 is-sound-requires c κs =
     let s = c .before .before .before .before .before .before .before .before .before .before .before .before .before in
-    test-asked (s .pre .0) (s .args .d) (s .pre .1) _ (c .before .before .before .before .before .before .before .before .copy-numbers .ensures) _ (c .before .before .before .before .make-plan .ensures)
-
-same-length : tie.Need-same-length
-same-length c = search needs
+    test-asked (s .pre .0) (s .args .d) (s .pre .1) _
+    (c .before .before .before .before .before .before .before .before .copy-numbers .ensures) _
+    (c .before .before .before .before .make-plan .ensures)
 
 returns : tie.Need-returns
 returns c =
-    let s = c .before .before .before .before .before .before .before .before .before .before .before .before .before .before in
+    let s = c .before .before .before .before .before .before .before .before .before .before .before .before .before
+    .before in
     let copied = c .before .before .before .before .before .before .before .before .before .copy-numbers .ensures in
-    let made = c .before .before .before .before .before .make-plan .ensures in
-    (plan-kept (s .pre .0) (s .args .d) (s .pre .1) _ copied _ made, λ ok. plan-says (s .pre .0) (s .args .d) (s .pre .1) _ copied _ made (c .is-sound .ensures ok))
+    let made = c .before .before .before .before .before .make-plan .ensures in (
+      plan-kept (s .pre .0) (s .args .d) (s .pre .1) _ copied _ made,
+      λ ok. plan-says (s .pre .0) (s .args .d) (s .pre .1) _ copied _ made (c .is-sound .ensures ok),
+    )
 
 pub plan-source-spec : {M : Type 1} → statement M
 plan-source-spec =
     tie.close
     (tie.spec
     copy-numbers-requires
-    sub-make-plan
-    part-make-plan-start
-    part-make-plan-end
+    (λ c. search needs)  -- sub-make-plan
+    (λ c. search needs)  -- part-make-plan-start
+    (λ c. search needs)  -- part-make-plan-end
     make-plan-requires
-    sub-is-sound
-    part-is-sound-start
-    part-is-sound-end
+    (λ c. search needs)  -- sub-is-sound
+    (λ c. search needs)  -- part-is-sound-start
+    (λ c. search needs)  -- part-is-sound-end
     is-sound-requires
-    same-length
+    (λ c. search needs)  -- same-length
     returns)

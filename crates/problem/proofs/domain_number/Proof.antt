@@ -16,32 +16,30 @@ use Rattle.problem.proofs.domain_number.Statement.{statement}
 use Rattle.problem.proofs.domain_number.Tie as tie
 
 -- past the first test: the record's start is good
-started : (c : tie.Else1) → startNumber letterD letterO 1 (drop (c .before .before .before .args .at) (now (c .before .before .before .args .s))) ≡ 0
+started : (c : tie.Else1)
+    → startNumber letterD letterO 1
+    (drop (c .before .before .before .args .at) (now (c .before .before .before .args .s)))
+    ≡ 0
 started c = sym (c .before .start-number .ensures) ∙ c .if1 .left
 
 -- what `allows_size` answers is about the record's size
-sized : (c : tie.After-allows-size) → c .allows-size .result ≡ not (outside maxDomain (domainSize (drop (c .before .before .before .before .before .args .at) (now (c .before .before .before .before .before .args .s)))))
+sized : (c : tie.After-allows-size)
+    → c .allows-size .result
+    ≡ not (outside maxDomain
+    (domainSize (drop (c .before .before .before .before .before .args .at)
+    (now (c .before .before .before .before .before .args .s)))))
 sized c = rw getD-drop (c .allows-size .ensures)
-
-start-number-requires : tie.Need-start-number-requires
-start-number-requires c κs = search needs
 
 returns : tie.Need-returns
 returns c =
     let e = c .before .start-number .ensures in
     rw (← e) at (sym (domain-start _ (λ z. c .if1 .taken (e ∙ z))))
 
-add-allows-size : tie.Need-add-allows-size
-add-allows-size c = search needs
-
 shared-slice-read-allows-size : tie.Need-shared-slice-read-allows-size
 shared-slice-read-allows-size c =
     let a = c .before .before .before .before .args in
     let l = drop (a .at) (now (a .s)) in
     omega (arith, start-marked letterD letterO 1 l (started (c .before)) .long, length-drop (a .at) (now (a .s)))
-
-allows-size-requires : tie.Need-allows-size-requires
-allows-size-requires c κs = search needs
 
 returns-2 : tie.Need-returns-2
 returns-2 c = sym (domain-large _ (started (c .before .before .before)) (denied _ (sized (c .before)) (c .if2 .taken)))
@@ -53,10 +51,10 @@ pub domain-number-spec : {M : Type 1} → statement M
 domain-number-spec =
     tie.close
     (tie.spec
-    start-number-requires
+    (λ c κs. search needs)  -- start-number-requires
     returns
-    add-allows-size
+    (λ c. search needs)  -- add-allows-size
     shared-slice-read-allows-size
-    allows-size-requires
+    (λ c κs. search needs)  -- allows-size-requires
     returns-2
     returns-3)

@@ -12,9 +12,6 @@ use borrow.Author.Needs.{needs}
 use Rattle.problem.proofs.fields_at.Statement.{statement}
 use Rattle.problem.proofs.fields_at.Tie as tie
 
-add-arity : tie.Need-add-arity
-add-arity c = search needs
-
 shared-slice-read-arity : tie.Need-shared-slice-read-arity
 shared-slice-read-arity c =
     let a = c .before .before .before .args in
@@ -24,17 +21,15 @@ shared-slice-read-arity c =
 cast-a : tie.Need-cast-a
 cast-a c = omega (arith, c .shared-slice-known3 .given (c .before .before .before .args .at + 3))
 
-add-size-of : tie.Need-add-size-of
-add-size-of c = search needs
-
 size-of-requires : tie.Need-size-of-requires
 size-of-requires c κs =
     let a = c .before .before .before .args in
-    let w = c .before .before .before .pre .0 in
-    (omega (arith, whole-long (now (a .sizes)) (now (a .s)) (a .at) w), whole-few (now (a .sizes)) (now (a .s)) (a .at) w, whole-range (now (a .sizes)) (now (a .s)) (a .at) w, c .before .before .before .pre .1)
-
-mul-length : tie.Need-mul-length
-mul-length c = search needs
+    let w = c .before .before .before .pre .0 in (
+      omega (arith, whole-long (now (a .sizes)) (now (a .s)) (a .at) w),
+      whole-few (now (a .sizes)) (now (a .s)) (a .at) w,
+      whole-range (now (a .sizes)) (now (a .s)) (a .at) w,
+      c .before .before .before .pre .1,
+    )
 
 add-length : tie.Need-add-length
 add-length c =
@@ -48,9 +43,6 @@ add-length-2 c =
     let w = c .before .before .before .before .pre .0 in
     omega (arith, whole-few (now (a .sizes)) (now (a .s)) (a .at) w)
 
-add-t7 : tie.Need-add-t7
-add-t7 c = search needs
-
 shared-slice-read-t9 : tie.Need-shared-slice-read-t9
 shared-slice-read-t9 c =
     let a = c .before .before .before .before .before .args in
@@ -61,7 +53,8 @@ returns : tie.Need-returns
 returns c =
     let a = c .before .before .before .before .before .args in
     let w = c .before .before .before .before .before .pre .0 in
-    let size : c .before .size-of .result ≡ sizeOf (now (a .sizes)) (tableScope (drop (a .at) (now (a .s)))) = rw (scope-place (now (a .s)) (a .at)) (c .before .size-of .ensures .0) in
+    let size : c .before .size-of .result ≡ sizeOf (now (a .sizes)) (tableScope (drop (a .at) (now (a .s)))) =
+    rw (scope-place (now (a .s)) (a .at)) (c .before .size-of .ensures .0) in
     record {
       objective = rw getD-drop;
       arity = rw getD-drop;
@@ -73,14 +66,14 @@ pub fields-at-spec : {M : Type 1} → statement M
 fields-at-spec =
     tie.close
     (tie.spec
-    add-arity
+    (λ c. search needs)  -- add-arity
     shared-slice-read-arity
     cast-a
-    add-size-of
+    (λ c. search needs)  -- add-size-of
     size-of-requires
-    mul-length
+    (λ c. search needs)  -- mul-length
     add-length
     add-length-2
-    add-t7
+    (λ c. search needs)  -- add-t7
     shared-slice-read-t9
     returns)

@@ -13,7 +13,8 @@ use Rattle.model.specs.Reading.{startNumber, outside, headVariables, headObject
 use Rattle.model.proofs.Words.{two-at}
 use Rattle.model.proofs.Marks.{Marked, start-marked, not-outside}
 use Rattle.problem.proofs.Chains.{denied, allowed}
-use Rattle.problem.proofs.HeadFields.{head-start, head-variables, head-objectives, head-tables, head-short, head-whole}
+use Rattle.problem.proofs.HeadFields.{head-start, head-variables, head-objectives, head-tables, head-short}
+use Rattle.problem.proofs.HeadFields.{head-whole}
 use Rattle.problem.proofs.head_number.Statement.{statement}
 use Rattle.problem.proofs.head_number.Tie as tie
 
@@ -50,45 +51,39 @@ counted : (c : tie.After-two-at) → c .two-at .result ≡ headTables (bytes₃ 
 counted c = c .two-at .ensures .0 ∙ sym (two-at 4 _)
 
 few-tables : (c : tie.Else4) → headTables (bytes₄ c) ≤ maxTables
-few-tables c = rw (← counted (c .before .before)) (leb-true _ _ (sym (c .before .allows-tables .ensures) ∙ not-false _ (c .if4 .left)))
-
-start-number-requires : tie.Need-start-number-requires
-start-number-requires c κs = search needs
+few-tables c =
+    rw (← counted (c .before .before))
+    (leb-true _ _ (sym (c .before .allows-tables .ensures) ∙ not-false _ (c .if4 .left)))
 
 returns : tie.Need-returns
-returns c = rw (← c .before .start-number .ensures) at (sym (head-start _ (λ e. c .if1 .taken (c .before .start-number .ensures ∙ e))))
-
-shared-slice-read-allows-variables : tie.Need-shared-slice-read-allows-variables
-shared-slice-read-allows-variables c = omega (arith, marked (c .before) .long)
-
-allows-variables-requires : tie.Need-allows-variables-requires
-allows-variables-requires c κs = search needs
+returns c =
+    rw (← c .before .start-number .ensures)
+    at (sym (head-start _ (λ e. c .if1 .taken (c .before .start-number .ensures ∙ e))))
 
 returns-2 : tie.Need-returns-2
-returns-2 c = sym (head-variables _ (started (c .before .before .before)) (denied _ (c .before .allows-variables .ensures) (c .if2 .taken)))
+returns-2 c =
+    sym (head-variables _ (started (c .before .before .before))
+    (denied _ (c .before .allows-variables .ensures) (c .if2 .taken)))
 
 shared-slice-read-p : tie.Need-shared-slice-read-p
 shared-slice-read-p c = omega (arith, marked (c .before .before .before .before) .long)
 
-allows-objectives-requires : tie.Need-allows-objectives-requires
-allows-objectives-requires c κs = search needs
-
 returns-3 : tie.Need-returns-3
 returns-3 c =
     let passed = c .before .before .before in
-    sym (head-objectives _ (started (passed .before .before .before)) (few-variables passed) (denied _ (c .before .allows-objectives .ensures) (c .if3 .taken)))
+    sym (head-objectives _ (started (passed .before .before .before)) (few-variables passed)
+    (denied _ (c .before .allows-objectives .ensures) (c .if3 .taken)))
 
 two-at-requires : tie.Need-two-at-requires
 two-at-requires c κs = omega (arith, marked (c .before .before .before .before .before .before) .long)
-
-allows-tables-requires : tie.Need-allows-tables-requires
-allows-tables-requires c κs = search needs
 
 returns-4 : tie.Need-returns-4
 returns-4 c =
     let passed = c .before .before .before in
     let second = passed .before .before .before in
-    sym (head-tables _ (started (second .before .before .before)) (few-variables second) (few-objectives passed) (rw (← counted (c .before .before)) (leb-false _ _ (sym (c .before .allows-tables .ensures) ∙ not-true _ (c .if4 .taken)))))
+    sym (head-tables _ (started (second .before .before .before)) (few-variables second) (few-objectives passed)
+    (rw (← counted (c .before .before))
+    (leb-false _ _ (sym (c .before .allows-tables .ensures) ∙ not-true _ (c .if4 .taken)))))
 
 cast-if5 : tie.Need-cast-if5
 cast-if5 c = omega (arith, few-ceilings (c .before .before .before))
@@ -104,29 +99,31 @@ returns-5 c =
     let passed = c .before in
     let third = passed .before .before .before in
     let second = third .before .before .before in
-    sym (head-short _ (started (second .before .before .before)) (few-variables second) (few-objectives third) (few-tables passed) (c .if5 .taken))
+    sym (head-short _ (started (second .before .before .before)) (few-variables second) (few-objectives third)
+    (few-tables passed) (c .if5 .taken))
 
 returns-6 : tie.Need-returns-6
 returns-6 c =
     let passed = c .before in
     let third = passed .before .before .before in
     let second = third .before .before .before in
-    sym (head-whole _ (started (second .before .before .before)) (few-variables second) (few-objectives third) (few-tables passed) (c .if5 .left))
+    sym (head-whole _ (started (second .before .before .before)) (few-variables second) (few-objectives third)
+    (few-tables passed) (c .if5 .left))
 
 pub head-number-spec : {M : Type 1} → statement M
 head-number-spec =
     tie.close
     (tie.spec
-    start-number-requires
+    (λ c κs. search needs)  -- start-number-requires
     returns
-    shared-slice-read-allows-variables
-    allows-variables-requires
+    (λ c. omega (arith, marked (c .before) .long))  -- shared-slice-read-allows-variables
+    (λ c κs. search needs)  -- allows-variables-requires
     returns-2
     shared-slice-read-p
-    allows-objectives-requires
+    (λ c κs. search needs)  -- allows-objectives-requires
     returns-3
     two-at-requires
-    allows-tables-requires
+    (λ c κs. search needs)  -- allows-tables-requires
     returns-4
     cast-if5
     mul-if5

@@ -1,4 +1,5 @@
--- `keep_places` meets its contract. The invariant: the records left are whole, and writing their places after those written gives the whole.
+-- `keep_places` meets its contract. The invariant: the records left are whole, and writing their places after those
+-- written gives the whole.
 use mathlib.Core.Path.{_≡_, refl, sym, _∙_}
 use mathlib.Core.List.{_++_}
 use Prim.Native.Nat.{suc, _+_, _-_, _≤_, _<_}
@@ -25,9 +26,14 @@ abbrev μ-loop : tie.MeasureT-loop
 μ-loop s at r sizes places₀ count here₀ i₀ places here i = r - i
 
 -- in the loop: the record here is whole, and those after it
-ahead : (c : tie.In-loop Inv-loop μ-loop) → AllWhole (suc (c .before .before .before .before .before .args .r - (c .before .loop .i + 1))) (now (c .before .before .before .before .before .args .sizes)) (now (c .before .before .before .before .before .args .s)) (c .before .loop .here)
+ahead : (c : tie.In-loop Inv-loop μ-loop)
+    → AllWhole (suc (c .before .before .before .before .before .args .r - (c .before .loop .i + 1)))
+    (now (c .before .before .before .before .before .args .sizes))
+    (now (c .before .before .before .before .before .args .s)) (c .before .loop .here)
 ahead c =
-    let more : c .before .before .before .before .before .args .r - c .before .loop .i ≡ suc (c .before .before .before .before .before .args .r - (c .before .loop .i + 1)) = omega arith in
+    let more : c .before .before .before .before .before .args .r - c .before .loop .i
+    ≡ suc (c .before .before .before .before .before .args .r - (c .before .loop .i + 1)) =
+    omega arith in
     rw more at (c .before .loop .inv .1)
 
 loop-holds : tie.Need-loop-holds Inv-loop μ-loop
@@ -36,9 +42,6 @@ loop-holds c = (omega arith, rw sub-zero (c .before .before .before .pre .0), re
 cast-places : tie.Need-cast-places Inv-loop μ-loop
 cast-places c = omega (arith, ahead c .0 .long, c .before .before .before .before .before .pre .3)
 
-mul-places : tie.Need-mul-places Inv-loop μ-loop
-mul-places c = omega arith
-
 slice-write-places : tie.Need-slice-write-places Inv-loop μ-loop
 slice-write-places c = omega (arith, c .before .loop .inv .2, c .before .before .before .before .before .pre .2)
 
@@ -46,12 +49,6 @@ place-after-requires : tie.Need-place-after-requires Inv-loop μ-loop
 place-after-requires c κs =
     let known = c .before .before .before .before in
     (ahead c .0, known .before .pre .1)
-
-add-i : tie.Need-add-i Inv-loop μ-loop
-add-i c = omega arith
-
-loop-less : tie.Need-loop-less Inv-loop μ-loop
-loop-less c = omega arith
 
 loop-again : tie.Need-loop-again Inv-loop μ-loop
 loop-again c =
@@ -71,9 +68,6 @@ loop-again c =
       rw next (over-step (w .i) (w .here) rest (w .places) room ∙ rw (more, places-go) at (w .inv .3)),
     )
 
-same-length : tie.Need-same-length Inv-loop μ-loop
-same-length c = c .before .loop .inv .2
-
 returns : tie.Need-returns Inv-loop μ-loop
 returns c =
     let w = c .before .loop in
@@ -88,11 +82,11 @@ keep-places-spec =
     μ-loop
     loop-holds
     cast-places
-    mul-places
+    (λ c. omega arith)  -- mul-places
     slice-write-places
     place-after-requires
-    add-i
-    loop-less
+    (λ c. omega arith)  -- add-i
+    (λ c. omega arith)  -- loop-less
     loop-again
-    same-length
+    (λ c. c .before .loop .inv .2)  -- same-length
     returns)

@@ -5,9 +5,6 @@ use native.Mathlib.Omega.{arith}
 use Rattle.problem.proofs.next_place.Statement.{statement}
 use Rattle.problem.proofs.next_place.Tie as tie
 
-fields-at-requires : tie.Need-fields-at-requires
-fields-at-requires c κs = c .before .before .pre
-
 add-result : tie.Need-add-result
 add-result c = omega (arith, c .before .fields-at .ensures .width, c .before .before .before .before .pre .0 .long)
 
@@ -15,4 +12,9 @@ returns : tie.Need-returns
 returns c = ap (λ n. c .before .before .before .before .args .at + n) (c .before .fields-at .ensures .width)
 
 pub next-place-spec : {M : Type 1} → statement M
-next-place-spec = tie.close (tie.spec fields-at-requires add-result returns)
+next-place-spec =
+    tie.close
+    (tie.spec
+    (λ c κs. c .before .before .pre)  -- fields-at-requires
+    add-result
+    returns)

@@ -24,33 +24,15 @@ loop-holds : tie.Need-loop-holds Inv-loop μ-loop
 unfolding padded wordsIn
 loop-holds c = (omega arith, refl)
 
-mul-four-at : tie.Need-mul-four-at Inv-loop μ-loop
-mul-four-at c = omega arith
-
-add-four-at : tie.Need-add-four-at Inv-loop μ-loop
-add-four-at c = omega arith
-
-four-at-requires : tie.Need-four-at-requires Inv-loop μ-loop
-four-at-requires c κs = omega arith
-
-mul-ceilings : tie.Need-mul-ceilings Inv-loop μ-loop
-mul-ceilings c = omega arith
-
-array-write-ceilings : tie.Need-array-write-ceilings Inv-loop μ-loop
-array-write-ceilings c = omega arith
-
-add-i : tie.Need-add-i Inv-loop μ-loop
-add-i c = omega arith
-
-loop-less : tie.Need-loop-less Inv-loop μ-loop
-loop-less c = omega arith
-
 loop-again : tie.Need-loop-again Inv-loop μ-loop
 loop-again c =
     let s = now (c .before .before .before .before .args .s) in
     let w = c .before .before .loop in
-    let more = rw (← c .four-at .ensures) at (words-more 6 s (w .i)) in
-    (omega arith, padded-step maxObjectives (w .i) (λ k. wordsIn k (drop 6 s)) (w .ceilings) (c .four-at .result) (length-wordsIn (w .i) (drop 6 s)) (omega arith) more (w .inv .1))
+    let more = rw (← c .four-at .ensures) at (words-more 6 s (w .i)) in (
+      omega arith,
+      padded-step maxObjectives (w .i) (λ k. wordsIn k (drop 6 s)) (w .ceilings) (c .four-at .result)
+          (length-wordsIn (w .i) (drop 6 s)) (omega arith) more (w .inv .1),
+    )
 
 returns : tie.Need-returns Inv-loop μ-loop
 returns c =
@@ -66,12 +48,12 @@ read-ceilings-spec =
     Inv-loop
     μ-loop
     loop-holds
-    mul-four-at
-    add-four-at
-    four-at-requires
-    mul-ceilings
-    array-write-ceilings
-    add-i
-    loop-less
+    (λ c. omega arith)  -- mul-four-at
+    (λ c. omega arith)  -- add-four-at
+    (λ c κs. omega arith)  -- four-at-requires
+    (λ c. omega arith)  -- mul-ceilings
+    (λ c. omega arith)  -- array-write-ceilings
+    (λ c. omega arith)  -- add-i
+    (λ c. omega arith)  -- loop-less
     loop-again
     returns)

@@ -1,4 +1,5 @@
--- `read_domains` meets its contract. The invariant: what is left to read has the verdict of the whole, and the array is the sizes read so far, then zeros.
+-- `read_domains` meets its contract. The invariant: what is left to read has the verdict of the whole, and the array is
+-- the sizes read so far, then zeros.
 use mathlib.Core.Path.{_≡_, refl, sym, _∙_}
 use Prim.Native.Nat.{suc, _+_, _-_, _*_, _≤_}
 use native.Mathlib.Omega.{arith}
@@ -11,7 +12,8 @@ use Rattle.model.specs.Reading.{domainNumber, domainsVerdict, domainsAt}
 use Rattle.model.specs.Calls.{padded}
 use Rattle.model.proofs.DomainRecords.{length-domainsAt}
 use Rattle.problem.proofs.Filled.{padded-step}
-use Rattle.problem.proofs.DomainSteps.{domains-go, domains-stop, domains-more, domain-next, domains-refused, domains-accepted}
+use Rattle.problem.proofs.DomainSteps.{domains-go, domains-stop, domains-more, domain-next, domains-refused}
+use Rattle.problem.proofs.DomainSteps.{domains-accepted}
 use Rattle.problem.proofs.read_domains.Statement.{statement}
 use Rattle.problem.proofs.read_domains.Tie as tie
 
@@ -27,18 +29,19 @@ abbrev μ-loop : tie.MeasureT-loop
 μ-loop s at n sizes₀ here₀ i₀ sizes here i = n - i
 
 -- past the branch: the record here is good, so the next one starts in the list
-good : (c : tie.Else1 Inv-loop μ-loop) → domainNumber (drop (c .before .before .before .loop .here) (now (c .before .before .before .before .before .args .s))) ≡ 0
+good : (c : tie.Else1 Inv-loop μ-loop)
+    → domainNumber
+    (drop (c .before .before .before .loop .here) (now (c .before .before .before .before .before .args .s)))
+    ≡ 0
 good c = sym (c .before .domain-number .ensures) ∙ c .if1 .left
 
-next : (c : tie.Else1 Inv-loop μ-loop) → c .before .before .before .loop .here + 3 ≤ length (now (c .before .before .before .before .before .args .s))
+next : (c : tie.Else1 Inv-loop μ-loop)
+    → c .before .before .before .loop .here + 3 ≤ length (now (c .before .before .before .before .before .args .s))
 next c = domain-next _ _ (good c)
 
 loop-holds : tie.Need-loop-holds Inv-loop μ-loop
 unfolding padded domainsAt
 loop-holds c = (omega arith, omega arith, omega arith, rw sub-zero, refl)
-
-domain-number-requires : tie.Need-domain-number-requires Inv-loop μ-loop
-domain-number-requires c κs = omega arith
 
 returns : tie.Need-returns Inv-loop μ-loop
 unfolding padded
@@ -50,23 +53,8 @@ returns c =
     let v = domains-stop (a .n - (w .i + 1)) (now (a .s)) (w .here) (λ z. c .if1 .taken (e ∙ z)) in
     domains-refused (now (a .s)) (a .at) (a .n) _ (c .if1 .taken) (sym (rw more at (w .inv .3)) ∙ rw (← e) at v) refl
 
-add-sizes : tie.Need-add-sizes Inv-loop μ-loop
-add-sizes c = omega (arith, next c)
-
-shared-slice-read-sizes : tie.Need-shared-slice-read-sizes Inv-loop μ-loop
-shared-slice-read-sizes c = omega (arith, next (c .before))
-
 array-write-sizes : tie.Need-array-write-sizes Inv-loop μ-loop
 array-write-sizes c = omega (arith, c .before .before .before .before .before .before .pre)
-
-add-here : tie.Need-add-here Inv-loop μ-loop
-add-here c = omega (arith, next (c .before))
-
-add-i : tie.Need-add-i Inv-loop μ-loop
-add-i c = omega arith
-
-loop-less : tie.Need-loop-less Inv-loop μ-loop
-loop-less c = omega arith
 
 loop-again : tie.Need-loop-again Inv-loop μ-loop
 loop-again c =
@@ -79,7 +67,8 @@ loop-again c =
       omega arith,
       next (c .before),
       sym (domains-go (a .n - (w .i + 1)) s (w .here) (good (c .before))) ∙ rw more at (w .inv .3),
-      padded-step maxVariables (w .i) (λ k. domainsAt k s (a .at)) (w .sizes) _ (length-domainsAt (w .i) s (a .at)) (omega (arith, c .before .before .before .before .before .before .pre)) size (w .inv .4),
+      padded-step maxVariables (w .i) (λ k. domainsAt k s (a .at)) (w .sizes) _ (length-domainsAt (w .i) s (a .at))
+          (omega (arith, c .before .before .before .before .before .before .pre)) size (w .inv .4),
     )
 
 returns-2 : tie.Need-returns-2 Inv-loop μ-loop
@@ -98,13 +87,13 @@ read-domains-spec =
     Inv-loop
     μ-loop
     loop-holds
-    domain-number-requires
+    (λ c κs. omega arith)  -- domain-number-requires
     returns
-    add-sizes
-    shared-slice-read-sizes
+    (λ c. omega (arith, next c))  -- add-sizes
+    (λ c. omega (arith, next (c .before)))  -- shared-slice-read-sizes
     array-write-sizes
-    add-here
-    add-i
-    loop-less
+    (λ c. omega (arith, next (c .before)))  -- add-here
+    (λ c. omega arith)  -- add-i
+    (λ c. omega arith)  -- loop-less
     loop-again
     returns-2)

@@ -10,9 +10,6 @@ use Rattle.problem.proofs.read_head.Tie as tie
 good : (c : tie.Start) → GoodHead (now (c .args .s))
 good c = head-good (now (c .args .s)) (c .pre)
 
-shared-slice-read-variables : tie.Need-shared-slice-read-variables
-shared-slice-read-variables c = omega (arith, good (c .before .before) .long)
-
 shared-slice-read-objectives : tie.Need-shared-slice-read-objectives
 shared-slice-read-objectives c = omega (arith, good (c .before .before .before) .long)
 
@@ -40,7 +37,7 @@ pub read-head-spec : {M : Type 1} → statement M
 read-head-spec =
     tie.close
     (tie.spec
-    shared-slice-read-variables
+    (λ c. omega (arith, good (c .before .before) .long))  -- shared-slice-read-variables
     shared-slice-read-objectives
     two-at-requires
     cast-read-ceilings

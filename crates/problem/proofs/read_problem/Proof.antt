@@ -14,7 +14,8 @@ use Rattle.model.specs.Reading.{headVariables, headLength, headNumber}
 use Rattle.model.proofs.HeadRecord.{head-good}
 use Rattle.problem.specs.Says.{DomainsSays, RefusalSays}
 use Rattle.problem.proofs.Chains.{same-verdict}
-use Rattle.problem.proofs.Parts.{tablesPart, part-long, part-head, part-domains, part-tables, Begun, domains-said, begun, tables-said, reads-refused, reads-accepted}
+use Rattle.problem.proofs.Parts.{tablesPart, part-long, part-head, part-domains, part-tables, Begun}
+use Rattle.problem.proofs.Parts.{domains-said, begun, tables-said, reads-refused, reads-accepted}
 use Rattle.problem.proofs.read_problem.Statement.{statement}
 use Rattle.problem.proofs.read_problem.Tie as tie
 
@@ -42,15 +43,19 @@ short c = leb-true _ _ (sym (c .before .allows-bytes .ensures) ∙ not-false _ (
 good : (c : tie.Else2) → headNumber (bytes₂ c) ≡ 0
 good c = sym (c .before .head-number .ensures) ∙ c .if2 .left
 
-said : (c : tie.After-read-domains) → DomainsSays (bytes₃ c) (headLength (bytes₃ c)) (headVariables (bytes₃ c)) (c .read-domains .result)
+said : (c : tie.After-read-domains)
+    → DomainsSays (bytes₃ c) (headLength (bytes₃ c)) (headVariables (bytes₃ c)) (c .read-domains .result)
 said c =
     let h = c .before .before .read-head in
     domains-said (bytes₃ c) (h .result) (c .read-domains .result) (h .ensures) (c .read-domains .ensures)
 
-here : (c : tie.Else3) → Begun (bytes₃ (c .before .before)) (c .before .before .before .before .read-head .result) (c .before .before .read-domains .result)
+here : (c : tie.Else3)
+    → Begun (bytes₃ (c .before .before)) (c .before .before .before .before .read-head .result)
+    (c .before .before .read-domains .result)
 here c =
     let h = c .before .before .before .before .read-head in
-    begun _ (h .result) (c .before .before .read-domains .result) (h .ensures) (good (c .before .before .before .before .before)) (said (c .before .before)) (c .if3 .left)
+    begun _ (h .result) (c .before .before .read-domains .result) (h .ensures)
+    (good (c .before .before .before .before .before)) (said (c .before .before)) (c .if3 .left)
 
 scanned : (c : tie.After-scan-tables) → RefusalSays (tablesPart (bytes₄ c)) (c .scan-tables .result)
 scanned c =
@@ -59,43 +64,17 @@ scanned c =
     let said = rw (counted c .tables-start .ensures) at (c .scan-tables .ensures) in
     tables-said _ (h .result) (e .before .before .read-domains .result) (h .ensures) (here e) said
 
-allows-bytes-requires : tie.Need-allows-bytes-requires
-allows-bytes-requires c κs = search needs
-
-refused-requires : tie.Need-refused-requires
-refused-requires c κs = search needs
-
 returns : tie.Need-returns
 returns c =
     let long = leb-false _ _ (sym (c .before .before .allows-bytes .ensures) ∙ not-true _ (c .before .if1 .taken)) in
     rw (c .refused .ensures) (reads-refused _ oversize 0 refl (part-long _ long))
 
-head-number-requires : tie.Need-head-number-requires
-head-number-requires c κs = search needs
-
-refused-requires-2 : tie.Need-refused-requires-2
-refused-requires-2 c κs = search needs
-
 returns-2 : tie.Need-returns-2
 returns-2 c =
     let e = c .before .before .head-number .ensures in
     let t = c .before .if2 .taken in
-    rw (c .refused2 .ensures) (reads-refused _ _ 0 (ne-eqb _ _ t) (rw e (part-head _ (short (c .before .before .before)) (λ z. t (e ∙ z)))))
-
-read-head-requires : tie.Need-read-head-requires
-read-head-requires c κs = good c
-
-cast-n : tie.Need-cast-n
-cast-n c = search needs
-
-cast-start : tie.Need-cast-start
-cast-start c = search needs
-
-mul-start : tie.Need-mul-start
-mul-start c = search needs
-
-add-start : tie.Need-add-start
-add-start c = search needs
+    rw (c .refused2 .ensures)
+    (reads-refused _ _ 0 (ne-eqb _ _ t) (rw e (part-head _ (short (c .before .before .before)) (λ z. t (e ∙ z)))))
 
 read-domains-requires : tie.Need-read-domains-requires
 read-domains-requires c κs =
@@ -103,19 +82,15 @@ read-domains-requires c κs =
     let g = head-good (bytes₂ (c .before .before)) (good (c .before .before)) in
     (rw (h .objectives) (g .long), rw (h .variables) (g .variables .1))
 
-refused-requires-3 : tie.Need-refused-requires-3
-refused-requires-3 c κs = search needs
-
 returns-3 : tie.Need-returns-3
 returns-3 c =
     let r = c .before .before .before in
     let e₂ = r .before .before .before in
     let t = c .before .if3 .taken in
     rw (c .refused3 .ensures)
-    (reads-refused _ _ _ (ne-eqb _ _ t) (part-domains _ (short (e₂ .before .before)) (good e₂) (λ z. t (said r .number ∙ z)) ∙ same-verdict (said r .number) (said r .place)))
-
-tables-start-requires : tie.Need-tables-start-requires
-tables-start-requires c κs = search needs
+    (reads-refused _ _ _ (ne-eqb _ _ t)
+    (part-domains _ (short (e₂ .before .before)) (good e₂) (λ z. t (said r .number ∙ z))
+    ∙ same-verdict (said r .number) (said r .place)))
 
 array-share-prefix-sizes : tie.Need-array-share-prefix-sizes
 array-share-prefix-sizes c =
@@ -133,9 +108,6 @@ scan-tables-requires c κs =
     let b = here (counted .before .before) in
     (rw (counted .tables-start .ensures) (b .end), b .small)
 
-refused-requires-4 : tie.Need-refused-requires-4
-refused-requires-4 c κs = search needs
-
 returns-4 : tie.Need-returns-4
 returns-4 c =
     let a = c .before .before .before in
@@ -143,7 +115,9 @@ returns-4 c =
     let e₂ = e₃ .before .before .before .before .before in
     let t = c .before .if4 .taken in
     rw (c .refused4 .ensures)
-    (reads-refused _ _ _ (ne-eqb _ _ t) (part-tables _ (short (e₂ .before .before)) (good e₂) (here e₃ .none) ∙ same-verdict (scanned a .number) (scanned a .place)))
+    (reads-refused _ _ _ (ne-eqb _ _ t)
+    (part-tables _ (short (e₂ .before .before)) (good e₂) (here e₃ .none)
+    ∙ same-verdict (scanned a .number) (scanned a .place)))
 
 returns-5 : tie.Need-returns-5
 returns-5 c =
@@ -151,30 +125,31 @@ returns-5 c =
     let e₃ = counted a .before .before in
     let e₂ = e₃ .before .before .before .before .before in
     let v = part-tables (bytes₂ e₂) (short (e₂ .before .before)) (good e₂) (here e₃ .none) in
-    reads-accepted _ _ _ (ap (λ x. x .number) v ∙ sym (scanned a .number) ∙ c .if4 .left) (e₃ .before .before .before .before .read-head .ensures) (here e₃ .filled)
+    reads-accepted _ _ _ (ap (λ x. x .number) v ∙ sym (scanned a .number) ∙ c .if4 .left)
+    (e₃ .before .before .before .before .read-head .ensures) (here e₃ .filled)
 
 pub read-problem-spec : {M : Type 1} → statement M
 read-problem-spec =
     tie.close
     (tie.spec
-    allows-bytes-requires
-    refused-requires
+    (λ c κs. search needs)  -- allows-bytes-requires
+    (λ c κs. search needs)  -- refused-requires
     returns
-    head-number-requires
-    refused-requires-2
+    (λ c κs. search needs)  -- head-number-requires
+    (λ c κs. search needs)  -- refused-requires-2
     returns-2
-    read-head-requires
-    cast-n
-    cast-start
-    mul-start
-    add-start
+    (λ c κs. good c)  -- read-head-requires
+    (λ c. search needs)  -- cast-n
+    (λ c. search needs)  -- cast-start
+    (λ c. search needs)  -- mul-start
+    (λ c. search needs)  -- add-start
     read-domains-requires
-    refused-requires-3
+    (λ c κs. search needs)  -- refused-requires-3
     returns-3
-    tables-start-requires
+    (λ c κs. search needs)  -- tables-start-requires
     array-share-prefix-sizes
     slice-aggregate-scan-tables
     scan-tables-requires
-    refused-requires-4
+    (λ c κs. search needs)  -- refused-requires-4
     returns-4
     returns-5)

@@ -16,7 +16,8 @@ use Rattle.model.specs.Encoding.{letterC, letterF}
 use Rattle.model.specs.Reading.{startNumber, tableObjective, tableArity, tableScope, tableLength}
 use Rattle.model.proofs.Marks.{Marked, start-marked}
 use Rattle.problem.proofs.Rising.{scope-range}
-use Rattle.problem.proofs.TableFields.{table-start, table-owner, table-arity, table-cut, table-scope, table-short, table-whole, scan-refused, scan-accepted}
+use Rattle.problem.proofs.TableFields.{table-start, table-owner, table-arity, table-cut, table-scope}
+use Rattle.problem.proofs.TableFields.{table-short, table-whole, scan-refused, scan-accepted}
 use Rattle.problem.proofs.WholeRecord.{scope-place, length-place}
 use Rattle.problem.proofs.scan_table.Statement.{statement}
 use Rattle.problem.proofs.scan_table.Tie as tie
@@ -58,25 +59,25 @@ few c = rw getD-drop (small c)
 there : (c : tie.Else4) → 4 + tableArity (left₃ (c .before)) ≤ length (left₃ (c .before))
 there c = rw (getD-drop, length-drop) (c .if4 .left)
 
-rising : (c : tie.Else5) → scopeRule (length (sizes₃ (c .before .before .before))) (tableScope (left₃ (c .before .before .before))) ≡ true
+rising : (c : tie.Else5)
+    → scopeRule (length (sizes₃ (c .before .before .before))) (tableScope (left₃ (c .before .before .before))) ≡ true
 rising c = rw scope-place (sym (c .before .scope-ok .ensures) ∙ not-false _ (c .if5 .left))
 
-ranged : (c : tie.Else5) → InRange (length (sizes₃ (c .before .before .before))) (tableScope (left₃ (c .before .before .before)))
-ranged c = scope-range (length (sizes₃ (c .before .before .before))) (tableScope (left₃ (c .before .before .before))) (rising c)
+ranged : (c : tie.Else5)
+    → InRange (length (sizes₃ (c .before .before .before))) (tableScope (left₃ (c .before .before .before)))
+ranged c =
+    scope-range (length (sizes₃ (c .before .before .before))) (tableScope (left₃ (c .before .before .before)))
+    (rising c)
 
-measured : (c : tie.After-size-of) → 4 + (arity₃ (c .before .before .before .before) + 4 * c .size-of .result) ≡ tableLength (sizes₃ (c .before .before .before .before)) (left₃ (c .before .before .before .before))
+measured : (c : tie.After-size-of)
+    → 4 + (arity₃ (c .before .before .before .before) + 4 * c .size-of .result)
+    ≡ tableLength (sizes₃ (c .before .before .before .before)) (left₃ (c .before .before .before .before))
 measured c = rw (length-place, scope-place, ← c .size-of .ensures .0)
-
-start-number-requires : tie.Need-start-number-requires
-start-number-requires c κs = search needs
 
 returns : tie.Need-returns
 returns c =
     let e = c .before .start-number .ensures in
     scan-refused _ _ _ _ (ne-eqb _ _ (c .if1 .taken)) (rw e (table-start _ _ _ (λ z. c .if1 .taken (e ∙ z))))
-
-add-if2 : tie.Need-add-if2
-add-if2 c = search needs
 
 shared-slice-read-if2 : tie.Need-shared-slice-read-if2
 shared-slice-read-if2 c =
@@ -84,61 +85,44 @@ shared-slice-read-if2 c =
     omega (arith, marked (c .before) .long, length-drop (a .at) (now (a .s)))
 
 returns-2 : tie.Need-returns-2
-returns-2 c = scan-refused _ _ _ badOwner refl (table-owner _ _ _ (started (c .before .before)) (rw getD-drop (c .if2 .taken)))
-
-add-arity : tie.Need-add-arity
-add-arity c = search needs
+returns-2 c =
+    scan-refused _ _ _ badOwner refl (table-owner _ _ _ (started (c .before .before)) (rw getD-drop (c .if2 .taken)))
 
 shared-slice-read-arity : tie.Need-shared-slice-read-arity
 shared-slice-read-arity c =
     let a = c .before .before .before .before .before .before .before .args in
     omega (arith, marked (c .before .before .before) .long, length-drop (a .at) (now (a .s)))
 
-allows-arity-requires : tie.Need-allows-arity-requires
-allows-arity-requires c κs = search needs
-
 returns-3 : tie.Need-returns-3
 returns-3 c =
     let e₂ = c .before .before .before in
-    scan-refused _ _ _ badArity refl (table-arity _ _ _ (started (e₂ .before .before)) (owned e₂) (rw getD-drop (leb-false _ _ (sym (c .before .allows-arity .ensures) ∙ not-true _ (c .if3 .taken)))))
-
-cast-a : tie.Need-cast-a
-cast-a c = omega (arith, small c)
-
-sub-left : tie.Need-sub-left
-sub-left c = omega (arith, small c)
-
-add-if4 : tie.Need-add-if4
-add-if4 c = omega (arith, small c)
+    scan-refused _ _ _ badArity refl
+    (table-arity _ _ _ (started (e₂ .before .before)) (owned e₂)
+    (rw getD-drop (leb-false _ _ (sym (c .before .allows-arity .ensures) ∙ not-true _ (c .if3 .taken)))))
 
 returns-4 : tie.Need-returns-4
 returns-4 c =
     let e₃ = c .before in
     let e₂ = e₃ .before .before .before in
-    scan-refused _ _ _ cutShort refl (table-cut _ _ _ (started (e₂ .before .before)) (owned e₂) (few e₃) (rw (getD-drop, length-drop) (c .if4 .taken)))
-
-add-scope-ok : tie.Need-add-scope-ok
-add-scope-ok c = search needs
-
-scope-ok-requires : tie.Need-scope-ok-requires
-scope-ok-requires c κs = search needs
+    scan-refused _ _ _ cutShort refl
+    (table-cut _ _ _ (started (e₂ .before .before)) (owned e₂) (few e₃) (rw (getD-drop, length-drop) (c .if4 .taken)))
 
 returns-5 : tie.Need-returns-5
 returns-5 c =
     let e₄ = c .before .before in
     let e₃ = e₄ .before in
     let e₂ = e₃ .before .before .before in
-    scan-refused _ _ _ badScope refl (table-scope _ _ _ (started (e₂ .before .before)) (owned e₂) (few e₃) (there e₄) (rw scope-place (sym (c .before .scope-ok .ensures) ∙ not-true _ (c .if5 .taken))))
-
-add-size-of : tie.Need-add-size-of
-add-size-of c = search needs
+    scan-refused _ _ _ badScope refl
+    (table-scope _ _ _ (started (e₂ .before .before)) (owned e₂) (few e₃) (there e₄)
+    (rw scope-place (sym (c .before .scope-ok .ensures) ∙ not-true _ (c .if5 .taken))))
 
 size-of-requires : tie.Need-size-of-requires
-size-of-requires c κs =
-    (omega arith, small (c .before .before .before), rw scope-place at (ranged c), c .before .before .before .before .before .before .before .before .before .before .before .before .pre .1)
-
-mul-length : tie.Need-mul-length
-mul-length c = omega (arith, c .size-of .ensures .1)
+size-of-requires c κs = (
+  omega arith,
+  small (c .before .before .before),
+  rw scope-place at (ranged c),
+  c .before .before .before .before .before .before .before .before .before .before .before .before .pre .1,
+)
 
 add-length : tie.Need-add-length
 add-length c = omega (arith, c .size-of .ensures .1, small (c .before .before .before .before))
@@ -152,7 +136,9 @@ returns-6 c =
     let e₄ = e₅ .before .before in
     let e₃ = e₄ .before in
     let e₂ = e₃ .before .before .before in
-    scan-refused _ _ _ cutShort refl (table-short _ _ _ (started (e₂ .before .before)) (owned e₂) (few e₃) (there e₄) (rising e₅) (rw (length-drop, ← measured (c .before)) (c .if6 .taken)))
+    scan-refused _ _ _ cutShort refl
+    (table-short _ _ _ (started (e₂ .before .before)) (owned e₂) (few e₃) (there e₄) (rising e₅)
+    (rw (length-drop, ← measured (c .before)) (c .if6 .taken)))
 
 returns-7 : tie.Need-returns-7
 returns-7 c =
@@ -160,31 +146,34 @@ returns-7 c =
     let e₄ = e₅ .before .before in
     let e₃ = e₄ .before in
     let e₂ = e₃ .before .before .before in
-    scan-accepted _ _ _ _ (table-whole _ _ _ (started (e₂ .before .before)) (owned e₂) (few e₃) (there e₄) (rising e₅) (rw (length-drop, ← measured (c .before)) (c .if6 .left))) (measured (c .before))
+    scan-accepted _ _ _ _
+    (table-whole _ _ _ (started (e₂ .before .before)) (owned e₂) (few e₃) (there e₄) (rising e₅)
+    (rw (length-drop, ← measured (c .before)) (c .if6 .left)))
+    (measured (c .before))
 
 pub scan-table-spec : {M : Type 1} → statement M
 scan-table-spec =
     tie.close
     (tie.spec
-    start-number-requires
+    (λ c κs. search needs)  -- start-number-requires
     returns
-    add-if2
+    (λ c. search needs)  -- add-if2
     shared-slice-read-if2
     returns-2
-    add-arity
+    (λ c. search needs)  -- add-arity
     shared-slice-read-arity
-    allows-arity-requires
+    (λ c κs. search needs)  -- allows-arity-requires
     returns-3
-    cast-a
-    sub-left
-    add-if4
+    (λ c. omega (arith, small c))  -- cast-a
+    (λ c. omega (arith, small c))  -- sub-left
+    (λ c. omega (arith, small c))  -- add-if4
     returns-4
-    add-scope-ok
-    scope-ok-requires
+    (λ c. search needs)  -- add-scope-ok
+    (λ c κs. search needs)  -- scope-ok-requires
     returns-5
-    add-size-of
+    (λ c. search needs)  -- add-size-of
     size-of-requires
-    mul-length
+    (λ c. omega (arith, c .size-of .ensures .1))  -- mul-length
     add-length
     add-length-2
     returns-6

@@ -24,19 +24,22 @@ abbrev sizes₁ : tie.Else1 Inv-loop μ-loop → List ℕ
 sizes₁ c = now (c .before .before .before .before .before .before .before .args .sizes)
 
 abbrev left₁ : tie.Else1 Inv-loop μ-loop → List ℕ
-left₁ c = drop (c .before .before .before .before .loop .here) (now (c .before .before .before .before .before .before .before .args .s))
+left₁ c =
+    drop (c .before .before .before .before .loop .here)
+    (now (c .before .before .before .before .before .before .before .args .s))
 
-good : (c : tie.Else1 Inv-loop μ-loop) → tableNumber (c .before .before .before .before .before .before .before .args .p) (sizes₁ c) (left₁ c) ≡ 0
+good : (c : tie.Else1 Inv-loop μ-loop)
+    → tableNumber (c .before .before .before .before .before .before .before .args .p) (sizes₁ c) (left₁ c) ≡ 0
 good c = sym (c .before .before .scan-table .ensures .number) ∙ c .if1 .left
 
-measured : (c : tie.Else1 Inv-loop μ-loop) → c .before .before .scan-table .result .length ≡ tableLength (sizes₁ c) (left₁ c)
+measured : (c : tie.Else1 Inv-loop μ-loop)
+    → c .before .before .scan-table .result .length ≡ tableLength (sizes₁ c) (left₁ c)
 measured c = scanned-length _ _ _ _ (c .before .before .scan-table .ensures) (c .if1 .left)
 
-next : (c : tie.Else1 Inv-loop μ-loop) → c .before .before .before .before .loop .here + c .before .before .scan-table .result .length ≤ length (now (c .before .before .before .before .before .before .before .args .s))
+next : (c : tie.Else1 Inv-loop μ-loop)
+    → c .before .before .before .before .loop .here + c .before .before .scan-table .result .length
+    ≤ length (now (c .before .before .before .before .before .before .before .args .s))
 next c = rw (measured c) (table-next _ _ _ _ (c .before .before .before .before .loop .inv .0) (good c))
-
-loop-holds : tie.Need-loop-holds Inv-loop μ-loop
-loop-holds c = (omega arith, refl)
 
 scan-table-requires : tie.Need-scan-table-requires Inv-loop μ-loop
 scan-table-requires c κs = (c .before .loop .inv .0, c .before .before .before .before .pre .1)
@@ -49,15 +52,6 @@ returns c =
     let e = c .before .before .scan-table .ensures .number in
     let v = tables-stop (w .left - 1) (a .p) (now (a .sizes)) (now (a .s)) (w .here) (λ z. c .if1 .taken (e ∙ z)) in
     says-verdict _ _ (sym (rw more at (w .inv .1)) ∙ rw (← e) at v)
-
-add-here : tie.Need-add-here Inv-loop μ-loop
-add-here c = omega (arith, next (c .before))
-
-sub-left : tie.Need-sub-left Inv-loop μ-loop
-sub-left c = omega arith
-
-loop-less : tie.Need-loop-less Inv-loop μ-loop
-loop-less c = omega arith
 
 loop-again : tie.Need-loop-again Inv-loop μ-loop
 loop-again c =
@@ -85,12 +79,12 @@ scan-tables-spec =
     (tie.spec
     Inv-loop
     μ-loop
-    loop-holds
+    (λ c. (omega arith, refl))  -- loop-holds
     scan-table-requires
     returns
-    add-here
-    sub-left
-    loop-less
+    (λ c. omega (arith, next (c .before)))  -- add-here
+    (λ c. omega arith)  -- sub-left
+    (λ c. omega arith)  -- loop-less
     loop-again
     returns-2
     returns-3)

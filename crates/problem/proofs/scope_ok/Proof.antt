@@ -17,46 +17,46 @@ Inv-loop s at arity n low₀ i₀ low i =
 abbrev μ-loop : tie.MeasureT-loop
 μ-loop s at arity n low₀ i₀ low i = arity - i
 
-loop-holds : tie.Need-loop-holds Inv-loop μ-loop
-loop-holds c = (omega arith, rw (sub-zero, add-zero))
-
-add-v : tie.Need-add-v Inv-loop μ-loop
-add-v c = omega arith
-
-shared-slice-read-v : tie.Need-shared-slice-read-v Inv-loop μ-loop
-shared-slice-read-v c = omega arith
-
 cast-v : tie.Need-cast-v Inv-loop μ-loop
-cast-v c = omega (arith, c .shared-slice-known .given (c .before .before .before .args .at + c .before .before .loop .i))
+cast-v c =
+    omega (arith, c .shared-slice-known .given (c .before .before .before .args .at + c .before .before .loop .i))
 
 returns : tie.Need-returns Inv-loop μ-loop
 returns c =
     let a = c .before .before .before .before .args in
     let w = c .before .before .before .loop in
-    sym (sym (w .inv .1) ∙ scope-high (a .n) (w .low) (a .arity - w .i) (a .at + w .i) (now (a .s)) (omega arith) (omega arith) (c .if1 .taken))
+    sym (sym (w .inv .1)
+    ∙ scope-high (a .n) (w .low) (a .arity - w .i) (a .at + w .i) (now (a .s)) (omega arith) (omega arith)
+    (c .if1 .taken))
 
 returns-2 : tie.Need-returns-2 Inv-loop μ-loop
 returns-2 c =
     let a = c .before .before .before .before .before .args in
     let w = c .before .before .before .before .loop in
-    sym (sym (w .inv .1) ∙ scope-falls (a .n) (w .low) (a .arity - w .i) (a .at + w .i) (now (a .s)) (omega arith) (omega arith) (c .before .if1 .left) (c .if2 .taken))
+    sym (sym (w .inv .1)
+    ∙ scope-falls (a .n) (w .low) (a .arity - w .i) (a .at + w .i) (now (a .s)) (omega arith) (omega arith)
+    (c .before .if1 .left) (c .if2 .taken))
 
 add-low : tie.Need-add-low Inv-loop μ-loop
-add-low c = omega (arith, c .before .before .shared-slice-known .given (c .before .before .before .before .before .args .at + c .before .before .before .before .loop .i))
-
-add-i : tie.Need-add-i Inv-loop μ-loop
-add-i c = omega arith
-
-loop-less : tie.Need-loop-less Inv-loop μ-loop
-loop-less c = omega arith
+add-low c =
+    omega (
+      arith,
+      c .before .before .shared-slice-known .given
+          (c .before .before .before .before .before .args .at + c .before .before .before .before .loop .i),
+    )
 
 loop-again : tie.Need-loop-again Inv-loop μ-loop
 loop-again c =
     let a = c .before .before .before .before .before .args in
     let w = c .before .before .before .before .loop in
     let m : a .arity - w .i - 1 ≡ a .arity - (w .i + 1) = omega arith in
-    let n : a .at + w .i + 1 ≡ a .at + (w .i + 1) = omega arith in
-    (omega arith, rw (m, n) at (sym (scope-goes (a .n) (w .low) (a .arity - w .i) (a .at + w .i) (now (a .s)) (omega arith) (omega arith) (c .before .if1 .left) (c .if2 .left))) ∙ w .inv .1)
+    let n : a .at + w .i + 1 ≡ a .at + (w .i + 1) = omega arith in (
+      omega arith,
+      rw (m, n)
+          at (sym (scope-goes (a .n) (w .low) (a .arity - w .i) (a .at + w .i) (now (a .s)) (omega arith) (omega arith)
+          (c .before .if1 .left) (c .if2 .left)))
+          ∙ w .inv .1,
+    )
 
 returns-3 : tie.Need-returns-3 Inv-loop μ-loop
 unfolding scopeOk
@@ -71,14 +71,14 @@ scope-ok-spec =
     (tie.spec
     Inv-loop
     μ-loop
-    loop-holds
-    add-v
-    shared-slice-read-v
+    (λ c. (omega arith, rw (sub-zero, add-zero)))  -- loop-holds
+    (λ c. omega arith)  -- add-v
+    (λ c. omega arith)  -- shared-slice-read-v
     cast-v
     returns
     returns-2
     add-low
-    add-i
-    loop-less
+    (λ c. omega arith)  -- add-i
+    (λ c. omega arith)  -- loop-less
     loop-again
     returns-3)

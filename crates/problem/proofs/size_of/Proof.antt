@@ -1,4 +1,5 @@
--- `size_of` meets its contract. The invariant, `Sizing`: the size so far times the rest's is the whole's, at most 512 (`size-small`).
+-- `size_of` meets its contract. The invariant, `Sizing`: the size so far times the rest's is the whole's, at most 512
+-- (`size-small`).
 use mathlib.Core.Path.{_≡_}
 use Prim.Native.Nat.{_+_, _-_, _*_, _≤_, _<_}
 use native.Mathlib.Omega.{arith}
@@ -14,7 +15,8 @@ use Rattle.problem.proofs.size_of.Reads as reads
 use Rattle.problem.proofs.size_of.Lts as lts
 
 abbrev Inv-loop : tie.InvT-loop
-Inv-loop s at arity sizes size₀ here₀ left₀ size here left = Sizing sizes s (sizeOf sizes (take arity (drop at s))) size here left
+Inv-loop s at arity sizes size₀ here₀ left₀ size here left =
+    Sizing sizes s (sizeOf sizes (take arity (drop at s))) size here left
 
 abbrev μ-loop : tie.MeasureT-loop
 μ-loop s at arity sizes size₀ here₀ left₀ size here left = left
@@ -28,32 +30,33 @@ loop-holds c =
     }
 
 -- at most 512 in all
-small : (c : lts.Start reads.Pre reads.Post Inv-loop μ-loop) → let a = c .args in sizeOf (now (a .sizes)) (take (a .arity) (drop (a .at) (now (a .s)))) ≤ 512
+small : (c : lts.Start reads.Pre reads.Post Inv-loop μ-loop)
+    → let a = c .args in sizeOf (now (a .sizes)) (take (a .arity) (drop (a .at) (now (a .s)))) ≤ 512
 small c =
     let a = c .args in
     let q = c .pre in
-    size-small (now (a .sizes)) (q .3) (take (a .arity) (drop (a .at) (now (a .s)))) (q .2) (simp length-take (omega arith))
+    size-small (now (a .sizes)) (q .3) (take (a .arity) (drop (a .at) (now (a .s)))) (q .2)
+    (simp length-take (omega arith))
 
-exists : (c : lts.In-loop reads.Pre reads.Post Inv-loop μ-loop) → let a = c .before .before .args in getD (now (a .s)) (c .before .loop .here) 0 < length (now (a .sizes))
+exists : (c : lts.In-loop reads.Pre reads.Post Inv-loop μ-loop)
+    → let a = c .before .before .args in getD (now (a .s)) (c .before .loop .here) 0 < length (now (a .sizes))
 exists c =
     let a = c .before .before .args in
     let w = c .before .loop in
     sizing-exists (now (a .sizes)) (now (a .s)) _ (w .size) (w .here) (w .left) (w .inv) (omega arith)
 
-next : (c : lts.In-loop reads.Pre reads.Post Inv-loop μ-loop) → let a = c .before .before .args in let w = c .before .loop in Sizing (now (a .sizes)) (now (a .s)) (sizeOf (now (a .sizes)) (take (a .arity) (drop (a .at) (now (a .s))))) (w .size * getD (now (a .sizes)) (getD (now (a .s)) (w .here) 0) 0) (w .here + 1) (w .left - 1)
+next : (c : lts.In-loop reads.Pre reads.Post Inv-loop μ-loop)
+    → let a = c .before .before .args in
+    let w = c .before .loop in
+    Sizing (now (a .sizes)) (now (a .s)) (sizeOf (now (a .sizes)) (take (a .arity) (drop (a .at) (now (a .s)))))
+    (w .size * getD (now (a .sizes)) (getD (now (a .s)) (w .here) 0) 0) (w .here + 1) (w .left - 1)
 next c =
     let a = c .before .before .args in
     let w = c .before .loop in
     sizing-next (now (a .sizes)) (now (a .s)) _ (w .size) (w .here) (w .left) (w .inv) (omega arith)
 
-shared-slice-read-v : tie.Need-shared-slice-read-v Inv-loop μ-loop
-shared-slice-read-v c = omega (arith, c .before .before .loop .inv .inside)
-
 cast-v : tie.Need-cast-v Inv-loop μ-loop
 cast-v c = omega (arith, c .shared-slice-known .given (c .before .before .loop .here))
-
-shared-slice-read-size : tie.Need-shared-slice-read-size Inv-loop μ-loop
-shared-slice-read-size c = exists (c .before .before)
 
 cast-size : tie.Need-cast-size Inv-loop μ-loop
 cast-size c =
@@ -65,25 +68,21 @@ mul-size : tie.Need-mul-size Inv-loop μ-loop
 mul-size c =
     let a = c .before .before .before .before .args in
     let q = c .before .before .before .before .pre in
-    omega (arith, small (c .before .before .before .before), sizing-small (now (a .sizes)) (now (a .s)) _ _ _ _ (next (c .before .before)) (q .3))
+    omega (
+      arith,
+      small (c .before .before .before .before),
+      sizing-small (now (a .sizes)) (now (a .s)) _ _ _ _ (next (c .before .before)) (q .3),
+    )
 
 add-here : tie.Need-add-here Inv-loop μ-loop
 add-here c = omega (arith, c .before .before .before .loop .inv .inside)
-
-sub-left : tie.Need-sub-left Inv-loop μ-loop
-sub-left c = omega arith
-
-loop-less : tie.Need-loop-less Inv-loop μ-loop
-loop-less c = omega arith
-
-loop-again : tie.Need-loop-again Inv-loop μ-loop
-loop-again c = next (c .before .before)
 
 returns : tie.Need-returns Inv-loop μ-loop
 returns c =
     let a = c .before .before .args in
     let w = c .before .loop in
-    let e : w .size ≡ sizeOf (now (a .sizes)) (take (a .arity) (drop (a .at) (now (a .s)))) = sizing-end (now (a .sizes)) (now (a .s)) _ (w .size) (w .here) (w .left) (w .inv) (omega arith) in
+    let e : w .size ≡ sizeOf (now (a .sizes)) (take (a .arity) (drop (a .at) (now (a .s)))) =
+    sizing-end (now (a .sizes)) (now (a .s)) _ (w .size) (w .here) (w .left) (w .inv) (omega arith) in
     (e, rw e (small (c .before .before)))
 
 pub size-of-spec : {M : Type 1} → statement M
@@ -93,13 +92,13 @@ size-of-spec =
     Inv-loop
     μ-loop
     loop-holds
-    shared-slice-read-v
+    (λ c. omega (arith, c .before .before .loop .inv .inside))  -- shared-slice-read-v
     cast-v
-    shared-slice-read-size
+    (λ c. exists (c .before .before))  -- shared-slice-read-size
     cast-size
     mul-size
     add-here
-    sub-left
-    loop-less
-    loop-again
+    (λ c. omega arith)  -- sub-left
+    (λ c. omega arith)  -- loop-less
+    (λ c. next (c .before .before))  -- loop-again
     returns)

@@ -8,46 +8,40 @@ use borrow.Author.Needs.{needs}
 use Rattle.problem.proofs.two_at.Statement.{statement}
 use Rattle.problem.proofs.two_at.Tie as tie
 
-shared-slice-read-wide : tie.Need-shared-slice-read-wide
-shared-slice-read-wide c = search needs
-
-wide-requires : tie.Need-wide-requires
-wide-requires c κs = search needs
-
-add-wide : tie.Need-add-wide
-add-wide c = search needs
-
-shared-slice-read-wide-2 : tie.Need-shared-slice-read-wide-2
-shared-slice-read-wide-2 c = search needs
-
-wide-requires-2 : tie.Need-wide-requires-2
-wide-requires-2 c κs = search needs
-
 mul-result : tie.Need-mul-result
-mul-result c = omega (arith, c .before .shared-slice-known3 .given (c .before .before .before .before .before .args .at + 1))
+mul-result c =
+    omega (arith, c .before .shared-slice-known3 .given (c .before .before .before .before .before .args .at + 1))
 
 add-result : tie.Need-add-result
 add-result c =
     let at = c .before .before .before .before .before .args .at in
-    omega (arith, c .before .before .before .shared-slice-known2 .given at, c .before .shared-slice-known3 .given (at + 1))
+    omega (
+      arith,
+      c .before .before .before .shared-slice-known2 .given at,
+      c .before .shared-slice-known3 .given (at + 1),
+    )
 
 returns : tie.Need-returns
 unfolding word2
 returns c =
     let at = c .before .before .before .before .before .args .at in (
       simp (getD-first, getD-drop, c .before .before .wide .ensures, c .wide2 .ensures),
-      omega (arith, c .before .before .before .shared-slice-known2 .given at, c .before .shared-slice-known3 .given (at + 1)),
+      omega (
+        arith,
+        c .before .before .before .shared-slice-known2 .given at,
+        c .before .shared-slice-known3 .given (at + 1),
+      ),
     )
 
 pub two-at-spec : {M : Type 1} → statement M
 two-at-spec =
     tie.close
     (tie.spec
-    shared-slice-read-wide
-    wide-requires
-    add-wide
-    shared-slice-read-wide-2
-    wide-requires-2
+    (λ c. search needs)  -- shared-slice-read-wide
+    (λ c κs. search needs)  -- wide-requires
+    (λ c. search needs)  -- add-wide
+    (λ c. search needs)  -- shared-slice-read-wide-2
+    (λ c κs. search needs)  -- wide-requires-2
     mul-result
     add-result
     returns)

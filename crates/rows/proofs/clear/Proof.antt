@@ -20,24 +20,13 @@ abbrev μ-loop : tie.MeasureT-loop
 -- zeros written over all of a list
 whole-zeros : (old : List ℕ) → paste old 0 (replicate (length old) 0) (length old) ≡ replicate (length old) 0
 whole-zeros old =
-    rw (zero-add, drop-length, append-nil) (take-all (length old) (replicate (length old) 0) (rw length-replicate (omega arith)))
+    rw (zero-add, drop-length, append-nil)
+    (take-all (length old) (replicate (length old) 0) (rw length-replicate (omega arith)))
 
 loop-holds : tie.Need-loop-holds Inv-loop μ-loop
 loop-holds c =
     let w = now (c .args .work) in
     copied-start w 0 (replicate (length w) 0) (length w) (omega arith) (rw length-replicate (omega arith))
-
-mul-work : tie.Need-mul-work Inv-loop μ-loop
-mul-work c = omega arith
-
-slice-write-work : tie.Need-slice-write-work Inv-loop μ-loop
-slice-write-work c = omega (arith, copied-length (c .before .loop .inv))
-
-add-i : tie.Need-add-i Inv-loop μ-loop
-add-i c = omega arith
-
-loop-less : tie.Need-loop-less Inv-loop μ-loop
-loop-less c = omega (arith, copied-length (c .before .loop .inv))
 
 loop-again : tie.Need-loop-again Inv-loop μ-loop
 loop-again c =
@@ -45,9 +34,6 @@ loop-again c =
     let w = c .before .loop in
     let more : w .i < all = omega (arith, copied-length (w .inv)) in
     rw zero-add at (copied-next (w .inv) more 0 (sym (getD-replicate all (w .i) 0 0 more)))
-
-same-length : tie.Need-same-length Inv-loop μ-loop
-same-length c = copied-length (c .before .loop .inv)
 
 returns : tie.Need-returns Inv-loop μ-loop
 returns c =
@@ -62,10 +48,10 @@ clear-spec =
     Inv-loop
     μ-loop
     loop-holds
-    mul-work
-    slice-write-work
-    add-i
-    loop-less
+    (λ c. omega arith)  -- mul-work
+    (λ c. omega (arith, copied-length (c .before .loop .inv)))  -- slice-write-work
+    (λ c. omega arith)  -- add-i
+    (λ c. omega (arith, copied-length (c .before .loop .inv)))  -- loop-less
     loop-again
-    same-length
+    (λ c. copied-length (c .before .loop .inv))  -- same-length
     returns)

@@ -23,12 +23,6 @@ loop-holds c =
     let a = c .before .before .args in
     (omega arith, out-start (valuesIn (a .n) (now (a .work))) (a .n) (now (a .choices)))
 
-row-choice-requires : tie.Need-row-choice-requires Inv-loop μ-loop
-row-choice-requires c κs = omega arith
-
-mul-put-choice : tie.Need-mul-put-choice Inv-loop μ-loop
-mul-put-choice c = omega arith
-
 put-choice-requires : tie.Need-put-choice-requires Inv-loop μ-loop
 put-choice-requires c κs =
     let w = c .before .before .before .loop in
@@ -36,12 +30,6 @@ put-choice-requires c κs =
     let a = s .args in
     let room = row-room (a .n) (a .k) (w .row) (length (now (a .choices))) (s .pre .3) (omega arith) in
     (s .pre .2, omega (arith, room, out-length (w .inv .1)))
-
-add-row : tie.Need-add-row Inv-loop μ-loop
-add-row c = omega arith
-
-loop-less : tie.Need-loop-less Inv-loop μ-loop
-loop-less c = omega arith
 
 loop-again : tie.Need-loop-again Inv-loop μ-loop
 loop-again c =
@@ -55,9 +43,6 @@ loop-again c =
     let row : take (a .n) (read .row-choice .result) ≡ valuesIn (a .n) work (w .row) =
     rw (read .row-choice .ensures) (values-front work (w .row) (a .n) maxVariables (s .pre .2)) in
     (omega arith, out-next (w .inv .1) room (values-long work (w .row) (a .n)) _ (rw row at (put .put-choice .ensures)))
-
-same-length : tie.Need-same-length Inv-loop μ-loop
-same-length c = out-length (c .before .loop .inv .1)
 
 returns : tie.Need-returns Inv-loop μ-loop
 returns c =
@@ -73,11 +58,11 @@ copy-choices-spec =
     Inv-loop
     μ-loop
     loop-holds
-    row-choice-requires
-    mul-put-choice
+    (λ c κs. omega arith)  -- row-choice-requires
+    (λ c. omega arith)  -- mul-put-choice
     put-choice-requires
-    add-row
-    loop-less
+    (λ c. omega arith)  -- add-row
+    (λ c. omega arith)  -- loop-less
     loop-again
-    same-length
+    (λ c. out-length (c .before .loop .inv .1))  -- same-length
     returns)

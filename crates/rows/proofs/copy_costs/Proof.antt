@@ -24,12 +24,6 @@ loop-holds c =
     let a = c .before .before .args in
     (omega arith, out-start (costsIn (a .p) (now (a .work))) (a .p) (now (a .costs)))
 
-row-costs-requires : tie.Need-row-costs-requires Inv-loop μ-loop
-row-costs-requires c κs = omega arith
-
-mul-put-costs : tie.Need-mul-put-costs Inv-loop μ-loop
-mul-put-costs c = omega arith
-
 put-costs-requires : tie.Need-put-costs-requires Inv-loop μ-loop
 put-costs-requires c κs =
     let read = c .before in
@@ -43,12 +37,6 @@ put-costs-requires c κs =
     let here = rw zero-add at words in
     (s .pre .2, omega (arith, room, out-length (w .inv .1)), rw (read .row-costs .ensures, front) here)
 
-add-row : tie.Need-add-row Inv-loop μ-loop
-add-row c = omega arith
-
-loop-less : tie.Need-loop-less Inv-loop μ-loop
-loop-less c = omega arith
-
 loop-again : tie.Need-loop-again Inv-loop μ-loop
 loop-again c =
     let put = c .before .before in
@@ -61,9 +49,6 @@ loop-again c =
     let row : take (a .p) (read .row-costs .result) ≡ costsIn (a .p) work (w .row) =
     rw (read .row-costs .ensures) (costs-front work (w .row) (a .p) maxObjectives (s .pre .2)) in
     (omega arith, out-next (w .inv .1) room (costs-long work (w .row) (a .p)) _ (rw row at (put .put-costs .ensures)))
-
-same-length : tie.Need-same-length Inv-loop μ-loop
-same-length c = out-length (c .before .loop .inv .1)
 
 returns : tie.Need-returns Inv-loop μ-loop
 returns c =
@@ -79,11 +64,11 @@ copy-costs-spec =
     Inv-loop
     μ-loop
     loop-holds
-    row-costs-requires
-    mul-put-costs
+    (λ c κs. omega arith)  -- row-costs-requires
+    (λ c. omega arith)  -- mul-put-costs
     put-costs-requires
-    add-row
-    loop-less
+    (λ c. omega arith)  -- add-row
+    (λ c. omega arith)  -- loop-less
     loop-again
-    same-length
+    (λ c. out-length (c .before .loop .inv .1))  -- same-length
     returns)

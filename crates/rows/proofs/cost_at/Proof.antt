@@ -6,23 +6,8 @@ use Rattle.rows.specs.Rows.{costAt}
 use Rattle.rows.proofs.cost_at.Statement.{statement}
 use Rattle.rows.proofs.cost_at.Tie as tie
 
-mul-result : tie.Need-mul-result
-mul-result c = search needs
-
-shared-slice-read-result : tie.Need-shared-slice-read-result
-shared-slice-read-result c = search needs
-
 cast-result : tie.Need-cast-result
 cast-result c = omega (arith, c .shared-slice-known .given (c .before .args .at))
-
-add-result : tie.Need-add-result
-add-result c = search needs
-
-mul-result-2 : tie.Need-mul-result-2
-mul-result-2 c = search needs
-
-shared-slice-read-result-2 : tie.Need-shared-slice-read-result-2
-shared-slice-read-result-2 c = search needs
 
 cast-result-2 : tie.Need-cast-result-2
 cast-result-2 c = omega (arith, c .shared-slice-known2 .given (c .before .before .args .at + 1))
@@ -43,12 +28,12 @@ pub cost-at-spec : {M : Type 1} → statement M
 cost-at-spec =
     tie.close
     (tie.spec
-    mul-result
-    shared-slice-read-result
+    (λ c. search needs)  -- mul-result
+    (λ c. search needs)  -- shared-slice-read-result
     cast-result
-    add-result
-    mul-result-2
-    shared-slice-read-result-2
+    (λ c. search needs)  -- add-result
+    (λ c. search needs)  -- mul-result-2
+    (λ c. search needs)  -- shared-slice-read-result-2
     cast-result-2
     mul-result-3
     add-result-2

@@ -6,7 +6,8 @@ use mir.Syntax.{w8}
 use borrow.Author.Needs.{needs}
 use Rattle.model.specs.Limits.{maxVariables}
 use Rattle.vectors.proofs.Fronts.{array-front}
-use Rattle.vectors.proofs.Comparing.{Comparing, comparing-start, comparing-less, comparing-more, comparing-next, comparing-end}
+use Rattle.vectors.proofs.Comparing.{Comparing, comparing-start, comparing-less, comparing-more, comparing-next}
+use Rattle.vectors.proofs.Comparing.{comparing-end}
 use Rattle.rows.proofs.is_earlier_choice.Statement.{statement}
 use Rattle.rows.proofs.is_earlier_choice.Tie as tie
 
@@ -22,36 +23,15 @@ long-x s = array-front w8 maxVariables (s .args .t1) _ (s .good .0) (s .args .n)
 long-y : (s : tie.Start Inv-loop μ-loop) → s .args .n ≤ length (s .args .t2)
 long-y s = array-front w8 maxVariables (s .args .t2) _ (s .good .1 .0) (s .args .n) (s .pre)
 
-loop-holds : tie.Need-loop-holds Inv-loop μ-loop
-loop-holds c = comparing-start (c .args .n) (c .args .t1) (c .args .t2)
-
-array-read-if1 : tie.Need-array-read-if1 Inv-loop μ-loop
-array-read-if1 c = search needs
-
-array-read-if1-2 : tie.Need-array-read-if1-2 Inv-loop μ-loop
-array-read-if1-2 c = search needs
-
 returns : tie.Need-returns Inv-loop μ-loop
 returns c =
     let s = c .before .before .before in
     comparing-less (c .before .before .loop .inv) (long-x s) (long-y s) (omega arith) (c .if1 .taken)
 
-array-read-if2 : tie.Need-array-read-if2 Inv-loop μ-loop
-array-read-if2 c = search needs
-
-array-read-if2-2 : tie.Need-array-read-if2-2 Inv-loop μ-loop
-array-read-if2-2 c = search needs
-
 returns-2 : tie.Need-returns-2 Inv-loop μ-loop
 returns-2 c =
     let s = c .before .before .before .before in
     comparing-more (c .before .before .before .loop .inv) (long-x s) (long-y s) (omega arith) (c .if2 .taken)
-
-add-i : tie.Need-add-i Inv-loop μ-loop
-add-i c = search needs
-
-loop-less : tie.Need-loop-less Inv-loop μ-loop
-loop-less c = search needs
 
 loop-again : tie.Need-loop-again Inv-loop μ-loop
 loop-again c =
@@ -69,14 +49,14 @@ is-earlier-choice-spec =
     (tie.spec
     Inv-loop
     μ-loop
-    loop-holds
-    array-read-if1
-    array-read-if1-2
+    (λ c. comparing-start (c .args .n) (c .args .t1) (c .args .t2))  -- loop-holds
+    (λ c. search needs)  -- array-read-if1
+    (λ c. search needs)  -- array-read-if1-2
     returns
-    array-read-if2
-    array-read-if2-2
+    (λ c. search needs)  -- array-read-if2
+    (λ c. search needs)  -- array-read-if2-2
     returns-2
-    add-i
-    loop-less
+    (λ c. search needs)  -- add-i
+    (λ c. search needs)  -- loop-less
     loop-again
     returns-3)

@@ -11,27 +11,12 @@ use Rattle.rows.proofs.RowNumbers.{costs-long, costs-front, values-long
 use Rattle.rows.proofs.point_at.Statement.{statement}
 use Rattle.rows.proofs.point_at.Tie as tie
 
-row-costs-requires : tie.Need-row-costs-requires
-row-costs-requires c κs = search needs
-
-slice-aggregate-put-costs : tie.Need-slice-aggregate-put-costs
-slice-aggregate-put-costs c = search needs
-
 put-costs-requires : tie.Need-put-costs-requires
 put-costs-requires c κs =
     let read = c .before in
     let s = read .before .before in
     let front = costs-front (now (s .args .work)) (s .args .row) (s .args .p) maxObjectives (s .pre .3) in
     (s .pre .3, omega arith, rw (read .row-costs .ensures, front) (s .pre .4))
-
-row-choice-requires : tie.Need-row-choice-requires
-row-choice-requires c κs = search needs
-
-slice-aggregate-put-choice : tie.Need-slice-aggregate-put-choice
-slice-aggregate-put-choice c = search needs
-
-put-choice-requires : tie.Need-put-choice-requires
-put-choice-requires c κs = search needs
 
 returns : tie.Need-returns
 returns c =
@@ -61,10 +46,10 @@ pub point-at-spec : {M : Type 1} → statement M
 point-at-spec =
     tie.close
     (tie.spec
-    row-costs-requires
-    slice-aggregate-put-costs
+    (λ c κs. search needs)  -- row-costs-requires
+    (λ c. search needs)  -- slice-aggregate-put-costs
     put-costs-requires
-    row-choice-requires
-    slice-aggregate-put-choice
-    put-choice-requires
+    (λ c κs. search needs)  -- row-choice-requires
+    (λ c. search needs)  -- slice-aggregate-put-choice
+    (λ c κs. search needs)  -- put-choice-requires
     returns)

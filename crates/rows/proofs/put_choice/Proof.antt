@@ -22,30 +22,6 @@ loop-holds c =
     let long = array-length w8 maxVariables (a .t1) _ (c .good .0) in
     copied-start (now (a .choices)) (a .to) (a .t1) (a .count) (c .pre .1) (omega (arith, c .pre, long))
 
-array-read-choices : tie.Need-array-read-choices Inv-loop μ-loop
-array-read-choices c = omega arith
-
-add-choices : tie.Need-add-choices Inv-loop μ-loop
-add-choices c = omega arith
-
-slice-write-choices : tie.Need-slice-write-choices Inv-loop μ-loop
-slice-write-choices c = omega (arith, copied-length (c .before .loop .inv))
-
-add-i : tie.Need-add-i Inv-loop μ-loop
-add-i c = omega arith
-
-loop-less : tie.Need-loop-less Inv-loop μ-loop
-loop-less c = omega arith
-
-loop-again : tie.Need-loop-again Inv-loop μ-loop
-loop-again c = copied-next (c .before .loop .inv) (omega arith) _ refl
-
-same-length : tie.Need-same-length Inv-loop μ-loop
-same-length c = copied-length (c .before .loop .inv)
-
-returns : tie.Need-returns Inv-loop μ-loop
-returns c = copied-end (c .before .loop .inv) (omega arith)
-
 pub put-choice-spec : {M : Type 1} → statement M
 put-choice-spec =
     tie.close
@@ -53,11 +29,11 @@ put-choice-spec =
     Inv-loop
     μ-loop
     loop-holds
-    array-read-choices
-    add-choices
-    slice-write-choices
-    add-i
-    loop-less
-    loop-again
-    same-length
-    returns)
+    (λ c. omega arith)  -- array-read-choices
+    (λ c. omega arith)  -- add-choices
+    (λ c. omega (arith, copied-length (c .before .loop .inv)))  -- slice-write-choices
+    (λ c. omega arith)  -- add-i
+    (λ c. omega arith)  -- loop-less
+    (λ c. copied-next (c .before .loop .inv) (omega arith) _ refl)  -- loop-again
+    (λ c. copied-length (c .before .loop .inv))  -- same-length
+    (λ c. copied-end (c .before .loop .inv) (omega arith)))  -- returns

@@ -27,12 +27,6 @@ loop-holds c =
     let a = c .args in
     copied-start (now (a .costs)) (a .to) (a .t1) (a .count) (c .pre .1) (omega (arith, c .pre, long-row c))
 
-mul-costs : tie.Need-mul-costs Inv-loop μ-loop
-mul-costs c = omega arith
-
-array-read-costs : tie.Need-array-read-costs Inv-loop μ-loop
-array-read-costs c = omega arith
-
 cast-costs : tie.Need-cast-costs Inv-loop μ-loop
 cast-costs c =
     let s = c .before .before in
@@ -42,30 +36,6 @@ cast-costs c =
           (c .before .loop .i) (omega arith),
     )
 
-add-costs : tie.Need-add-costs Inv-loop μ-loop
-add-costs c = omega arith
-
-mul-costs-2 : tie.Need-mul-costs-2 Inv-loop μ-loop
-mul-costs-2 c = omega (arith, copied-length (c .before .loop .inv))
-
-slice-write-costs : tie.Need-slice-write-costs Inv-loop μ-loop
-slice-write-costs c = omega (arith, copied-length (c .before .loop .inv))
-
-add-i : tie.Need-add-i Inv-loop μ-loop
-add-i c = omega arith
-
-loop-less : tie.Need-loop-less Inv-loop μ-loop
-loop-less c = omega arith
-
-loop-again : tie.Need-loop-again Inv-loop μ-loop
-loop-again c = copied-next (c .before .loop .inv) (omega arith) _ refl
-
-same-length : tie.Need-same-length Inv-loop μ-loop
-same-length c = copied-length (c .before .loop .inv)
-
-returns : tie.Need-returns Inv-loop μ-loop
-returns c = copied-end (c .before .loop .inv) (omega arith)
-
 pub put-costs-spec : {M : Type 1} → statement M
 put-costs-spec =
     tie.close
@@ -73,14 +43,14 @@ put-costs-spec =
     Inv-loop
     μ-loop
     loop-holds
-    mul-costs
-    array-read-costs
+    (λ c. omega arith)  -- mul-costs
+    (λ c. omega arith)  -- array-read-costs
     cast-costs
-    add-costs
-    mul-costs-2
-    slice-write-costs
-    add-i
-    loop-less
-    loop-again
-    same-length
-    returns)
+    (λ c. omega arith)  -- add-costs
+    (λ c. omega (arith, copied-length (c .before .loop .inv)))  -- mul-costs-2
+    (λ c. omega (arith, copied-length (c .before .loop .inv)))  -- slice-write-costs
+    (λ c. omega arith)  -- add-i
+    (λ c. omega arith)  -- loop-less
+    (λ c. copied-next (c .before .loop .inv) (omega arith) _ refl)  -- loop-again
+    (λ c. copied-length (c .before .loop .inv))  -- same-length
+    (λ c. copied-end (c .before .loop .inv) (omega arith)))  -- returns

@@ -13,18 +13,6 @@ unfolding divided
 divided-is a zero h = absurd (omega arith)
 divided-is a (suc b) h = refl
 
-div-lesser : tie.Need-div-lesser
-div-lesser c = search needs
-
-div-lesser-2 : tie.Need-div-lesser-2
-div-lesser-2 c = search needs
-
-lesser-requires : tie.Need-lesser-requires
-lesser-requires c κs = search needs
-
-lesser-requires-2 : tie.Need-lesser-requires-2
-lesser-requires-2 c κs = search needs
-
 returns : tie.Need-returns
 returns c =
     let s = c .before .before in
@@ -33,4 +21,10 @@ returns c =
 
 pub room-of-spec : {M : Type 1} → statement M
 room-of-spec =
-    tie.close (tie.spec div-lesser div-lesser-2 lesser-requires lesser-requires-2 returns)
+    tie.close
+    (tie.spec
+    (λ c. search needs)  -- div-lesser
+    (λ c. search needs)  -- div-lesser-2
+    (λ c κs. search needs)  -- lesser-requires
+    (λ c κs. search needs)  -- lesser-requires-2
+    returns)

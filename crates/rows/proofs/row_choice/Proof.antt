@@ -7,138 +7,6 @@ use Rattle.rows.specs.Rows.{valueAt, valuesIn, tabulated}
 use Rattle.rows.proofs.row_choice.Statement.{statement}
 use Rattle.rows.proofs.row_choice.Tie as tie
 
-mul-at : tie.Need-mul-at
-mul-at c = search needs
-
-add-at : tie.Need-add-at
-add-at c = search needs
-
-add-at-2 : tie.Need-add-at-2
-add-at-2 c = search needs
-
-mul-a : tie.Need-mul-a
-mul-a c = search needs
-
-shared-slice-read-a : tie.Need-shared-slice-read-a
-shared-slice-read-a c = search needs
-
-add-b : tie.Need-add-b
-add-b c = search needs
-
-mul-b : tie.Need-mul-b
-mul-b c = search needs
-
-shared-slice-read-b : tie.Need-shared-slice-read-b
-shared-slice-read-b c = search needs
-
-add-c : tie.Need-add-c
-add-c c = search needs
-
-mul-c : tie.Need-mul-c
-mul-c c = search needs
-
-shared-slice-read-c : tie.Need-shared-slice-read-c
-shared-slice-read-c c = search needs
-
-add-d : tie.Need-add-d
-add-d c = search needs
-
-mul-d : tie.Need-mul-d
-mul-d c = search needs
-
-shared-slice-read-d : tie.Need-shared-slice-read-d
-shared-slice-read-d c = search needs
-
-add-e : tie.Need-add-e
-add-e c = search needs
-
-mul-e : tie.Need-mul-e
-mul-e c = search needs
-
-shared-slice-read-e : tie.Need-shared-slice-read-e
-shared-slice-read-e c = search needs
-
-add-f : tie.Need-add-f
-add-f c = search needs
-
-mul-f : tie.Need-mul-f
-mul-f c = search needs
-
-shared-slice-read-f : tie.Need-shared-slice-read-f
-shared-slice-read-f c = search needs
-
-byte-of-requires : tie.Need-byte-of-requires
-byte-of-requires c κs = search needs
-
-byte-of-requires-2 : tie.Need-byte-of-requires-2
-byte-of-requires-2 c κs = search needs
-
-byte-of-requires-3 : tie.Need-byte-of-requires-3
-byte-of-requires-3 c κs = search needs
-
-byte-of-requires-4 : tie.Need-byte-of-requires-4
-byte-of-requires-4 c κs = search needs
-
-byte-of-requires-5 : tie.Need-byte-of-requires-5
-byte-of-requires-5 c κs = search needs
-
-byte-of-requires-6 : tie.Need-byte-of-requires-6
-byte-of-requires-6 c κs = search needs
-
-byte-of-requires-7 : tie.Need-byte-of-requires-7
-byte-of-requires-7 c κs = search needs
-
-byte-of-requires-8 : tie.Need-byte-of-requires-8
-byte-of-requires-8 c κs = search needs
-
-byte-of-requires-9 : tie.Need-byte-of-requires-9
-byte-of-requires-9 c κs = search needs
-
-byte-of-requires-10 : tie.Need-byte-of-requires-10
-byte-of-requires-10 c κs = search needs
-
-byte-of-requires-11 : tie.Need-byte-of-requires-11
-byte-of-requires-11 c κs = search needs
-
-byte-of-requires-12 : tie.Need-byte-of-requires-12
-byte-of-requires-12 c κs = search needs
-
-byte-of-requires-13 : tie.Need-byte-of-requires-13
-byte-of-requires-13 c κs = search needs
-
-byte-of-requires-14 : tie.Need-byte-of-requires-14
-byte-of-requires-14 c κs = search needs
-
-byte-of-requires-15 : tie.Need-byte-of-requires-15
-byte-of-requires-15 c κs = search needs
-
-byte-of-requires-16 : tie.Need-byte-of-requires-16
-byte-of-requires-16 c κs = search needs
-
-byte-of-requires-17 : tie.Need-byte-of-requires-17
-byte-of-requires-17 c κs = search needs
-
-byte-of-requires-18 : tie.Need-byte-of-requires-18
-byte-of-requires-18 c κs = search needs
-
-byte-of-requires-19 : tie.Need-byte-of-requires-19
-byte-of-requires-19 c κs = search needs
-
-byte-of-requires-20 : tie.Need-byte-of-requires-20
-byte-of-requires-20 c κs = search needs
-
-byte-of-requires-21 : tie.Need-byte-of-requires-21
-byte-of-requires-21 c κs = search needs
-
-byte-of-requires-22 : tie.Need-byte-of-requires-22
-byte-of-requires-22 c κs = search needs
-
-byte-of-requires-23 : tie.Need-byte-of-requires-23
-byte-of-requires-23 c κs = search needs
-
-byte-of-requires-24 : tie.Need-byte-of-requires-24
-byte-of-requires-24 c κs = search needs
-
 returns : tie.Need-returns
 unfolding valuesIn tabulated valueAt
 returns c =
@@ -195,48 +63,48 @@ pub row-choice-spec : {M : Type 1} → statement M
 row-choice-spec =
     tie.close
     (tie.spec
-    mul-at
-    add-at
-    add-at-2
-    mul-a
-    shared-slice-read-a
-    add-b
-    mul-b
-    shared-slice-read-b
-    add-c
-    mul-c
-    shared-slice-read-c
-    add-d
-    mul-d
-    shared-slice-read-d
-    add-e
-    mul-e
-    shared-slice-read-e
-    add-f
-    mul-f
-    shared-slice-read-f
-    byte-of-requires
-    byte-of-requires-2
-    byte-of-requires-3
-    byte-of-requires-4
-    byte-of-requires-5
-    byte-of-requires-6
-    byte-of-requires-7
-    byte-of-requires-8
-    byte-of-requires-9
-    byte-of-requires-10
-    byte-of-requires-11
-    byte-of-requires-12
-    byte-of-requires-13
-    byte-of-requires-14
-    byte-of-requires-15
-    byte-of-requires-16
-    byte-of-requires-17
-    byte-of-requires-18
-    byte-of-requires-19
-    byte-of-requires-20
-    byte-of-requires-21
-    byte-of-requires-22
-    byte-of-requires-23
-    byte-of-requires-24
+    (λ c. search needs)  -- mul-at
+    (λ c. search needs)  -- add-at
+    (λ c. search needs)  -- add-at-2
+    (λ c. search needs)  -- mul-a
+    (λ c. search needs)  -- shared-slice-read-a
+    (λ c. search needs)  -- add-b
+    (λ c. search needs)  -- mul-b
+    (λ c. search needs)  -- shared-slice-read-b
+    (λ c. search needs)  -- add-c
+    (λ c. search needs)  -- mul-c
+    (λ c. search needs)  -- shared-slice-read-c
+    (λ c. search needs)  -- add-d
+    (λ c. search needs)  -- mul-d
+    (λ c. search needs)  -- shared-slice-read-d
+    (λ c. search needs)  -- add-e
+    (λ c. search needs)  -- mul-e
+    (λ c. search needs)  -- shared-slice-read-e
+    (λ c. search needs)  -- add-f
+    (λ c. search needs)  -- mul-f
+    (λ c. search needs)  -- shared-slice-read-f
+    (λ c κs. search needs)  -- byte-of-requires
+    (λ c κs. search needs)  -- byte-of-requires-2
+    (λ c κs. search needs)  -- byte-of-requires-3
+    (λ c κs. search needs)  -- byte-of-requires-4
+    (λ c κs. search needs)  -- byte-of-requires-5
+    (λ c κs. search needs)  -- byte-of-requires-6
+    (λ c κs. search needs)  -- byte-of-requires-7
+    (λ c κs. search needs)  -- byte-of-requires-8
+    (λ c κs. search needs)  -- byte-of-requires-9
+    (λ c κs. search needs)  -- byte-of-requires-10
+    (λ c κs. search needs)  -- byte-of-requires-11
+    (λ c κs. search needs)  -- byte-of-requires-12
+    (λ c κs. search needs)  -- byte-of-requires-13
+    (λ c κs. search needs)  -- byte-of-requires-14
+    (λ c κs. search needs)  -- byte-of-requires-15
+    (λ c κs. search needs)  -- byte-of-requires-16
+    (λ c κs. search needs)  -- byte-of-requires-17
+    (λ c κs. search needs)  -- byte-of-requires-18
+    (λ c κs. search needs)  -- byte-of-requires-19
+    (λ c κs. search needs)  -- byte-of-requires-20
+    (λ c κs. search needs)  -- byte-of-requires-21
+    (λ c κs. search needs)  -- byte-of-requires-22
+    (λ c κs. search needs)  -- byte-of-requires-23
+    (λ c κs. search needs)  -- byte-of-requires-24
     returns)

@@ -7,33 +7,6 @@ use Rattle.rows.specs.Rows.{costsIn, tabulated}
 use Rattle.rows.proofs.row_costs.Statement.{statement}
 use Rattle.rows.proofs.row_costs.Tie as tie
 
-mul-at : tie.Need-mul-at
-mul-at c = search needs
-
-add-at : tie.Need-add-at
-add-at c = search needs
-
-cost-at-requires : tie.Need-cost-at-requires
-cost-at-requires c κs = search needs
-
-add-cost-at : tie.Need-add-cost-at
-add-cost-at c = search needs
-
-cost-at-requires-2 : tie.Need-cost-at-requires-2
-cost-at-requires-2 c κs = search needs
-
-add-cost-at-2 : tie.Need-add-cost-at-2
-add-cost-at-2 c = search needs
-
-cost-at-requires-3 : tie.Need-cost-at-requires-3
-cost-at-requires-3 c κs = search needs
-
-add-cost-at-3 : tie.Need-add-cost-at-3
-add-cost-at-3 c = search needs
-
-cost-at-requires-4 : tie.Need-cost-at-requires-4
-cost-at-requires-4 c κs = search needs
-
 returns : tie.Need-returns
 unfolding costsIn tabulated
 returns c =
@@ -48,13 +21,13 @@ pub row-costs-spec : {M : Type 1} → statement M
 row-costs-spec =
     tie.close
     (tie.spec
-    mul-at
-    add-at
-    cost-at-requires
-    add-cost-at
-    cost-at-requires-2
-    add-cost-at-2
-    cost-at-requires-3
-    add-cost-at-3
-    cost-at-requires-4
+    (λ c. search needs)  -- mul-at
+    (λ c. search needs)  -- add-at
+    (λ c κs. search needs)  -- cost-at-requires
+    (λ c. search needs)  -- add-cost-at
+    (λ c κs. search needs)  -- cost-at-requires-2
+    (λ c. search needs)  -- add-cost-at-2
+    (λ c κs. search needs)  -- cost-at-requires-3
+    (λ c. search needs)  -- add-cost-at-3
+    (λ c κs. search needs)  -- cost-at-requires-4
     returns)

@@ -26,38 +26,11 @@ loop-holds c =
     let a = c .args in
     (omega arith, costs-none (a .at) (padded maxObjectives (take (a .p) (a .t1))) (now (a .work)))
 
-mul-cost : tie.Need-mul-cost Inv-loop μ-loop
-mul-cost c = omega arith
-
-array-read-cost : tie.Need-array-read-cost Inv-loop μ-loop
-array-read-cost c = omega arith
-
-cast-work : tie.Need-cast-work Inv-loop μ-loop
-cast-work c = omega arith
-
-mul-work : tie.Need-mul-work Inv-loop μ-loop
-mul-work c = omega arith
-
-add-work : tie.Need-add-work Inv-loop μ-loop
-add-work c = omega arith
-
 mul-work-2 : tie.Need-mul-work-2 Inv-loop μ-loop
 mul-work-2 c = omega (arith, c .before .before .before .loop .inv .1 .changed .long)
 
 slice-write-work : tie.Need-slice-write-work Inv-loop μ-loop
 slice-write-work c = omega (arith, c .before .before .before .loop .inv .1 .changed .long)
-
-cast-work-2 : tie.Need-cast-work-2 Inv-loop μ-loop
-cast-work-2 c = omega arith
-
-mul-work-3 : tie.Need-mul-work-3 Inv-loop μ-loop
-mul-work-3 c = omega arith
-
-add-work-2 : tie.Need-add-work-2 Inv-loop μ-loop
-add-work-2 c = omega arith
-
-add-work-3 : tie.Need-add-work-3 Inv-loop μ-loop
-add-work-3 c = omega arith
 
 mul-work-4 : tie.Need-mul-work-4 Inv-loop μ-loop
 mul-work-4 c = omega (arith, c .before .before .before .loop .inv .1 .changed .long)
@@ -66,12 +39,6 @@ slice-write-work-2 : tie.Need-slice-write-work-2 Inv-loop μ-loop
 slice-write-work-2 c =
     let w = c .before .before .before .loop in
     simp length-set (omega (arith, w .inv .1 .changed .long))
-
-add-i : tie.Need-add-i Inv-loop μ-loop
-add-i c = omega arith
-
-loop-less : tie.Need-loop-less Inv-loop μ-loop
-loop-less c = omega arith
 
 loop-again : tie.Need-loop-again Inv-loop μ-loop
 loop-again c =
@@ -87,9 +54,6 @@ loop-again c =
     (branch .if1 .came) in
     (omega arith, costs-more (w .inv .1) (omega arith) (s .pre .0) (branch .if1 .cost) is)
 
-same-length : tie.Need-same-length Inv-loop μ-loop
-same-length c = c .before .loop .inv .1 .changed .long
-
 returns : tie.Need-returns Inv-loop μ-loop
 returns c =
     let w = c .before .loop in
@@ -102,21 +66,21 @@ store-costs-spec =
     Inv-loop
     μ-loop
     loop-holds
-    mul-cost
-    array-read-cost
-    cast-work
-    mul-work
-    add-work
+    (λ c. omega arith)  -- mul-cost
+    (λ c. omega arith)  -- array-read-cost
+    (λ c. omega arith)  -- cast-work
+    (λ c. omega arith)  -- mul-work
+    (λ c. omega arith)  -- add-work
     mul-work-2
     slice-write-work
-    cast-work-2
-    mul-work-3
-    add-work-2
-    add-work-3
+    (λ c. omega arith)  -- cast-work-2
+    (λ c. omega arith)  -- mul-work-3
+    (λ c. omega arith)  -- add-work-2
+    (λ c. omega arith)  -- add-work-3
     mul-work-4
     slice-write-work-2
-    add-i
-    loop-less
+    (λ c. omega arith)  -- add-i
+    (λ c. omega arith)  -- loop-less
     loop-again
-    same-length
+    (λ c. c .before .loop .inv .1 .changed .long)  -- same-length
     returns)

@@ -9,24 +9,6 @@ use Rattle.rows.proofs.RowWrites.{row-stored}
 use Rattle.rows.proofs.store_point.Statement.{statement}
 use Rattle.rows.proofs.store_point.Tie as tie
 
-mul-at : tie.Need-mul-at
-mul-at c = search needs
-
-add-at : tie.Need-add-at
-add-at c = search needs
-
-store-costs-requires : tie.Need-store-costs-requires
-store-costs-requires c κs = search needs
-
-add-store-choice : tie.Need-add-store-choice
-add-store-choice c = search needs
-
-store-choice-requires : tie.Need-store-choice-requires
-store-choice-requires c κs = search needs
-
-same-length : tie.Need-same-length
-same-length c = search needs
-
 returns : tie.Need-returns
 returns c =
     let values = c .before .before in
@@ -42,10 +24,10 @@ pub store-point-spec : {M : Type 1} → statement M
 store-point-spec =
     tie.close
     (tie.spec
-    mul-at
-    add-at
-    store-costs-requires
-    add-store-choice
-    store-choice-requires
-    same-length
+    (λ c. search needs)  -- mul-at
+    (λ c. search needs)  -- add-at
+    (λ c κs. search needs)  -- store-costs-requires
+    (λ c. search needs)  -- add-store-choice
+    (λ c κs. search needs)  -- store-choice-requires
+    (λ c. search needs)  -- same-length
     returns)

@@ -22,53 +22,52 @@ abbrev μ-loop : tie.MeasureT-loop
 
 -- what is left of either vector from i on
 module _ (s : tie.Start Inv-loop μ-loop) (i : ℕ) (h : i < s .args .p) where
-  left-a : drop i (take (s .args .p) (s .args .t1)) ≡ getD (s .args .t1) i 0 ∷ drop (i + 1) (take (s .args .p) (s .args .t1))
-  left-a = front-cons (s .args .p) (s .args .t1) (array-front w64 maxObjectives (s .args .t1) _ (s .good .0) (s .args .p) (s .pre)) i h
+  left-a :
+      drop i (take (s .args .p) (s .args .t1)) ≡ getD (s .args .t1) i 0 ∷ drop (i + 1) (take (s .args .p) (s .args .t1))
+  left-a =
+      front-cons (s .args .p) (s .args .t1)
+      (array-front w64 maxObjectives (s .args .t1) _ (s .good .0) (s .args .p) (s .pre)) i h
 
-  left-b : drop i (take (s .args .p) (s .args .t2)) ≡ getD (s .args .t2) i 0 ∷ drop (i + 1) (take (s .args .p) (s .args .t2))
-  left-b = front-cons (s .args .p) (s .args .t2) (array-front w64 maxObjectives (s .args .t2) _ (s .good .1 .0) (s .args .p) (s .pre)) i h
-
-loop-holds : tie.Need-loop-holds Inv-loop μ-loop
-loop-holds c = (omega arith, refl)
-
-mul-if1 : tie.Need-mul-if1 Inv-loop μ-loop
-mul-if1 c = search needs
-
-array-read-if1 : tie.Need-array-read-if1 Inv-loop μ-loop
-array-read-if1 c = search needs
-
-mul-if1-2 : tie.Need-mul-if1-2 Inv-loop μ-loop
-mul-if1-2 c = search needs
-
-array-read-if1-2 : tie.Need-array-read-if1-2 Inv-loop μ-loop
-array-read-if1-2 c = search needs
+  left-b :
+      drop i (take (s .args .p) (s .args .t2)) ≡ getD (s .args .t2) i 0 ∷ drop (i + 1) (take (s .args .p) (s .args .t2))
+  left-b =
+      front-cons (s .args .p) (s .args .t2)
+      (array-front w64 maxObjectives (s .args .t2) _ (s .good .1 .0) (s .args .p) (s .pre)) i h
 
 returns : tie.Need-returns Inv-loop μ-loop
 unfolding atMost
 returns c =
     let s = c .before .before .before in
     let i = c .before .before .loop .i in
-    sym (c .before .before .loop .inv .1 ∙ rw (left-a s i (omega arith), left-b s i (omega arith), lt-leb (getD (s .args .t1) i 0) (getD (s .args .t2) i 0) (c .if1 .taken)))
-
-add-i : tie.Need-add-i Inv-loop μ-loop
-add-i c = search needs
-
-loop-less : tie.Need-loop-less Inv-loop μ-loop
-loop-less c = search needs
+    sym (c .before .before .loop .inv .1
+    ∙ rw (
+      left-a s i (omega arith),
+      left-b s i (omega arith),
+      lt-leb (getD (s .args .t1) i 0) (getD (s .args .t2) i 0) (c .if1 .taken),
+    ))
 
 loop-again : tie.Need-loop-again Inv-loop μ-loop
 unfolding atMost
 loop-again c =
     let s = c .before .before .before in
-    let i = c .before .before .loop .i in
-    (omega arith, c .before .before .loop .inv .1 ∙ rw (left-a s i (omega arith), left-b s i (omega arith), le-leb (getD (s .args .t1) i 0) (getD (s .args .t2) i 0) (c .if1 .left)))
+    let i = c .before .before .loop .i in (
+      omega arith,
+      c .before .before .loop .inv .1
+          ∙ rw (
+            left-a s i (omega arith),
+            left-b s i (omega arith),
+            le-leb (getD (s .args .t1) i 0) (getD (s .args .t2) i 0) (c .if1 .left),
+          ),
+    )
 
 returns-2 : tie.Need-returns-2 Inv-loop μ-loop
 unfolding atMost
 returns-2 c =
     let s = c .before .before in
     let i = c .before .loop .i in
-    sym (c .before .loop .inv .1 ∙ rw (front-end (s .args .p) (s .args .t1) (array-front w64 maxObjectives (s .args .t1) _ (s .good .0) (s .args .p) (s .pre)) i (omega arith)))
+    sym (c .before .loop .inv .1
+    ∙ rw (front-end (s .args .p) (s .args .t1)
+    (array-front w64 maxObjectives (s .args .t1) _ (s .good .0) (s .args .p) (s .pre)) i (omega arith)))
 
 pub is-at-most-spec : {M : Type 1} → statement M
 is-at-most-spec =
@@ -76,13 +75,13 @@ is-at-most-spec =
     (tie.spec
     Inv-loop
     μ-loop
-    loop-holds
-    mul-if1
-    array-read-if1
-    mul-if1-2
-    array-read-if1-2
+    (λ c. (omega arith, refl))  -- loop-holds
+    (λ c. search needs)  -- mul-if1
+    (λ c. search needs)  -- array-read-if1
+    (λ c. search needs)  -- mul-if1-2
+    (λ c. search needs)  -- array-read-if1-2
     returns
-    add-i
-    loop-less
+    (λ c. search needs)  -- add-i
+    (λ c. search needs)  -- loop-less
     loop-again
     returns-2)

@@ -18,45 +18,11 @@ module _ (s : tie.Start) where
   small i l =
       omega (
         arith,
-        all-at Half (s .args .t1) (s .pre .0) i 0 (omega (arith, array-front w64 maxObjectives (s .args .t1) _ (s .good .0) maxObjectives (omega arith))),
-        all-at Half (s .args .t2) (s .pre .1) i 0 (omega (arith, array-front w64 maxObjectives (s .args .t2) _ (s .good .1 .0) maxObjectives (omega arith))),
+        all-at Half (s .args .t1) (s .pre .0) i 0
+            (omega (arith, array-front w64 maxObjectives (s .args .t1) _ (s .good .0) maxObjectives (omega arith))),
+        all-at Half (s .args .t2) (s .pre .1) i 0
+            (omega (arith, array-front w64 maxObjectives (s .args .t2) _ (s .good .1 .0) maxObjectives (omega arith))),
       )
-
-array-read-t7 : tie.Need-array-read-t7
-array-read-t7 c = search needs
-
-array-read-t10 : tie.Need-array-read-t10
-array-read-t10 c = search needs
-
-add-t11 : tie.Need-add-t11
-add-t11 c = omega (arith, small c 0 (omega arith))
-
-array-read-t14 : tie.Need-array-read-t14
-array-read-t14 c = search needs
-
-array-read-t17 : tie.Need-array-read-t17
-array-read-t17 c = search needs
-
-add-t18 : tie.Need-add-t18
-add-t18 c = omega (arith, small c 1 (omega arith))
-
-array-read-t21 : tie.Need-array-read-t21
-array-read-t21 c = search needs
-
-array-read-t24 : tie.Need-array-read-t24
-array-read-t24 c = search needs
-
-add-t25 : tie.Need-add-t25
-add-t25 c = omega (arith, small c 2 (omega arith))
-
-array-read-t28 : tie.Need-array-read-t28
-array-read-t28 c = search needs
-
-array-read-t31 : tie.Need-array-read-t31
-array-read-t31 c = search needs
-
-add-t32 : tie.Need-add-t32
-add-t32 c = omega (arith, small c 3 (omega arith))
 
 returns : tie.Need-returns
 returns c =
@@ -70,16 +36,16 @@ pub sum-spec : {M : Type 1} → statement M
 sum-spec =
     tie.close
     (tie.spec
-    array-read-t7
-    array-read-t10
-    add-t11
-    array-read-t14
-    array-read-t17
-    add-t18
-    array-read-t21
-    array-read-t24
-    add-t25
-    array-read-t28
-    array-read-t31
-    add-t32
+    (λ c. search needs)  -- array-read-t7
+    (λ c. search needs)  -- array-read-t10
+    (λ c. omega (arith, small c 0 (omega arith)))  -- add-t11
+    (λ c. search needs)  -- array-read-t14
+    (λ c. search needs)  -- array-read-t17
+    (λ c. omega (arith, small c 1 (omega arith)))  -- add-t18
+    (λ c. search needs)  -- array-read-t21
+    (λ c. search needs)  -- array-read-t24
+    (λ c. omega (arith, small c 2 (omega arith)))  -- add-t25
+    (λ c. search needs)  -- array-read-t28
+    (λ c. search needs)  -- array-read-t31
+    (λ c. omega (arith, small c 3 (omega arith)))  -- add-t32
     returns)

@@ -1,4 +1,5 @@
--- `views::first_linked` meets its contract. The invariant, `Linking`: the verdict on the records that are left is that on all.
+-- `views::first_linked` meets its contract. The invariant, `Linking`: the verdict on the records that are left is that
+-- on all.
 use mathlib.Core.Path.{sym, _∙_}
 use mathlib.Core.Logic.{inl, inr, ⊎-elim}
 use native.Mathlib.Omega.{arith}
@@ -7,7 +8,8 @@ use Rattle.model.specs.Refusals.{linked}
 use Rattle.problem.specs.Records.{Whole}
 use Rattle.problem.proofs.TableSteps.{says-verdict}
 use Rattle.views.proofs.SideSteps.{whole-sides}
-use Rattle.views.proofs.LinkedSteps.{Linking, linking-start, linking-whole, linking-found, linking-next, linking-end}
+use Rattle.views.proofs.LinkedSteps.{Linking, linking-start, linking-whole, linking-found, linking-next}
+use Rattle.views.proofs.LinkedSteps.{linking-end}
 use Rattle.views.proofs.first_linked.Statement.{statement}
 use Rattle.views.proofs.first_linked.Tie as tie
 use Rattle.views.proofs.first_linked.Reads as reads
@@ -27,20 +29,29 @@ loop-holds c =
     linking-start (now (a .sizes)) (now (a .s)) (now (a .sides)) (a .r) (a .at) (c .before .before .before .pre .0)
 
 -- the next record is whole
-whole : (c : lts.In-loop (has-side-reads.Asked, has-side-reads.Learnt, record-at-reads.Asked, record-at-reads.Learnt) reads.Pre reads.Post Inv-loop μ-loop) → let a = c .before .before .before .before .before .args in Whole (now (a .sizes)) (now (a .s)) (c .before .loop .here)
+whole :
+    (c : lts.In-loop (has-side-reads.Asked, has-side-reads.Learnt, record-at-reads.Asked, record-at-reads.Learnt)
+    reads.Pre reads.Post Inv-loop μ-loop)
+    → let a = c .before .before .before .before .before .args in
+    Whole (now (a .sizes)) (now (a .s)) (c .before .loop .here)
 whole c = linking-whole (c .before .loop .inv) (omega arith)
 
 has-side-requires : tie.Need-has-side-requires Inv-loop μ-loop
-has-side-requires c κs = whole-sides (now (c .before .before .before .before .before .args .sides)) (c .before .before .before .before .before .pre .2) (whole c)
+has-side-requires c κs =
+    whole-sides (now (c .before .before .before .before .before .args .sides))
+    (c .before .before .before .before .before .pre .2) (whole c)
 
 has-side-requires-2 : tie.Need-has-side-requires-2 Inv-loop μ-loop
-has-side-requires-2 c κs = whole-sides (now (c .before .before .before .before .before .before .before .args .sides)) (c .before .before .before .before .before .before .before .pre .2) (whole (c .before .before))
+has-side-requires-2 c κs =
+    whole-sides (now (c .before .before .before .before .before .before .before .args .sides))
+    (c .before .before .before .before .before .before .before .pre .2) (whole (c .before .before))
 
 returns : tie.Need-returns Inv-loop μ-loop
 returns c =
     let first = sym (c .before .before .before .has-side .ensures) ∙ c .before .before .if1 .taken in
     let second = sym (c .before .has-side2 .ensures) ∙ c .if2 .taken in
-    says-verdict linked _ (linking-found (c .before .before .before .before .before .loop .inv) (omega arith) first second)
+    says-verdict linked _
+    (linking-found (c .before .before .before .before .before .loop .inv) (omega arith) first second)
 
 record-at-requires : tie.Need-record-at-requires Inv-loop μ-loop
 record-at-requires c κs = (whole (c .before .before), c .before .before .before .before .before .before .before .pre .1)
@@ -48,18 +59,14 @@ record-at-requires c κs = (whole (c .before .before), c .before .before .before
 add-here : tie.Need-add-here Inv-loop μ-loop
 add-here c = omega (arith, c .before .record-at .ensures .width, whole (c .before .before .before .before) .long)
 
-sub-left : tie.Need-sub-left Inv-loop μ-loop
-sub-left c = omega arith
-
-loop-less : tie.Need-loop-less Inv-loop μ-loop
-loop-less c = omega arith
-
 loop-again : tie.Need-loop-again Inv-loop μ-loop
 loop-again c =
     let u = c .before .before .before .before .before .loop .inv in
     let wide = c .before .record-at .ensures .width in
     let first = sym (c .before .before .before .has-side .ensures) in
-    linking-next u (omega arith) (⊎-elim (λ t. inr (sym (t .1 .ensures) ∙ t .2 .left)) (λ t. inl (first ∙ t .left)) (c .before .before .if1 .came)) _ wide
+    linking-next u (omega arith)
+    (⊎-elim (λ t. inr (sym (t .1 .ensures) ∙ t .2 .left)) (λ t. inl (first ∙ t .left)) (c .before .before .if1 .came)) _
+    wide
 
 returns-2 : tie.Need-returns-2 Inv-loop μ-loop
 returns-2 c = says-verdict 0 0 (linking-end (c .before .loop .inv) (omega arith))
@@ -76,7 +83,7 @@ first-linked-spec =
     returns
     record-at-requires
     add-here
-    sub-left
-    loop-less
+    (λ c. omega arith)  -- sub-left
+    (λ c. omega arith)  -- loop-less
     loop-again
     returns-2)

@@ -13,22 +13,14 @@ use Rattle.views.proofs.has_side.Statement.{statement}
 use Rattle.views.proofs.has_side.Tie as tie
 
 abbrev Inv-loop : tie.InvT-loop
-Inv-loop s at sides side a i₀ i = (i ≤ a) × (hasSide side sides (drop i (tableScope (drop at s))) ≡ hasSide side sides (tableScope (drop at s)))
+Inv-loop s at sides side a i₀ i =
+    (i ≤ a) × (hasSide side sides (drop i (tableScope (drop at s))) ≡ hasSide side sides (tableScope (drop at s)))
 
 abbrev μ-loop : tie.MeasureT-loop
 μ-loop s at sides side a i₀ i = a - i
 
-add-a : tie.Need-add-a Inv-loop μ-loop
-add-a c = omega arith
-
-shared-slice-read-a : tie.Need-shared-slice-read-a Inv-loop μ-loop
-shared-slice-read-a c = omega arith
-
 cast-a : tie.Need-cast-a Inv-loop μ-loop
 cast-a c = omega (arith, c .shared-slice-known3 .given (c .before .before .before .args .at + 3))
-
-loop-holds : tie.Need-loop-holds Inv-loop μ-loop
-loop-holds c = (omega arith, refl)
 
 side-at-requires : tie.Need-side-at-requires Inv-loop μ-loop
 side-at-requires c κs =
@@ -41,7 +33,8 @@ unfolding hasSide
 returns c =
     let a = c .before .before .before .before .before .before .before .args in
     let w = c .before .before .before .loop in
-    let next = scope-next (now (a .s)) (a .at) (c .before .before .before .before .before .before .before .pre .0) (w .i) (omega arith) in
+    let next = scope-next (now (a .s)) (a .at) (c .before .before .before .before .before .before .before .pre .0)
+    (w .i) (omega arith) in
     rw (next, eq-eqb _ _ (sym (c .before .side-at .ensures) ∙ c .if1 .taken)) at (w .inv .1)
 
 add-i : tie.Need-add-i Inv-loop μ-loop
@@ -49,15 +42,13 @@ add-i c =
     let a = c .before .before .before .before .before .before .before .args in
     omega (arith, arity-inside (now (a .s)) (a .at) (c .before .before .before .before .before .before .before .pre .0))
 
-loop-less : tie.Need-loop-less Inv-loop μ-loop
-loop-less c = omega arith
-
 loop-again : tie.Need-loop-again Inv-loop μ-loop
 unfolding hasSide
 loop-again c =
     let a = c .before .before .before .before .before .before .before .args in
     let w = c .before .before .before .loop in
-    let next = scope-next (now (a .s)) (a .at) (c .before .before .before .before .before .before .before .pre .0) (w .i) (omega arith) in
+    let next = scope-next (now (a .s)) (a .at) (c .before .before .before .before .before .before .before .pre .0)
+    (w .i) (omega arith) in
     (omega arith, rw (next, ne-eqb _ _ (λ e. c .if1 .left (c .before .side-at .ensures ∙ e))) at (w .inv .1))
 
 returns-2 : tie.Need-returns-2 Inv-loop μ-loop
@@ -73,13 +64,13 @@ has-side-spec =
     (tie.spec
     Inv-loop
     μ-loop
-    add-a
-    shared-slice-read-a
+    (λ c. omega arith)  -- add-a
+    (λ c. omega arith)  -- shared-slice-read-a
     cast-a
-    loop-holds
+    (λ c. (omega arith, refl))  -- loop-holds
     side-at-requires
     returns
     add-i
-    loop-less
+    (λ c. omega arith)  -- loop-less
     loop-again
     returns-2)

@@ -5,24 +5,20 @@ use lib.Seq.{getD-drop}
 use Rattle.views.proofs.is_wanted.Statement.{statement}
 use Rattle.views.proofs.is_wanted.Tie as tie
 
-add-o : tie.Need-add-o
-add-o c = search needs
-
-shared-slice-read-o : tie.Need-shared-slice-read-o
-shared-slice-read-o c = search needs
-
-returns : tie.Need-returns
-returns c = rw (getD-drop, lt-leb _ _ (c .if1 .taken))
-
 returns-2 : tie.Need-returns-2
 returns-2 c = rw (getD-drop, le-leb _ _ (c .before .if1 .left), le-ltb _ _ (c .if2 .taken))
 
-lies-on-requires : tie.Need-lies-on-requires
-lies-on-requires c κs = search needs
-
 returns-3 : tie.Need-returns-3
-returns-3 c = rw (getD-drop, le-leb _ _ (c .before .before .if1 .left), lt-ltb _ _ (c .before .if2 .left)) (c .lies-on .ensures)
+returns-3 c =
+    rw (getD-drop, le-leb _ _ (c .before .before .if1 .left), lt-ltb _ _ (c .before .if2 .left)) (c .lies-on .ensures)
 
 pub is-wanted-spec : {M : Type 1} → statement M
 is-wanted-spec =
-    tie.close (tie.spec add-o shared-slice-read-o returns returns-2 lies-on-requires returns-3)
+    tie.close
+    (tie.spec
+    (λ c. search needs)  -- add-o
+    (λ c. search needs)  -- shared-slice-read-o
+    (λ c. rw (getD-drop, lt-leb _ _ (c .if1 .taken)))  -- returns
+    returns-2
+    (λ c κs. search needs)  -- lies-on-requires
+    returns-3)

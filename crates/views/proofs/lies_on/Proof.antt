@@ -13,16 +13,11 @@ use Rattle.views.proofs.lies_on.Statement.{statement}
 use Rattle.views.proofs.lies_on.Tie as tie
 
 abbrev Inv-loop : tie.InvT-loop
-Inv-loop s at sides side a i₀ i = (i ≤ a) × (allOn side sides (drop i (tableScope (drop at s))) ≡ within side sides (tableScope (drop at s)))
+Inv-loop s at sides side a i₀ i =
+    (i ≤ a) × (allOn side sides (drop i (tableScope (drop at s))) ≡ within side sides (tableScope (drop at s)))
 
 abbrev μ-loop : tie.MeasureT-loop
 μ-loop s at sides side a i₀ i = a - i
-
-add-a : tie.Need-add-a Inv-loop μ-loop
-add-a c = omega arith
-
-shared-slice-read-a : tie.Need-shared-slice-read-a Inv-loop μ-loop
-shared-slice-read-a c = omega arith
 
 cast-a : tie.Need-cast-a Inv-loop μ-loop
 cast-a c = omega (arith, c .shared-slice-known3 .given (c .before .before .before .args .at + 3))
@@ -50,23 +45,25 @@ unfolding allOn
 returns-2 c =
     let a = c .before .before .before .before .before .before .before .before .args in
     let w = c .before .before .before .loop in
-    let next = scope-next (now (a .s)) (a .at) (c .before .before .before .before .before .before .before .before .pre .0) (w .i) (omega arith) in
+    let next = scope-next (now (a .s)) (a .at)
+    (c .before .before .before .before .before .before .before .before .pre .0) (w .i) (omega arith) in
     rw (next, ne-eqb _ _ (λ e. c .if2 .taken (c .before .side-at .ensures ∙ e))) at (w .inv .1)
 
 add-i : tie.Need-add-i Inv-loop μ-loop
 add-i c =
     let a = c .before .before .before .before .before .before .before .before .args in
-    omega (arith, arity-inside (now (a .s)) (a .at) (c .before .before .before .before .before .before .before .before .pre .0))
-
-loop-less : tie.Need-loop-less Inv-loop μ-loop
-loop-less c = omega arith
+    omega (
+      arith,
+      arity-inside (now (a .s)) (a .at) (c .before .before .before .before .before .before .before .before .pre .0),
+    )
 
 loop-again : tie.Need-loop-again Inv-loop μ-loop
 unfolding allOn
 loop-again c =
     let a = c .before .before .before .before .before .before .before .before .args in
     let w = c .before .before .before .loop in
-    let next = scope-next (now (a .s)) (a .at) (c .before .before .before .before .before .before .before .before .pre .0) (w .i) (omega arith) in
+    let next = scope-next (now (a .s)) (a .at)
+    (c .before .before .before .before .before .before .before .before .pre .0) (w .i) (omega arith) in
     (omega arith, rw (next, eq-eqb _ _ (sym (c .before .side-at .ensures) ∙ c .if2 .left)) at (w .inv .1))
 
 returns-3 : tie.Need-returns-3 Inv-loop μ-loop
@@ -82,14 +79,14 @@ lies-on-spec =
     (tie.spec
     Inv-loop
     μ-loop
-    add-a
-    shared-slice-read-a
+    (λ c. omega arith)  -- add-a
+    (λ c. omega arith)  -- shared-slice-read-a
     cast-a
     returns
     loop-holds
     side-at-requires
     returns-2
     add-i
-    loop-less
+    (λ c. omega arith)  -- loop-less
     loop-again
     returns-3)

@@ -16,26 +16,11 @@ Inv-loop sides n i₀ i = (i ≤ length sides) × (allSides (drop i sides) ≡ a
 abbrev μ-loop : tie.MeasureT-loop
 μ-loop sides n i₀ i = length sides - i
 
-returns : tie.Need-returns Inv-loop μ-loop
-returns c = rw (ne-eqb _ _ (c .if1 .taken))
-
-loop-holds : tie.Need-loop-holds Inv-loop μ-loop
-loop-holds c = (omega arith, refl)
-
-shared-slice-read-if2 : tie.Need-shared-slice-read-if2 Inv-loop μ-loop
-shared-slice-read-if2 c = omega arith
-
 returns-2 : tie.Need-returns-2 Inv-loop μ-loop
 returns-2 c =
     let w = c .before .before .before .loop in
     let next = sides-next (now (c .before .before .before .before .before .args .sides)) (w .i) (omega arith) in
     rw (eq-eqb _ _ (c .before .before .before .before .if1 .left), ← w .inv .1, next, lt-leb _ _ (c .if2 .taken))
-
-add-i : tie.Need-add-i Inv-loop μ-loop
-add-i c = omega arith
-
-loop-less : tie.Need-loop-less Inv-loop μ-loop
-loop-less c = omega arith
 
 loop-again : tie.Need-loop-again Inv-loop μ-loop
 loop-again c =
@@ -57,11 +42,11 @@ sides-ok-spec =
     (tie.spec
     Inv-loop
     μ-loop
-    returns
-    loop-holds
-    shared-slice-read-if2
+    (λ c. rw (ne-eqb _ _ (c .if1 .taken)))  -- returns
+    (λ c. (omega arith, refl))  -- loop-holds
+    (λ c. omega arith)  -- shared-slice-read-if2
     returns-2
-    add-i
-    loop-less
+    (λ c. omega arith)  -- add-i
+    (λ c. omega arith)  -- loop-less
     loop-again
     returns-3)

@@ -1,0 +1,41 @@
+-- `branch_directions::choose_directions` meets its contract.
+use mathlib.Core.Path.{refl}
+use native.Mathlib.Omega.{arith}
+use borrow.Author.Needs.{needs}
+use Rattle.branch_directions.proofs.choose_directions.Statement.{statement}
+use Rattle.branch_directions.proofs.choose_directions.Tie as tie
+
+returns : tie.Need-returns
+returns c = (
+  record {
+    some = c .before .pre .0;
+    few = c .before .pre .1;
+    few-sums = omega arith;
+    small = search needs;
+    every = rw (c .if1 .taken) (omega arith, tt);
+    alone = λ _. (c .if1 .taken, rw (c .if1 .taken));
+  },
+  refl,
+)
+
+returns-2 : tie.Need-returns-2
+returns-2 c =
+    let s = c .before .before in (
+      record {
+        some = s .pre .0;
+        few = s .pre .1;
+        few-sums = omega arith;
+        small = c .weights-for .ensures .0;
+        every = c .weights-for .ensures .1;
+        alone = λ z. absurd (omega arith);
+      },
+      refl,
+    )
+
+pub choose-directions-spec : {M : Type 1} → statement M
+choose-directions-spec =
+    tie.close
+    (tie.spec
+    returns
+    (λ c κs. search needs)  -- weights-for-requires
+    returns-2)

@@ -1,0 +1,239 @@
+// Directions of the second form of the search: the objectives and weighted sums of them, and a vector in all of them.
+ghost use mathlib.Core.Path.{_≡_};
+ghost use Prim.Native.Nat.{ℕ, _*_, _<_, _≤_};
+ghost use lib.ListN.{getD, take, drop};
+ghost use Rattle.model.specs.Basics.{All};
+ghost use Rattle.model.specs.Limits.{maxObjectives};
+ghost use Rattle.model.specs.Core.{coreSumEnd};
+ghost use Rattle.model.specs.Calls.{padded};
+ghost use Rattle.model.specs.Archive.{weighted};
+ghost use Rattle.branch_archive.specs.Changes.{maxWeight};
+ghost use Rattle.branch_directions.specs.Directions.{maxSums, maxDirections, weightsOf, directionsOf};
+ghost use Rattle.branch_directions.specs.Directions.{leadWeights, leadAt, Sensible};
+ghost use Rattle.branch_directions.specs.Shares.{maxShare};
+
+// What a rate is scaled by; with the largest share it does not wrap.
+const RATE_SCALE: u64 = 1152921504606846976;
+
+// The rate that is worth a weight of 1, unless a weight gets too large: RATE_SCALE / 2^24, so that
+// most sums fit the 32 bits in which corners of zones and messages keep them.
+const RATE_UNIT: u64 = 68719476736;
+
+// A larger spread counts as this one. No sum of entries reaches it.
+const MAX_SPREAD: u64 = 1099511627776;
+
+// So many objectives, so many sums, and four weights for each sum. The first sum leads.
+pub struct Directions {
+    pub objectives: usize,
+    pub sums: usize,
+    pub weights: [u64; 16],
+}
+
+// The first `p` costs of `v`, and zeros.
+fn with_costs(v: [u64; 4], p: usize) -> [u64; 8]
+    requires { ⌜ p ≤ maxObjectives ⌝ }
+    ensures { λ r. ⌜ r ≡ padded maxDirections (take p v) ⌝ }
+{
+    let mut all = [0u64; 8];
+    let mut i: usize = 0;
+    while i < p {
+        all[i] = v[i];
+        i += 1;
+    }
+    all
+}
+
+// Row `i` of a table with four numbers in a row.
+fn row_of(table: [u64; 16], i: usize) -> [u64; 4]
+    requires { ⌜ i < maxSums ⌝ }
+    ensures { λ r. ⌜ r ≡ take 4 (drop (4 * i) table) ⌝ }
+{
+    let at = 4 * i;
+    [table[at], table[at + 1], table[at + 2], table[at + 3]]
+}
+
+// Sum `i` of the first costs of `v`.
+pub fn sum_at(v: [u64; 4], i: usize, d: Directions) -> u64
+    requires { ⌜ Sensible d × (i < d .sums) × All (λ c. c < coreSumEnd) (take (d .objectives) v) ⌝ }
+    ensures { λ r. ⌜ r ≡ weighted (weightsOf d i) (take (d .objectives) v) ⌝ }
+{
+    let weights = d.weights;
+    branch_archive::sum_of(v, row_of(weights, i), d.objectives)
+}
+
+// The first costs of `v` in every direction, and zeros.
+pub fn directions_of(v: [u64; 4], d: Directions) -> [u64; 8]
+    requires { ⌜ Sensible d × All (λ c. c < coreSumEnd) (take (d .objectives) v) ⌝ }
+    ensures { λ r. ⌜ r ≡ padded maxDirections (directionsOf d (take (d .objectives) v)) ⌝ }
+{
+    let p = d.objectives;
+    let sums = d.sums;
+    let mut all = with_costs(v, p);
+    let mut i: usize = 0;
+    while i < sums {
+        all[p + i] = sum_at(v, i, d);
+        i += 1;
+    }
+    all
+}
+
+// Which direction leads.
+pub fn lead_at(d: Directions) -> usize
+    ensures { λ l. ⌜ l ≡ leadAt d ⌝ }
+{
+    if d.sums == 0 { 0 } else { d.objectives }
+}
+
+// The leading sum of a vector that is given in every direction.
+pub fn lead_of(b: [u64; 8], d: Directions) -> u64
+    requires { ⌜ Sensible d ⌝ }
+    ensures { λ r. ⌜ r ≡ getD b (leadAt d) 0 ⌝ }
+{
+    b[lead_at(d)]
+}
+
+// The weights of the leading sum.
+pub fn lead_weights(d: Directions) -> [u64; 4]
+    requires { ⌜ Sensible d ⌝ }
+    ensures { λ r. ⌜ (take (d .objectives) r ≡ leadWeights d) × All (λ w. w ≤ maxWeight) r ⌝ }
+{
+    let weights = d.weights;
+    row_of(weights, 0)
+}
+
+// The share of each objective in each sum, four numbers in a row. The first sum leads, so it leaves none out.
+fn shares_for(p: usize) -> [u64; 16]
+    requires { ⌜ (2 ≤ p) × (p ≤ maxObjectives) ⌝ }
+    ensures { λ r. ⌜ All (λ s. s ≤ maxShare) r × All (λ s. 1 ≤ s) (take p r) ⌝ }
+{
+    if p == 2 {
+        return [1, 1, 0, 0, 3, 1, 0, 0, 1, 3, 0, 0, 1, 10, 0, 0];
+    }
+    if p == 3 {
+        return [1, 1, 1, 0, 1, 0, 1, 0, 1, 1, 0, 0, 0, 1, 1, 0];
+    }
+    [1, 1, 1, 1, 1, 0, 1, 0, 1, 0, 0, 1, 1, 1, 0, 0]
+}
+
+// The lesser of two numbers.
+pub fn lesser(a: u64, b: u64) -> u64
+    ensures { λ r. ⌜ (r ≤ a) × (r ≤ b) ⌝ }
+{
+    if a < b {
+        return a;
+    }
+    b
+}
+
+// The larger of two numbers.
+pub fn larger(a: u64, b: u64) -> u64
+    ensures { λ r. ⌜ (a ≤ r) × (b ≤ r) ⌝ }
+{
+    if a < b {
+        return b;
+    }
+    a
+}
+
+// How far apart the costs of an objective are, for its weight: at least 1. Where they are not apart at all
+// its weight does not matter, and it counts as the largest spread, so that the others' weights stay large.
+fn range_of(spread: u64) -> u64
+    ensures { λ r. ⌜ (1 ≤ r) × (r ≤ coreSumEnd) ⌝ }
+{
+    if spread == 0 {
+        return MAX_SPREAD;
+    }
+    if MAX_SPREAD < spread {
+        return MAX_SPREAD;
+    }
+    spread
+}
+
+// What the weight of an objective is in proportion to: its share, divided by how far apart its costs are.
+fn rate_of(share: u64, spread: u64) -> u64
+    requires { ⌜ share ≤ maxShare ⌝ }
+    ensures { λ r. ⌜ (1 ≤ share → 1 ≤ r) ⌝ }
+{
+    share * RATE_SCALE / range_of(spread)
+}
+
+// A weight for a rate: only one that would be 0 is raised to 1.
+fn weight_of(rate: u64, unit: u64) -> u64
+    requires { ⌜ 1 ≤ unit ⌝ }
+    ensures { λ r. ⌜ (r ≤ maxWeight) × (1 ≤ rate → 1 ≤ r) ⌝ }
+{
+    if rate == 0 {
+        return 0;
+    }
+    let weight = rate / unit;
+    if weight == 0 {
+        return 1;
+    }
+    if branch_archive::MAX_WEIGHT < weight {
+        return branch_archive::MAX_WEIGHT;
+    }
+    weight
+}
+
+// The weights of a sum, from the shares of the objectives in it.
+// One unit for all keeps their ratios where the largest would be too large.
+fn sum_weights(shares: [u64; 4], spreads: [u64; 4]) -> [u64; 4]
+    requires { ⌜ All (λ s. s ≤ maxShare) shares ⌝ }
+    ensures { λ r. ⌜ All (λ w. w ≤ maxWeight) r
+        × ((p : ℕ) → All (λ s. 1 ≤ s) (take p shares) → All (λ w. 1 ≤ w) (take p r)) ⌝ }
+{
+    let a = rate_of(shares[0], spreads[0]);
+    let b = rate_of(shares[1], spreads[1]);
+    let c = rate_of(shares[2], spreads[2]);
+    let d = rate_of(shares[3], spreads[3]);
+    let most = larger(larger(a, b), larger(c, d));
+    let unit = larger(most / branch_archive::MAX_WEIGHT + 1, RATE_UNIT);
+    [
+        weight_of(a, unit),
+        weight_of(b, unit),
+        weight_of(c, unit),
+        weight_of(d, unit),
+    ]
+}
+
+// The weights of every sum for `p` objectives.
+fn weights_for(p: usize, spreads: [u64; 4]) -> [u64; 16]
+    requires { ⌜ (2 ≤ p) × (p ≤ maxObjectives) ⌝ }
+    ensures { λ r. ⌜ All (λ w. w ≤ maxWeight) r × All (λ w. 1 ≤ w) (take p r) ⌝ }
+{
+    let shares = shares_for(p);
+    let mut weights = [0u64; 16];
+    let mut i: usize = 0;
+    while i < 4 {
+        let row = sum_weights(row_of(shares, i), spreads);
+        let at = 4 * i;
+        weights[at] = row[0];
+        weights[at + 1] = row[1];
+        weights[at + 2] = row[2];
+        weights[at + 3] = row[3];
+        i += 1;
+    }
+    weights
+}
+
+// Directions for `p` objectives. `spreads` says how far apart the costs of each objective are,
+// and only the speed depends on it.
+pub fn choose_directions(p: usize, spreads: [u64; 4]) -> Directions
+    requires { ⌜ (1 ≤ p) × (p ≤ maxObjectives) ⌝ }
+    ensures { λ d. ⌜ Sensible d × (d .objectives ≡ p) ⌝ }
+{
+    if p == 1 {
+        let one = [1, 0, 0, 0, 0, 0, 0, 0, 0, 0, 0, 0, 0, 0, 0, 0];
+        return Directions {
+            objectives: p,
+            sums: 0,
+            weights: one,
+        };
+    }
+    let weights = weights_for(p, spreads);
+    Directions {
+        objectives: p,
+        sums: 4,
+        weights,
+    }
+}

@@ -1,0 +1,686 @@
+-- The cycle of `branch_search::open_position` and `branch_search::try_choice` meets its contracts: every completion of
+-- a partial choice is covered.
+-- The invariant of the loop over values, `Trying`. The measure is two for each variable without a value.
+use mathlib.Core.Path.{_≡_, refl, sym, _∙_, subst}
+use mathlib.Core.List.{List}
+use Prim.Native.Nat.{ℕ, _+_, _-_, _*_, _≤_, _<_}
+use native.Mathlib.Omega.{arith}
+use lib.ListN.{length, getD, take, drop, length-drop}
+use lib.Seq.{length-take-le}
+use borrow.Author.Needs.{needs}
+use denote.Ref.{now}
+use Rattle.model.specs.Limits.{maxDomain, byteEnd}
+use Rattle.model.specs.Problems.{DomainSize}
+use Rattle.model.proofs.Elements.{all-below}
+use Rattle.layout.specs.Layout.{listEnd}
+use Rattle.branch_directions.specs.Directions.{widthOf, leadAt}
+use Rattle.branch_buckets.specs.Places.{numbersAt, orderIn}
+use Rattle.branch_buckets.specs.Content.{Planned}
+use Rattle.branch_buckets.specs.Sound.{Tested}
+use Rattle.branch_buckets.proofs.ContentRows.{planned-fewer}
+use Rattle.branch_buckets.proofs.Ends.{bucket-ranged}
+use Rattle.branch_buckets.proofs.Bounds.{records-inside}
+use Rattle.branch_search.specs.States.{planIn, Partial}
+use Rattle.branch_values.specs.Rows.{Holding, nextBound, Bucket, Away}
+use Rattle.branch_directions.proofs.Widths.{lead-inside, width-few}
+use Rattle.branch_search.proofs.Nodes.{choice-long, bound-long, withNext, Extends, extends, is-leaf}
+use Rattle.groups.proofs.Tasks.{ceilings-long}
+use Rattle.branch_search.proofs.ArchivedWords.{archived-small}
+use Rattle.branch_search.proofs.Memory.{lent-plan}
+use Rattle.branch_search.proofs.Leaving.{opened-same, dead-covers}
+use Rattle.branch_search.proofs.Leaf.{leaf-standing}
+use Rattle.branch_search.proofs.Opening.{variable-inside, next-holding, next-exact, next-partial}
+use Rattle.branch_search.proofs.Trying.{leadWith, Trying, untried, tried-fewer}
+use Rattle.branch_search.proofs.Trying.{trying-start, trying-standing, trying-next, trying-end}
+use borrow.Fn.Kinds.{In}
+use borrow.Fn.PlainCycle.{Measures, is, falls, and}
+use Rattle.branch_search.proofs.open_position.Reads as open-position
+use Rattle.branch_search.proofs.open_position.Kinds as open-position-kinds
+use Rattle.branch_search.proofs.+open_position+try_choice.Lts-open_position as open-lts
+use Rattle.branch_search.proofs.try_choice.Reads as try-choice
+use Rattle.branch_search.proofs.try_choice.Kinds as try-choice-kinds
+use Rattle.branch_search.proofs.+open_position+try_choice.Lts-try_choice as try-lts
+use Rattle.branch_values.proofs.away_at.Reads as away-at-reads
+use Rattle.branch_values.proofs.bucket_at.Reads as bucket-at-reads
+use Rattle.branch_pruning.proofs.is_alive.Reads as is-alive-reads
+use Rattle.branch_values.proofs.leads_of.Reads as leads-of-reads
+use Rattle.branch_values.proofs.least_value.Reads as least-value-reads
+use Rattle.branch_values.proofs.row_of.Reads as row-of-reads
+use Rattle.branch_search.proofs.Node.with.Reads as with-reads
+use Rattle.branch_search.proofs.take_leaf.Reads as take-leaf-reads
+use Rattle.branch_buckets.proofs.variable_at.Reads as variable-at-reads
+use Rattle.branch_search.proofs.+open_position+try_choice.{statement}
+use Rattle.branch_search.proofs.+open_position+try_choice.Tie.{close}
+
+abbrev μ-open-position : Measures 3 open-position-kinds.ps ℕ
+μ-open-position κs a = 2 * (length (now (a .1 .1 .1 .0)) - a .0 .depth)
+
+abbrev μ-try-choice : Measures 3 try-choice-kinds.ps ℕ
+μ-try-choice κs a = 2 * (length (now (a .1 .1 .1 .0)) - a .0 .depth) + 1
+
+abbrev open-position-at : ℕ → In 3 open-position-kinds.ps
+open-position-at t =
+    and 3 open-position-kinds.ps (is 3 open-position-kinds.ps μ-open-position t) open-position.Pre
+
+abbrev open-position-below : ℕ → In 3 open-position-kinds.ps
+open-position-below t =
+    and
+    3
+    open-position-kinds.ps
+    (falls 3 open-position-kinds.ps _<_ μ-open-position t)
+    open-position.Pre
+
+abbrev try-choice-at : ℕ → In 3 try-choice-kinds.ps
+try-choice-at t =
+    and 3 try-choice-kinds.ps (is 3 try-choice-kinds.ps μ-try-choice t) try-choice.Pre
+
+abbrev try-choice-below : ℕ → In 3 try-choice-kinds.ps
+try-choice-below t =
+    and 3 try-choice-kinds.ps (falls 3 try-choice-kinds.ps _<_ μ-try-choice t) try-choice.Pre
+
+abbrev open-calls : ℕ → open-lts.Claims
+open-calls t = (
+  take-leaf-reads.Asked,
+  take-leaf-reads.Learnt,
+  variable-at-reads.Asked,
+  variable-at-reads.Learnt,
+  bucket-at-reads.Asked,
+  bucket-at-reads.Learnt,
+  away-at-reads.Asked,
+  away-at-reads.Learnt,
+  leads-of-reads.Asked,
+  leads-of-reads.Learnt,
+  least-value-reads.Asked,
+  least-value-reads.Learnt,
+  row-of-reads.Asked,
+  row-of-reads.Learnt,
+  with-reads.Asked,
+  with-reads.Learnt,
+  try-choice-below t,
+  try-choice.Post,
+)
+
+abbrev try-calls : ℕ → try-lts.Claims
+try-calls t = (is-alive-reads.Asked, is-alive-reads.Learnt, open-position-below t, open-position.Post)
+
+-- the value that is next has the least lead
+abbrev Inv-loop : open-lts.InvT-loop
+Inv-loop node s sizes task d work₀ n k bound v size rows away leads₀ a₀ t₀ work leads a t =
+    (a < size) × ((b : ℕ) → b < size → getD leads a 0 ≤ getD leads b 0)
+    × Trying d task sizes s work₀ t₀ node work t leads
+
+abbrev μ-loop : open-lts.MeasureT-loop
+μ-loop node s sizes task d work₀ n k bound v size rows away leads₀ a₀ t₀ work leads a t = untried leads
+
+module _ (t : ℕ) where
+  -- ## the places of open_position, each with a name
+
+  -- at the start
+  abbrev Begun : Type 0
+  Begun = open-lts.Start (open-calls t) (open-position-at t) open-position.Post Inv-loop μ-loop
+
+  -- and what the types of its slices say
+  abbrev Known : Type 0
+  Known = open-lts.After-slice-known (open-calls t) (open-position-at t) open-position.Post Inv-loop μ-loop
+
+  -- the choice is not complete
+  abbrev Inner : Type 0
+  Inner = open-lts.Else1 (open-calls t) (open-position-at t) open-position.Post Inv-loop μ-loop
+
+  -- its next variable is known
+  abbrev Named : Type 0
+  Named = open-lts.After-variable-at (open-calls t) (open-position-at t) open-position.Post Inv-loop μ-loop
+
+  -- and how many values that has
+  abbrev Sized : Type 0
+  Sized = open-lts.After-shared-slice-known3 (open-calls t) (open-position-at t) open-position.Post Inv-loop μ-loop
+
+  -- what the bucket holds for each of them
+  abbrev Filled : Type 0
+  Filled = open-lts.After-bucket-at (open-calls t) (open-position-at t) open-position.Post Inv-loop μ-loop
+
+  -- and what was sent
+  abbrev Sent : Type 0
+  Sent = open-lts.After-away-at (open-calls t) (open-position-at t) open-position.Post Inv-loop μ-loop
+
+  -- the leading sum of each
+  abbrev Led : Type 0
+  Led = open-lts.After-leads-of (open-calls t) (open-position-at t) open-position.Post Inv-loop μ-loop
+
+  -- in the loop over values
+  abbrev Looping : Type 0
+  Looping = open-lts.At-loop (open-calls t) (open-position-at t) open-position.Post Inv-loop μ-loop
+
+  -- a value is tried
+  abbrev Trial : Type 0
+  Trial = open-lts.Then2 (open-calls t) (open-position-at t) open-position.Post Inv-loop μ-loop
+
+  -- its bound is known
+  abbrev Bounded : Type 0
+  Bounded = open-lts.After-row-of (open-calls t) (open-position-at t) open-position.Post Inv-loop μ-loop
+
+  -- and the partial choice with it
+  abbrev Grown : Type 0
+  Grown = open-lts.After-with (open-calls t) (open-position-at t) open-position.Post Inv-loop μ-loop
+
+  -- which was tried
+  abbrev Tried : Type 0
+  Tried = open-lts.After-try-choice (open-calls t) (open-position-at t) open-position.Post Inv-loop μ-loop
+
+  -- ## the way back from each to an earlier one
+
+  abbrev start : Known → Begun
+  start c = c .before .before .before
+
+  abbrev known : Inner → Known
+  known c = c .before .before .before
+
+  abbrev inner : Named → Inner
+  inner c = c .before .before .before
+
+  abbrev named : Sized → Named
+  named c = c .before
+
+  abbrev sized : Filled → Sized
+  sized c = c .before .before .before .before
+
+  abbrev filled : Sent → Filled
+  filled c = c .before .before .before .before
+
+  abbrev sent : Led → Sent
+  sent c = c .before .before
+
+  abbrev led : Looping → Led
+  led c = c .before .before .before
+
+  abbrev looping : Trial → Looping
+  looping c = c .before .before
+
+  abbrev trial : Bounded → Trial
+  trial c = c .before .before .before
+
+  abbrev bounded : Grown → Bounded
+  bounded c = c .before
+
+  abbrev grown : Tried → Grown
+  grown c = c .before .before
+
+  -- the longer ways
+  abbrev begun : Named → Begun
+  begun c = start (known (inner c))
+
+  abbrev naming : Sent → Named
+  naming c = named (sized (filled c))
+
+  abbrev sending : Looping → Sent
+  sending c = sent (led c)
+
+  abbrev turn : Bounded → Looping
+  turn c = looping (trial c)
+
+  -- ## what is known at them
+
+  module _ (b : Begun) where
+    abbrev ds : List ℕ
+    ds = now (b .args .sizes)
+
+    abbrev choice : List ℕ
+    choice = take (length ds) (b .args .node .choice)
+
+    abbrev plan : List ℕ
+    plan = planIn (now (b .args .work))
+
+    abbrev next-variable : ℕ
+    next-variable = orderIn plan (b .args .node .depth)
+
+    abbrev lent : List ℕ
+    lent = take (length (now (b .args .work)) - listEnd) (drop listEnd (now (b .args .work)))
+
+    memory : listEnd ≤ length (now (b .args .work))
+    memory = omega (arith, b .pre .1 .ready .long)
+
+    same-plan : lent ≡ plan
+    same-plan = lent-plan (now (b .args .work))
+
+    long-plan : numbersAt ≤ length lent
+    long-plan = rw same-plan (omega (arith, b .pre .1 .ready .long, length-drop listEnd (now (b .args .work))))
+
+    planned : Planned (b .args .d) (b .args .task .records) ds (now (b .args .s)) lent
+    planned = rw same-plan (b .pre .1 .ready .planned)
+
+    tested : Tested (b .args .d) (b .args .task .records) ds (now (b .args .s)) lent
+    tested = rw same-plan (b .pre .1 .ready .sound .tested)
+
+    long-choice : length ds ≤ length (b .args .node .choice)
+    long-choice = omega (arith, b .pre .1 .ready .planned .variables, choice-long (b .args .node) _ (b .good .0))
+
+    lent-choice : length ds ≡ length choice
+    lent-choice = sym (length-take-le (length ds) (b .args .node .choice) long-choice)
+
+  inside : (c : Inner) → start (known c) .args .node .depth < length (ds (start (known c)))
+  inside c = omega (arith, start (known c) .pre .1 .partial .short, c .if1 .left)
+
+  module _ (c : Named) where
+    abbrev v : ℕ
+    v = c .variable-at .result
+
+    is-variable : v ≡ next-variable (begun c)
+    is-variable = rw (same-plan (begun c)) at (c .variable-at .ensures .0)
+
+    variable-below : v < length (ds (begun c))
+    variable-below =
+        let h = begun c .pre .1 in
+        subst (λ (u : ℕ). u < length (ds (begun c))) (sym is-variable)
+        (variable-inside (h .ready .sound) (h .partial) (inside (inner c)))
+
+    size : DomainSize (getD (ds (begun c)) v 0)
+    size = all-below DomainSize (ds (begun c)) (begun c .pre .1 .ready .planned .small) v 0 variable-below
+
+  module _ (c : Sent) where
+    abbrev entry : Begun
+    entry = begun (naming c)
+
+    abbrev rows : List ℕ
+    rows = filled c .bucket-at .result
+
+    abbrev away : List ℕ
+    away = c .away-at .result
+
+    abbrev BucketOf : List ℕ → ℕ → Type 0
+    BucketOf l u =
+        Bucket (entry .args .d) (ds entry) (now (entry .args .s)) l (entry .args .node .depth) u (choice entry) rows
+
+    bucket : BucketOf (plan entry) (next-variable entry)
+    bucket =
+        let held = subst (λ l. BucketOf l (v (naming c))) (same-plan entry) (filled c .bucket-at .ensures) in
+        subst (BucketOf (plan entry)) (is-variable (naming c)) held
+
+    sends : Away (entry .args .d) (plan entry) (entry .args .node .depth) (choice entry) away
+    sends = rw (same-plan entry) at (c .away-at .ensures)
+
+    value-below : (a : ℕ) → a < getD (ds entry) (v (naming c)) 0 → a < getD (ds entry) (next-variable entry) 0
+    value-below a l = subst (λ (u : ℕ). a < getD (ds entry) u 0) (is-variable (naming c)) l
+
+    holding :
+        (a : ℕ) → a < getD (ds entry) (v (naming c)) 0 →
+        Holding (widthOf (entry .args .d)) (entry .args .node .bound) away rows a
+    holding a l =
+        let h = entry .pre .1 in
+        let i = inside (inner (naming c)) in
+        next-holding (h .ready .sound) (h .partial) i rows away bucket sends a (value-below a l)
+
+    lead-is :
+        (a : ℕ) → a < getD (ds entry) (next-variable entry) 0 →
+        nextBound (entry .args .node .bound) away rows a (leadAt (entry .args .d))
+        ≡ leadWith (entry .args .d) (entry .args .task) (ds entry) (now (entry .args .s)) (plan entry)
+        (entry .args .node) a
+    lead-is a l =
+        let h = entry .pre .1 in
+        let i = inside (inner (naming c)) in
+        let lead = lead-inside (entry .args .d) (h .ready .planned .sensible) in
+        next-exact (h .ready .sound) (h .partial) i rows away bucket sends a l (leadAt (entry .args .d)) lead
+
+  value-few : (c : Looping) → c .loop .a < maxDomain
+  value-few c = omega (arith, c .loop .inv .0, size (naming (sending c)))
+
+  -- the partial choice with the value that is next
+  module _ (c : Bounded) where
+    abbrev origin : Begun
+    origin = entry (sending (turn c))
+
+    abbrev next-choice : List ℕ
+    next-choice = withNext (plan origin) (length (ds origin)) (origin .args .node) (turn c .loop .a)
+
+    next-is :
+        Partial (origin .args .d) (origin .args .task .records) (ds origin) (now (origin .args .s)) (plan origin)
+        (origin .args .node .depth + 1) next-choice (c .row-of .result)
+    next-is =
+        let h = origin .pre .1 in
+        let a = turn c .loop .a in
+        let w = sending (turn c) in
+        let byte = known (inner (naming w)) .before .before .shared-slice-known .given in
+        let bytes : (at : ℕ) → getD (now (origin .args .s)) at 0 < byteEnd = λ at. omega (arith, byte at) in
+        let below = value-below w a (turn c .loop .inv .0) in
+        next-partial (h .ready .sound) (h .partial) (inside (inner (naming w))) (rows w) (away w) (bucket w) (sends w)
+        (h .ready .planned) bytes a below (c .row-of .result) (c .row-of .ensures)
+
+  next-extends :
+      (c : Grown) →
+      Extends (plan (origin (bounded c))) (length (ds (origin (bounded c)))) (origin (bounded c) .args .node)
+      (turn (bounded c) .loop .a) (bounded c .row-of .result) (c .with .result)
+  next-extends c =
+      let n = naming (sending (turn (bounded c))) in
+      extends (c .with .ensures) (is-variable n) (variable-below n)
+
+  -- ## open_position
+
+  open-position-take-leaf-requires :
+      open-lts.Need-take-leaf-requires (open-calls t) (open-position-at t) open-position.Post Inv-loop μ-loop
+  open-position-take-leaf-requires c κs =
+      let whole = c .before in
+      let b = start (whole .before .before .before) in
+      leaf-standing (b .pre .1) (whole .if1 .taken)
+
+  open-position-same-length :
+      open-lts.Need-same-length (open-calls t) (open-position-at t) open-position.Post Inv-loop μ-loop
+  open-position-same-length c = c .before .before .take-leaf .ensures .still .long
+
+  open-position-returns :
+      open-lts.Need-returns (open-calls t) (open-position-at t) open-position.Post Inv-loop μ-loop
+  open-position-returns c =
+      let called = c .before .before in
+      let whole = called .before .before in
+      let b = start (whole .before .before .before) in
+      rw (is-leaf (ds b) (b .args .node) (whole .if1 .taken)) (called .take-leaf .ensures)
+
+  open-position-sub-variable-at :
+      open-lts.Need-sub-variable-at (open-calls t) (open-position-at t) open-position.Post Inv-loop μ-loop
+  open-position-sub-variable-at c = memory (start (known c))
+
+  open-position-part-variable-at-start :
+      open-lts.Need-part-variable-at-start (open-calls t) (open-position-at t) open-position.Post Inv-loop μ-loop
+  open-position-part-variable-at-start c = memory (start (known (c .before)))
+
+  open-position-part-variable-at-end :
+      open-lts.Need-part-variable-at-end (open-calls t) (open-position-at t) open-position.Post Inv-loop μ-loop
+  open-position-part-variable-at-end c = search needs
+
+  open-position-variable-at-requires :
+      open-lts.Need-variable-at-requires (open-calls t) (open-position-at t) open-position.Post Inv-loop μ-loop
+  open-position-variable-at-requires c κs =
+      let i = c .before .before in
+      let b = start (known i) in
+      omega (arith, inside i, b .pre .1 .ready .planned .variables)
+
+  open-position-shared-slice-read-size :
+      open-lts.Need-shared-slice-read-size (open-calls t) (open-position-at t) open-position.Post Inv-loop μ-loop
+  open-position-shared-slice-read-size c = variable-below (named c)
+
+  open-position-cast-size :
+      open-lts.Need-cast-size (open-calls t) (open-position-at t) open-position.Post Inv-loop μ-loop
+  open-position-cast-size c = omega (arith, size (named c))
+
+  open-position-array-share-prefix-x :
+      open-lts.Need-array-share-prefix-x (open-calls t) (open-position-at t) open-position.Post Inv-loop μ-loop
+  open-position-array-share-prefix-x c = long-choice (begun (named c))
+
+  open-position-slice-aggregate-bucket-at :
+      open-lts.Need-slice-aggregate-bucket-at (open-calls t) (open-position-at t) open-position.Post Inv-loop μ-loop
+  open-position-slice-aggregate-bucket-at c = lent-choice (begun (named (c .before)))
+
+  open-position-sub-bucket-at :
+      open-lts.Need-sub-bucket-at (open-calls t) (open-position-at t) open-position.Post Inv-loop μ-loop
+  open-position-sub-bucket-at c = memory (begun (named (c .before)))
+
+  open-position-part-bucket-at-start :
+      open-lts.Need-part-bucket-at-start (open-calls t) (open-position-at t) open-position.Post Inv-loop μ-loop
+  open-position-part-bucket-at-start c = memory (begun (named (c .before .before)))
+
+  open-position-part-bucket-at-end :
+      open-lts.Need-part-bucket-at-end (open-calls t) (open-position-at t) open-position.Post Inv-loop μ-loop
+  open-position-part-bucket-at-end c = search needs
+
+  open-position-bucket-at-requires :
+      open-lts.Need-bucket-at-requires (open-calls t) (open-position-at t) open-position.Post Inv-loop μ-loop
+  open-position-bucket-at-requires c κs =
+      let n = named (c .before .before .before) in
+      let b = begun n in
+      let k = b .args .node .depth in
+      let short = inside (inner n) in (
+        planned-fewer (planned b) _ (records-inside (tested b) k (omega arith)),
+        bucket-ranged (tested b .ends) k short,
+        long-plan b,
+        short,
+        variable-below n,
+        b .pre .1 .partial .choice,
+      )
+
+  open-position-array-share-prefix-x-2 :
+      open-lts.Need-array-share-prefix-x-2 (open-calls t) (open-position-at t) open-position.Post Inv-loop μ-loop
+  open-position-array-share-prefix-x-2 c = long-choice (begun (named (sized c)))
+
+  open-position-slice-aggregate-away-at :
+      open-lts.Need-slice-aggregate-away-at (open-calls t) (open-position-at t) open-position.Post Inv-loop μ-loop
+  open-position-slice-aggregate-away-at c = lent-choice (begun (named (sized (c .before))))
+
+  open-position-sub-away-at :
+      open-lts.Need-sub-away-at (open-calls t) (open-position-at t) open-position.Post Inv-loop μ-loop
+  open-position-sub-away-at c = memory (begun (named (sized (c .before))))
+
+  open-position-part-away-at-start :
+      open-lts.Need-part-away-at-start (open-calls t) (open-position-at t) open-position.Post Inv-loop μ-loop
+  open-position-part-away-at-start c = memory (begun (named (sized (c .before .before))))
+
+  open-position-part-away-at-end :
+      open-lts.Need-part-away-at-end (open-calls t) (open-position-at t) open-position.Post Inv-loop μ-loop
+  open-position-part-away-at-end c = search needs
+
+  open-position-away-at-requires :
+      open-lts.Need-away-at-requires (open-calls t) (open-position-at t) open-position.Post Inv-loop μ-loop
+  open-position-away-at-requires c κs =
+      let n = named (sized (c .before .before .before)) in
+      let b = begun n in
+      (planned b, tested b, long-plan b, inside (inner n))
+
+  open-position-leads-of-requires :
+      open-lts.Need-leads-of-requires (open-calls t) (open-position-at t) open-position.Post Inv-loop μ-loop
+  open-position-leads-of-requires c κs =
+      let w = c .before in
+      (entry w .pre .1 .ready .planned .sensible, size (naming w) .1, holding w)
+
+  open-position-least-value-requires :
+      open-lts.Need-least-value-requires (open-calls t) (open-position-at t) open-position.Post Inv-loop μ-loop
+  open-position-least-value-requires c κs = size (naming (sent (c .before)))
+
+  open-position-loop-holds :
+      open-lts.Need-loop-holds (open-calls t) (open-position-at t) open-position.Post Inv-loop μ-loop
+  open-position-loop-holds c =
+      let leads = c .before .before in
+      let w = sent leads in
+      let read = leads .leads-of .ensures in
+      let least = c .least-value .ensures in
+      let all = trying-start (entry w .pre .1) (leads .leads-of .result) (read .0) in
+      (least .0, least .1, all (λ a l. read .1 a (rw (← is-variable (naming w)) at l) ∙ lead-is w a l))
+
+  open-position-mul-if2 :
+      open-lts.Need-mul-if2 (open-calls t) (open-position-at t) open-position.Post Inv-loop μ-loop
+  open-position-mul-if2 c = omega (arith, value-few c)
+
+  open-position-array-read-if2 :
+      open-lts.Need-array-read-if2 (open-calls t) (open-position-at t) open-position.Post Inv-loop μ-loop
+  open-position-array-read-if2 c = omega (arith, value-few c)
+
+  open-position-add-row-of :
+      open-lts.Need-add-row-of (open-calls t) (open-position-at t) open-position.Post Inv-loop μ-loop
+  open-position-add-row-of c =
+      let b = entry (sending (looping (c .before .before))) in
+      omega (arith, width-few (b .args .d) (b .pre .1 .ready .planned .sensible))
+
+  open-position-row-of-requires :
+      open-lts.Need-row-of-requires (open-calls t) (open-position-at t) open-position.Post Inv-loop μ-loop
+  open-position-row-of-requires c κs =
+      let w = looping (c .before .before) in
+      let b = entry (sending w) in
+      let few = width-few (b .args .d) (b .pre .1 .ready .planned .sensible) in
+      (value-few w, few, holding (sending w) (w .loop .a) (w .loop .inv .0))
+
+  open-position-with-requires :
+      open-lts.Need-with-requires (open-calls t) (open-position-at t) open-position.Post Inv-loop μ-loop
+  open-position-with-requires c κs =
+      let n = naming (sending (turn c)) in
+      let few = begun n .pre .1 .ready .planned .variables in
+      (omega (arith, inside (inner n), few), omega (arith, variable-below n, few), value-few (turn c))
+
+  open-position-try-choice-requires :
+      open-lts.Need-try-choice-requires (open-calls t) (open-position-at t) open-position.Post Inv-loop μ-loop
+  open-position-try-choice-requires c κs =
+      let g = c .before in
+      let r = bounded g in
+      let w = turn r .loop in
+      let b = origin r in
+      let e = next-extends g in
+      let next = trying-standing (b .pre .1) (w .inv .2) (w .a) (r .row-of .result) (g .with .result) e (next-is r) in
+      (omega (arith, e .deeper, inside (inner (naming (sending (turn r)))), b .pre .0), next)
+
+  open-position-mul-leads :
+      open-lts.Need-mul-leads (open-calls t) (open-position-at t) open-position.Post Inv-loop μ-loop
+  open-position-mul-leads c = omega (arith, value-few (turn (bounded (grown (c .before .before)))))
+
+  open-position-array-write-leads :
+      open-lts.Need-array-write-leads (open-calls t) (open-position-at t) open-position.Post Inv-loop μ-loop
+  open-position-array-write-leads c = omega (arith, value-few (turn (bounded (grown (c .before .before)))))
+
+  open-position-least-value-requires-2 :
+      open-lts.Need-least-value-requires-2 (open-calls t) (open-position-at t) open-position.Post Inv-loop μ-loop
+  open-position-least-value-requires-2 c κs =
+      let w = turn (bounded (grown (c .before .before .before))) in
+      size (naming (sending w))
+
+  open-position-loop-less :
+      open-lts.Need-loop-less (open-calls t) (open-position-at t) open-position.Post Inv-loop μ-loop
+  open-position-loop-less c =
+      let x = trial (bounded (grown (c .before .before .before .before))) in
+      let w = looping x in
+      let below : w .loop .a < length (w .loop .leads) = omega (arith, value-few w, w .loop .inv .2 .long) in
+      tried-fewer (w .loop .leads) (w .loop .a) below (omega (arith, x .if2 .taken, x .before .struct-known .given))
+
+  open-position-loop-again :
+      open-lts.Need-loop-again (open-calls t) (open-position-at t) open-position.Post Inv-loop μ-loop
+  open-position-loop-again c =
+      let tried = c .before .before .before .before in
+      let g = grown tried in
+      let r = bounded g in
+      let w = turn r .loop in
+      let called = tried .try-choice in
+      let least = c .least-value2 .ensures in
+      let next = trying-next (origin r .pre .1) (w .inv .2) (w .a) (r .row-of .result) (g .with .result) in
+      (least .0, least .1, next (next-extends g) _ (called .result) (called .ensures))
+
+  open-position-same-length-2 :
+      open-lts.Need-same-length-2 (open-calls t) (open-position-at t) open-position.Post Inv-loop μ-loop
+  open-position-same-length-2 c = c .before .before .loop .inv .2 .still .long
+
+  open-position-returns-2 :
+      open-lts.Need-returns-2 (open-calls t) (open-position-at t) open-position.Post Inv-loop μ-loop
+  open-position-returns-2 c =
+      let w = c .before .before in
+      let n = naming (sending w) in
+      trying-end (begun n .pre .1) (w .loop .inv .2) (inside (inner n)) (w .loop .a)
+      (λ u l. w .loop .inv .1 u (rw (← is-variable n) at l)) (c .if2 .left)
+
+  -- ## try_choice
+
+  abbrev Asked : Type 0
+  Asked = try-lts.After-is-alive-arg (try-calls t) (try-choice-at t) try-choice.Post
+
+  abbrev Entered : Type 0
+  Entered = try-lts.Start (try-calls t) (try-choice-at t) try-choice.Post
+
+  abbrev entered : Asked → Entered
+  entered c =
+      let copies = c .before .before in
+      copies .before .before .before .before
+
+  try-choice-is-alive-requires :
+      try-lts.Need-is-alive-requires (try-calls t) (try-choice-at t) try-choice.Post
+  try-choice-is-alive-requires c κs =
+      let b = entered c in
+      let a = b .args in
+      let h = b .pre .1 in
+      let four = ceilings-long (a .task) _ (b .good .1 .1 .1 .1 .0) in
+      let wide : a .d .objectives ≤ length (a .task .ceilings) =
+      omega (arith, four, h .ready .planned .sensible .few) in
+      let small =
+      archived-small (a .d) (a .task) (now (a .sizes)) (now (a .s)) (now (a .work)) wide (h .ready .limited)
+      (length (now (a .sizes))) (a .run .points) (a .run .limit) (now (a .work)) (h .running .archived) in (
+        h .ready .planned .sensible,
+        omega (arith, h .ready .long),
+        h .running .measured,
+        omega (arith, h .running .few, h .ready .room-small),
+        h .ready .planned .variables,
+        small,
+      )
+
+  try-choice-open-position-requires :
+      try-lts.Need-open-position-requires (try-calls t) (try-choice-at t) try-choice.Post
+  try-choice-open-position-requires c κs =
+      let b = entered (c .before .before .before) in
+      (omega (arith, b .pre .0), b .pre .1)
+
+  try-choice-same-length :
+      try-lts.Need-same-length (try-calls t) (try-choice-at t) try-choice.Post
+  try-choice-same-length c = c .before .before .open-position .ensures .still .long
+
+  try-choice-returns :
+      try-lts.Need-returns (try-calls t) (try-choice-at t) try-choice.Post
+  try-choice-returns c = c .before .before .open-position .ensures
+
+  try-choice-same-length-2 :
+      try-lts.Need-same-length-2 (try-calls t) (try-choice-at t) try-choice.Post
+  try-choice-same-length-2 c = refl
+
+  try-choice-returns-2 :
+      try-lts.Need-returns-2 (try-calls t) (try-choice-at t) try-choice.Post
+  try-choice-returns-2 c =
+      let b = entered (c .before .before) in
+      let dead = c .before .is-alive .ensures (c .if1 .left) in
+      opened-same (b .pre .1) (dead-covers (b .pre .1) (bound-long (b .args .node) _ (b .good .0)) dead)
+
+pub +open-position+try-choice-spec : {M : Type 1} → statement M
++open-position+try-choice-spec =
+    close
+    μ-open-position
+    μ-try-choice
+    (λ t. open-lts.spec
+    (open-calls t)
+    (open-position-at t)
+    open-position.Post
+    Inv-loop
+    μ-loop
+    (open-position-take-leaf-requires t)
+    (open-position-same-length t)
+    (open-position-returns t)
+    (open-position-sub-variable-at t)
+    (open-position-part-variable-at-start t)
+    (open-position-part-variable-at-end t)
+    (open-position-variable-at-requires t)
+    (open-position-shared-slice-read-size t)
+    (open-position-cast-size t)
+    (open-position-array-share-prefix-x t)
+    (open-position-slice-aggregate-bucket-at t)
+    (open-position-sub-bucket-at t)
+    (open-position-part-bucket-at-start t)
+    (open-position-part-bucket-at-end t)
+    (open-position-bucket-at-requires t)
+    (open-position-array-share-prefix-x-2 t)
+    (open-position-slice-aggregate-away-at t)
+    (open-position-sub-away-at t)
+    (open-position-part-away-at-start t)
+    (open-position-part-away-at-end t)
+    (open-position-away-at-requires t)
+    (open-position-leads-of-requires t)
+    (open-position-least-value-requires t)
+    (open-position-loop-holds t)
+    (open-position-mul-if2 t)
+    (open-position-array-read-if2 t)
+    (open-position-add-row-of t)
+    (open-position-row-of-requires t)
+    (open-position-with-requires t)
+    (open-position-try-choice-requires t)
+    (open-position-mul-leads t)
+    (open-position-array-write-leads t)
+    (open-position-least-value-requires-2 t)
+    (open-position-loop-less t)
+    (open-position-loop-again t)
+    (open-position-same-length-2 t)
+    (open-position-returns-2 t))
+    λ t. try-lts.spec
+    (try-calls t)
+    (try-choice-at t)
+    try-choice.Post
+    (try-choice-is-alive-requires t)
+    (try-choice-open-position-requires t)
+    (try-choice-same-length t)
+    (try-choice-returns t)
+    (try-choice-same-length-2 t)
+    (try-choice-returns-2 t)

@@ -1,0 +1,96 @@
+-- `branch_search::run_pass` meets its contract: the pass begins at the empty choice.
+use mathlib.Core.List.{List}
+use Prim.Native.Nat.{ℕ, _≤_, _<_}
+use native.Mathlib.Omega.{arith}
+use lib.ListN.{length, getD, length-drop}
+use denote.Ref.{now}
+use Rattle.model.specs.Limits.{byteEnd}
+use Rattle.layout.specs.Layout.{listEnd}
+use Rattle.groups.proofs.Tasks.{ceilings-long}
+use Rattle.branch_search.specs.States.{noLimit, Ready, Still}
+use Rattle.branch_search.proofs.ArchivedWords.{archived-words}
+use Rattle.branch_search.proofs.Memory.{ready-still, zones-still, lent-plan}
+use Rattle.branch_search.proofs.Passes.{root-standing, root-passed}
+use borrow.Author.Needs.{needs}
+use Rattle.branch_search.proofs.run_pass.Statement.{statement}
+use Rattle.branch_search.proofs.run_pass.Tie as tie
+
+-- memory once the zones are made, and the plan as it is lent
+module _ (c : tie.After-start-zones) where
+  abbrev known : tie.After-slice-known
+  known = c .before .before .before
+
+  abbrev begun : tie.Start
+  begun = known .before .before .before
+
+  abbrev made : List ℕ
+  made = c .start-zones .last .1 .1 .1 .0
+
+  kept : Still (begun .args .task) (now (begun .args .work)) made
+  kept =
+      let zones = c .start-zones .ensures .0 in
+      zones-still (now (begun .args .work)) made (zones .long) (zones .behind) (begun .args .task)
+
+  ready : Ready (begun .args .d) (begun .args .task) (now (begun .args .sizes)) (now (begun .args .s)) made
+  ready = ready-still kept (begun .args .d) (now (begun .args .sizes)) (now (begun .args .s)) (begun .pre .0)
+
+-- the zones, from where the bound of the empty choice is known
+abbrev zoned : tie.After-root-bound → tie.After-start-zones
+zoned c =
+    let lent = c .before .before in
+    lent .before .before .before
+
+start-zones-requires : tie.Need-start-zones-requires
+start-zones-requires c κs =
+    let read : tie.After-slice-known = c .before .before in
+    let s : tie.Start = read .before .before .before in
+    let a = s .args in
+    let h = s .pre .0 in
+    let b = s .pre .1 in
+    let four = ceilings-long (a .task) _ (s .good .1 .1 .1 .0) in
+    let wide : a .d .objectives ≤ length (a .task .ceilings) = omega (arith, four, h .planned .sensible .few) in
+    let words =
+    archived-words (a .d) (a .task) (now (a .sizes)) (now (a .s)) (now (a .work)) wide (h .limited)
+    (length (now (a .sizes))) (a .points) noLimit (now (a .work)) (b .archived) in
+    (h .planned .sensible, omega (arith, h .long), omega (arith, b .few, h .room-small), h .limited, words)
+
+root-bound-requires : tie.Need-root-bound-requires
+root-bound-requires c κs =
+    let z = c .before .before .before .before in
+    let h = ready z in
+    rw (lent-plan (made z))
+    (h .planned, h .sound .tested, omega (arith, h .long, length-drop listEnd (made z)), h .some-variable)
+
+try-choice-requires : tie.Need-try-choice-requires
+try-choice-requires c κs =
+    let rooted = c .before in
+    let z = zoned rooted in
+    let s = begun z in
+    let byte = known z .before .before .shared-slice-known .given in
+    let bytes : (at : ℕ) → getD (now (s .args .s)) at 0 < byteEnd = λ at. omega (arith, byte at) in
+    let bound = rw (lent-plan (made z)) at (rooted .root-bound .ensures) in
+    let zones = z .start-zones .ensures in
+    root-standing (s .pre .0) (s .pre .1) (zones .0) (zones .1) bytes (rooted .root-bound .result) bound
+
+returns : tie.Need-returns
+returns c =
+    let rooted = c .before .before .before .before in
+    let z = zoned rooted in
+    let s = begun z in
+    let zones = z .start-zones .ensures in
+    let called = c .before .before .try-choice in
+    root-passed (s .pre .0) (s .pre .1) (zones .0) (zones .1)
+    (rooted .root-bound .result) _ (called .result) (called .ensures)
+
+pub run-pass-spec : {M : Type 1} → statement M
+run-pass-spec =
+    tie.close
+    (tie.spec
+    start-zones-requires
+    (λ c. search needs)  -- sub-root-bound
+    (λ c. search needs)  -- part-root-bound-start
+    (λ c. search needs)  -- part-root-bound-end
+    root-bound-requires
+    try-choice-requires
+    (λ c. search needs)  -- same-length
+    returns)

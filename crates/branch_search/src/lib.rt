@@ -1,0 +1,286 @@
+// The second form of the search: passes of branch and bound over a plan, into an archive, until one leaves nothing out.
+ghost use mathlib.Core.Path.{_≡_};
+ghost use mathlib.Core.List.{List};
+ghost use Prim.Native.Nat.{ℕ, _+_, _<_, _≤_};
+ghost use lib.ListN.{length};
+ghost use Rattle.model.specs.Basics.{All};
+ghost use Rattle.model.specs.Limits.{maxVariables, maxDomain, maxPoints};
+ghost use Rattle.model.specs.Problems.{Word};
+ghost use Rattle.model.specs.Core.{WordCeiling, coreFrontier};
+ghost use Rattle.layout.specs.Layout.{listEnd};
+ghost use Rattle.rows.specs.Rows.{EachCost};
+ghost use Rattle.branch_directions.specs.Directions.{Sensible};
+ghost use Rattle.branch_zones.specs.Zones.{Measured};
+ghost use Rattle.branch_pruning.specs.Tests.{zonesOf};
+ghost use Rattle.branch_search.specs.States.{problemOf, taskProblem, extended, leaf, Ready, Standing, OpenedFrom};
+ghost use Rattle.branch_search.specs.States.{Between, Passed, ExploredSays};
+ghost use Rattle.branch_search.specs.Passes.{ZonesWritten, ZonesHold};
+
+// The limit while nothing is left out: no leading sum is as large. A value that was tried counts as having this one.
+const NO_LIMIT: u64 = 18446744073709551615;
+
+// After so many passes the search is given up.
+const MAX_PASSES: usize = 66;
+
+// Whether the search came to an end, whether the list is longer than the room, and else how many points it has.
+pub struct Explored {
+    pub decided: bool,
+    pub full: bool,
+    pub count: usize,
+}
+
+// A partial choice: values for the variables at the first `depth` positions, and its bound in every direction.
+pub struct Node {
+    pub depth: usize,
+    pub choice: [u8; 24],
+    pub bound: [u64; 8],
+}
+
+impl Node {
+    // One more variable has its value: the next partial choice, with the bound that it then has.
+    fn with(self, variable: usize, value: usize, bound: [u64; 8]) -> Node
+        requires { ⌜ (self .depth < maxVariables) × (variable < maxVariables) × (value < maxDomain) ⌝ }
+        ensures { λ next. ⌜ next ≡ extended self variable value bound ⌝ }
+    {
+        let x = self.choice;
+        let choice = branch_buckets::with_value(x, variable, value);
+        let depth = self.depth + 1;
+        Node {
+            depth,
+            choice,
+            bound,
+        }
+    }
+}
+
+// A complete choice is met: it is taken into the archive, and where it is new out of the zones.
+// Not so where it is over a ceiling or not below the limit. It comes in parts: were it a node, the compiler would copy
+// every node byte by byte, because the bytes of a choice are read one by one here.
+fn take_leaf(
+    x: [u8; 24],
+    bound: [u64; 8],
+    run: branch_pruning::Progress,
+    s: &[u8],
+    sizes: &[u8],
+    task: groups::Task,
+    d: branch_directions::Directions,
+    work: &mut [u32],
+) -> branch_pruning::Progress
+    requires { ⌜ Standing d task (now sizes) (now s) (now work) run (leaf (now sizes) x bound) ⌝ }
+    ensures { λ t. ⌜ OpenedFrom d task (now (sizes .entry)) (now (s .entry))
+        (leaf (now (sizes .entry)) x bound) (now (work .entry)) run (now (work .exit)) t ⌝ }
+{
+    let p = d.objectives;
+    let ceilings = task.ceilings;
+    let costs = branch_pruning::front_of(bound);
+    if !vectors::is_under(costs, ceilings, p) {
+        return run;
+    }
+    if branch_directions::lead_of(bound, d) >= run.limit {
+        return run;
+    }
+    let weights = branch_directions::lead_weights(d);
+    let n = sizes.len();
+    let t = branch_archive::take_point(
+        x,
+        costs,
+        run.points,
+        run.limit,
+        task.room,
+        p,
+        n,
+        weights,
+        work,
+    );
+    if !t.added {
+        return branch_pruning::Progress {
+            points: t.points,
+            zones: run.zones,
+            limit: t.limit,
+        };
+    }
+    let m = branch_zones::split_zones(costs, run.zones, d, &mut work[..layout::ZONES_END]);
+    branch_pruning::Progress {
+        points: t.points,
+        zones: m,
+        limit: t.limit,
+    }
+}
+
+// Takes what the first `c` archived points match out of `m` zones; how many there are then.
+fn split_all(c: usize, m: usize, d: branch_directions::Directions, work: &mut [u32]) -> usize
+    requires { ⌜ Sensible d × (listEnd ≤ length (now work)) × (c ≤ maxPoints + 1)
+        × Measured d (zonesOf (now work)) m × EachCost Word (d .objectives) (now work) c ⌝ }
+    ensures { λ t. ⌜ ZonesWritten d (now (work .entry)) (now (work .exit)) t
+        × ((ceilings : List ℕ) → ZonesHold d c ceilings (now (work .entry)) (now (work .entry)) m
+        → ZonesHold d c ceilings (now (work .entry)) (now (work .exit)) t) ⌝ }
+{
+    let mut zones = m;
+    let mut i: usize = 0;
+    while i < c {
+        let costs = rows::row_costs(i, work);
+        zones = branch_zones::split_zones(costs, zones, d, &mut work[..layout::ZONES_END]);
+        i += 1;
+    }
+    zones
+}
+
+// The zones at the start of a pass: all that is under the ceilings and that no archived point matches. How many there
+// are.
+fn start_zones(
+    c: usize,
+    ceilings: [u64; 4],
+    d: branch_directions::Directions,
+    work: &mut [u32],
+) -> usize
+    requires { ⌜ Sensible d × (listEnd ≤ length (now work)) × (c ≤ maxPoints + 1) × All WordCeiling ceilings
+        × EachCost Word (d .objectives) (now work) c ⌝ }
+    ensures { λ m. ⌜ ZonesWritten d (now (work .entry)) (now (work .exit)) m
+        × ZonesHold d c ceilings (now (work .entry)) (now (work .exit)) m ⌝ }
+{
+    let m = branch_zones::first_zone(ceilings, d, &mut work[..layout::ZONES_END]);
+    split_all(c, m, d, work)
+}
+
+// Opens a partial choice where its completions may be new, or earlier than an archived choice with equal costs.
+fn try_choice(
+    node: Node,
+    run: branch_pruning::Progress,
+    s: &[u8],
+    sizes: &[u8],
+    task: groups::Task,
+    d: branch_directions::Directions,
+    work: &mut [u32],
+) -> branch_pruning::Progress
+    requires { ⌜ Standing d task (now sizes) (now s) (now work) run node ⌝ }
+    ensures { λ t. ⌜ OpenedFrom d task (now (sizes .entry)) (now (s .entry)) node
+        (now (work .entry)) run (now (work .exit)) t ⌝ }
+{
+    let n = sizes.len();
+    let x = node.choice;
+    let bound = node.bound;
+    if branch_pruning::is_alive(x, bound, run, n, d, work) {
+        return open_position(node, run, s, sizes, task, d, work);
+    }
+    run
+}
+
+// Tries each value of the variable at the next position, by rising leading sums of the bound, as long as these are
+// below the limit. A complete choice is met.
+fn open_position(
+    node: Node,
+    run: branch_pruning::Progress,
+    s: &[u8],
+    sizes: &[u8],
+    task: groups::Task,
+    d: branch_directions::Directions,
+    work: &mut [u32],
+) -> branch_pruning::Progress
+    requires { ⌜ Standing d task (now sizes) (now s) (now work) run node ⌝ }
+    ensures { λ t. ⌜ OpenedFrom d task (now (sizes .entry)) (now (s .entry)) node
+        (now (work .entry)) run (now (work .exit)) t ⌝ }
+{
+    let n = sizes.len();
+    let k = node.depth;
+    let x = node.choice;
+    let bound = node.bound;
+    if k == n {
+        return take_leaf(x, bound, run, s, sizes, task, d, work);
+    }
+    let v = branch_buckets::variable_at(k, &work[layout::PLAN_AT..]);
+    let size = sizes[v] as usize;
+    let rows = branch_values::bucket_at(k, v, &x[..n], s, sizes, d, &work[layout::PLAN_AT..]);
+    let away = branch_values::away_at(
+        k,
+        &x[..n],
+        s,
+        sizes,
+        task.records,
+        d,
+        &work[layout::PLAN_AT..],
+    );
+    let mut leads = branch_values::leads_of(&rows, bound, away, size, d);
+    let mut a = branch_values::least_value(&leads, size);
+    let mut t = run;
+    while leads[a] < t.limit {
+        let b = branch_values::row_of(&rows, a, bound, away, d.objectives + d.sums);
+        let next = node.with(v, a, b);
+        t = try_choice(next, t, s, sizes, task, d, work);
+        leads[a] = NO_LIMIT;
+        a = branch_values::least_value(&leads, size);
+    }
+    t
+}
+
+// One pass: all choices, into the archive with which it starts. What its limit leaves out is for the next one.
+fn run_pass(
+    points: usize,
+    s: &[u8],
+    sizes: &[u8],
+    task: groups::Task,
+    d: branch_directions::Directions,
+    work: &mut [u32],
+) -> branch_pruning::Progress
+    requires { ⌜ Ready d task (now sizes) (now s) (now work)
+        × Between (problemOf d task (now sizes) (now s) (now work)) d task (length (now sizes))
+        (now work) points ⌝ }
+    ensures { λ t. ⌜ Passed (problemOf d task (now (sizes .entry)) (now (s .entry)) (now (work .entry)))
+        d task (length (now (sizes .entry))) (now (work .entry)) (now (work .exit)) t ⌝ }
+{
+    let ceilings = task.ceilings;
+    let m = start_zones(points, ceilings, d, work);
+    let bound = branch_values::root_bound(s, sizes, task.records, d, &work[layout::PLAN_AT..]);
+    let node = Node {
+        depth: 0,
+        choice: [0u8; 24],
+        bound,
+    };
+    let run = branch_pruning::Progress {
+        points,
+        zones: m,
+        limit: NO_LIMIT,
+    };
+    try_choice(node, run, s, sizes, task, d, work)
+}
+
+// The frontier list of the problem whose records stand in the plan, in the archive's rows.
+pub fn explore(
+    s: &[u8],
+    sizes: &[u8],
+    task: groups::Task,
+    d: branch_directions::Directions,
+    work: &mut [u32],
+) -> Explored
+    requires { ⌜ Ready d task (now sizes) (now s) (now work) ⌝ }
+    ensures { λ e. ⌜ ExploredSays task (length (now (sizes .entry)))
+        (coreFrontier (taskProblem task (now (sizes .entry)) (now (s .entry)) (now (work .entry))))
+        (now (work .entry)) (now (work .exit)) e ⌝ }
+{
+    let mut points: usize = 0;
+    let mut pass: usize = 0;
+    while pass < MAX_PASSES {
+        let t = run_pass(points, s, sizes, task, d, work);
+        if t.points > task.room {
+            return Explored {
+                decided: true,
+                full: true,
+                count: 0,
+            };
+        }
+        if t.limit == NO_LIMIT {
+            branch_archive::sort_points(t.points, d.objectives, work);
+            return Explored {
+                decided: true,
+                full: false,
+                count: t.points,
+            };
+        }
+        points = t.points;
+        pass += 1;
+    }
+    Explored {
+        decided: false,
+        full: false,
+        count: 0,
+    }
+}

@@ -1,0 +1,65 @@
+-- `plan_test::part_fits` meets its contract.
+use Prim.Native.Nat.{_+_, _*_}
+use native.Mathlib.Omega.{arith}
+use denote.Ref.{now}
+use Rattle.plan_test.specs.Marks.{Marked}
+use Rattle.plan_test.specs.Parts.{PartReads}
+use Rattle.plan_test.proofs.Marking.{bucket-map, part-marks}
+use Rattle.plan_test.proofs.part_fits.Statement.{statement}
+use Rattle.plan_test.proofs.part_fits.Tie as tie
+
+cast-with-value : tie.Need-cast-with-value
+cast-with-value c =
+    omega (
+      arith,
+      c .shared-slice-known3 .given (499 + 7 * c .before .before .before .before .before .args .p .message + 1),
+    )
+
+cast-with-value-2 : tie.Need-cast-with-value-2
+cast-with-value-2 c =
+    omega (
+      arith,
+      c .shared-slice-known4 .given
+          (499 + 7 * c .before .before .before .before .before .before .before .args .p .message + 3),
+    )
+
+is-bucket-marked-requires : tie.Need-is-bucket-marked-requires
+is-bucket-marked-requires c κs =
+    let first = c .before .before .before .before .before in
+    let q = first .before .before .before .before .pre in
+    (q .1, q .2, q .3, q .4)
+
+returns : tie.Need-returns
+returns c =
+    let third = c .before .before in
+    let second = third .before .before in
+    let first = second .before .before in
+    let a = first .before .before .before .before .args in
+    let p = a .p in
+    let marks = third .with-value3 .result in
+    let is =
+    part-marks (now (a .plan)) p (first .with-value .result) (second .with-value2 .result) marks
+    (first .with-value .ensures) (second .with-value2 .ensures) (third .with-value3 .ensures) in
+    λ h. bucket-map (Marked marks) (PartReads (now (a .plan)) p) is (now (a .s)) (now (a .plan)) (p .span)
+    (c .is-bucket-marked .ensures h)
+
+pub part-fits-spec : {M : Type 1} → statement M
+part-fits-spec =
+    tie.close
+    (tie.spec
+    (λ c. omega arith)  -- mul-at
+    (λ c. omega arith)  -- add-at
+    (λ c κs. omega arith)  -- with-value-requires
+    (λ c. omega arith)  -- add-with-value
+    (λ c. omega arith)  -- mul-with-value
+    (λ c. omega arith)  -- shared-slice-read-with-value
+    cast-with-value
+    (λ c κs. omega arith)  -- with-value-requires-2
+    (λ c. omega arith)  -- add-with-value-2
+    (λ c. omega arith)  -- mul-with-value-2
+    (λ c. omega arith)  -- shared-slice-read-with-value-2
+    cast-with-value-2
+    (λ c κs. omega arith)  -- with-value-requires-3
+    (λ c. omega (arith, c .before .with-value3 .ok))  -- slice-aggregate-is-bucket-marked
+    is-bucket-marked-requires
+    returns)
