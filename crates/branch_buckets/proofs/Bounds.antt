@@ -19,7 +19,7 @@ use Rattle.groups.specs.Groups.{tablesOver}
 use Rattle.branch_directions.specs.Directions.{directionsOf, widthOf, directionEnd}
 use Rattle.branch_directions.specs.declared.Directions as DD
 use Rattle.branch_directions.proofs.DirectionLaws.{directions-limit}
-use Rattle.branch_buckets.specs.Places.{maxMessages, positionIn, recordEnd, childEnd, messageEnd}
+use Rattle.layout.specs.Places.{maxMessages, positionIn, recordEnd, childEnd, messageEnd}
 use Rattle.branch_buckets.specs.Messages.{sumOver, countFrom, messageAt, sentOver, receivedOver}
 use Rattle.branch_buckets.specs.Bounds.{costsOver, recordsOver, spanAt, baseSpan}
 use Rattle.branch_buckets.specs.Bounds.{contentAt, sentAt, baseAt, boundAt, Agree}

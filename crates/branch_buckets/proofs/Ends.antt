@@ -3,7 +3,7 @@ use mathlib.Core.List.{List}
 use Prim.Native.Nat.{ℕ, zero, suc, _+_, _≤_, _<_}
 use native.Mathlib.Omega.{arith}
 use native.Mathlib.Numerals.{add-one}
-use Rattle.branch_buckets.specs.Places.{maxMessages, recordEnd, childEnd, messageEnd}
+use Rattle.layout.specs.Places.{maxMessages, recordEnd, childEnd, messageEnd}
 use Rattle.branch_buckets.specs.Bounds.{spanAt}
 use Rattle.branch_buckets.specs.Content.{Ranged}
 use Rattle.branch_buckets.specs.Sound.{Ends}

@@ -6,7 +6,7 @@ use native.Mathlib.Omega.{arith}
 use native.Mathlib.Nat.{zero-add}
 use lib.ListN.{length, getD, set, replicate, getD-replicate}
 use Rattle.model.specs.Limits.{wordEnd}
-use Rattle.branch_buckets.specs.Places.{maxMessages, childrenAt, looseAt}
+use Rattle.layout.specs.Places.{maxMessages, childrenAt, looseAt}
 use Rattle.branch_buckets.specs.Messages.{sumOver, countFrom, messageAt, sentOver, childrenOver, receivedOver}
 use Rattle.branch_buckets.specs.Content.{Summed}
 use Rattle.branch_buckets.specs.Adding.{messageStart, RowAdded, RowsAdded, Received}

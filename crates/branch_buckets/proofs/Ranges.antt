@@ -6,7 +6,7 @@ use native.Mathlib.Omega.{arith}
 use native.Mathlib.Numerals.{add-one}
 use lib.ListN.{length, getD}
 use Rattle.problem.proofs.Behind.{take-cons}
-use Rattle.branch_buckets.specs.Places.{maxMessages, childrenAt, looseAt}
+use Rattle.layout.specs.Places.{maxMessages, childrenAt, looseAt}
 use Rattle.branch_buckets.specs.Messages.{sumOver, countFrom, messageAt, sentOver, childrenOver}
 use Rattle.branch_buckets.specs.Bounds.{placesOver}
 

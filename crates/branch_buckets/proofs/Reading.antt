@@ -19,7 +19,7 @@ use Rattle.groups.specs.Groups.{tablesOver}
 use Rattle.branch_directions.specs.Directions.{directionsOf, widthOf}
 use Rattle.branch_directions.specs.declared.Directions as DD
 use Rattle.branch_directions.proofs.DirectionLaws.{directions-added}
-use Rattle.branch_buckets.specs.Places.{fieldIn}
+use Rattle.layout.specs.Places.{fieldIn}
 use Rattle.branch_buckets.specs.Messages.{countFrom, messageAt, sentOver, childrenOver, receivedOver}
 use Rattle.branch_buckets.specs.Bounds.{placesOver, costsOver, recordsOver, contentOver}
 use Rattle.branch_buckets.specs.Content.{Ranged}

@@ -7,7 +7,7 @@ use native.Mathlib.Nat.{add-zero, mul-add, add-mul, mul-assoc, mul-comm, mul-le-
 use lib.ListN.{length, getD, set}
 use lib.Seq.{getD-set-same, getD-set-other}
 use Rattle.model.specs.Limits.{wordEnd}
-use Rattle.branch_buckets.specs.Places.{messagesAt, messageWidth, fieldIn}
+use Rattle.layout.specs.Places.{messagesAt, messageWidth, fieldIn}
 use Rattle.branch_buckets.specs.Adding.{messageStart, TermSays, MessageSays}
 use Rattle.branch_buckets.specs.declared.Progression as DP
 

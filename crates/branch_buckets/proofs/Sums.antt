@@ -15,7 +15,7 @@ use Rattle.model.specs.Vectors.{added}
 use Rattle.model.proofs.Elements.{all-take}
 use Rattle.costs.specs.Entries.{tableAt}
 use Rattle.groups.specs.Groups.{tablesOver}
-use Rattle.branch_buckets.specs.Places.{childrenAt}
+use Rattle.layout.specs.Places.{childrenAt}
 use Rattle.branch_buckets.specs.Messages.{sumOver, countFrom, messageAt, sentOver, childrenOver, receivedOver}
 use Rattle.branch_buckets.specs.Bounds.{placesOver}
 

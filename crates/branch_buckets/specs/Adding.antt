@@ -13,7 +13,7 @@ use Rattle.costs.specs.Entries.{tableAt, scopeAt, entriesAt}
 use Rattle.groups.specs.Groups.{tablesOver}
 use Rattle.branch_directions.specs.Directions.{directionsOf}
 use Rattle.branch_directions.specs.declared.Directions as DD
-use Rattle.branch_buckets.specs.Places.{maxMessages, fieldIn}
+use Rattle.layout.specs.Places.{maxMessages, fieldIn}
 use Rattle.branch_buckets.specs.Messages.{messageEntry, receivedOver}
 use Rattle.branch_buckets.specs.Bounds.{placesOver}
 use Rattle.branch_buckets.specs.declared.Progression as DP

@@ -8,7 +8,7 @@ use Rattle.model.specs.Costs.{costOf, totalsFrom}
 use Rattle.groups.specs.Groups.{tablesOver}
 use Rattle.branch_directions.specs.Directions.{directionsOf, widthOf}
 use Rattle.branch_directions.specs.declared.Directions as DD
-use Rattle.branch_buckets.specs.Places.{positionIn, recordEnd, childEnd, messageEnd}
+use Rattle.layout.specs.Places.{positionIn, recordEnd, childEnd, messageEnd}
 use Rattle.branch_buckets.specs.Messages.{sentOver, receivedOver}
 use Rattle.branch_buckets.specs.declared.Span as DS
 

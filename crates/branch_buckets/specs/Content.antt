@@ -11,7 +11,7 @@ use Rattle.model.specs.Costs.{isChoice}
 use Rattle.problem.specs.Records.{Whole}
 use Rattle.branch_directions.specs.Directions.{widthOf, Sensible, directionEnd}
 use Rattle.branch_directions.specs.declared.Directions as DD
-use Rattle.branch_buckets.specs.Places.{maxMessages, looseAt, childrenAt}
+use Rattle.layout.specs.Places.{maxMessages, looseAt, childrenAt}
 use Rattle.branch_buckets.specs.Messages.{sentOver}
 use Rattle.branch_buckets.specs.Bounds.{contentOver}
 use Rattle.branch_buckets.specs.declared.Span as DS

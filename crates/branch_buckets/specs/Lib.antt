@@ -1,5 +1,4 @@
--- Buckets and messages: where they stand, what they are worth, and what the search relies on.
-pub mod Places
+-- Buckets and messages: what they are worth, and what the search relies on.
 pub mod Messages
 pub mod Bounds
 pub mod Sound

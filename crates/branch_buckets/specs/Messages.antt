@@ -3,7 +3,7 @@
 use mathlib.Core.List.{List, [], _∷_}
 use Prim.Native.Nat.{ℕ, zero, suc, _+_, _*_, _-_}
 use lib.ListN.{getD, take, drop}
-use Rattle.branch_buckets.specs.Places.{childrenAt, fieldIn}
+use Rattle.layout.specs.Places.{childrenAt, fieldIn}
 
 -- the sum of f over some numbers
 unfoldable pub sumOver : (ℕ → ℕ) → List ℕ → ℕ

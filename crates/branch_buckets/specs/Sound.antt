@@ -13,8 +13,8 @@ use Rattle.model.specs.Reading.{tableScope}
 use Rattle.problem.specs.Records.{Whole}
 use Rattle.branch_directions.specs.Directions.{widthOf}
 use Rattle.branch_directions.specs.declared.Directions as DD
-use Rattle.branch_buckets.specs.Places.{maxMessages, childrenAt, orderIn, positionIn}
-use Rattle.branch_buckets.specs.Places.{recordEnd, childEnd, messageEnd, fieldIn}
+use Rattle.layout.specs.Places.{maxMessages, childrenAt, orderIn, positionIn}
+use Rattle.layout.specs.Places.{recordEnd, childEnd, messageEnd, fieldIn}
 use Rattle.branch_buckets.specs.Messages.{sumOver, countFrom, childrenOver}
 use Rattle.branch_buckets.specs.Bounds.{placesOver, contentAt, sentAt}
 

@@ -14,7 +14,7 @@ ghost use Rattle.model.specs.Costs.{isChoice};
 ghost use Rattle.problem.specs.Records.{Whole};
 ghost use Rattle.branch_archive.specs.Changes.{maxWeight};
 ghost use Rattle.branch_directions.specs.Directions.{maxSums, directionsOf, directionEnd, Sensible};
-ghost use Rattle.branch_buckets.specs.Places.{maxMessages, looseAt, numbersAt, orderIn};
+ghost use Rattle.layout.specs.Places.{maxMessages, looseAt, numbersAt, orderIn};
 ghost use Rattle.branch_buckets.specs.Messages.{messageAt};
 ghost use Rattle.branch_buckets.specs.Bounds.{spanAt};
 ghost use Rattle.branch_buckets.specs.Content.{Planned, Ranged, Filled, Summed};
@@ -22,30 +22,6 @@ ghost use Rattle.branch_buckets.specs.Adding.{addEnd, messageStart, Term
 ghost use Rattle.branch_buckets.specs.Adding.{RowFilled, RowAdded, Addable, RowsAdded, Received, RecordAdded};
 ghost use Rattle.branch_buckets.specs.Adding.{Blank};
 ghost use Rattle.branch_buckets.specs.Adding.{Totalled, Small, fourSum, Directed};
-
-// Where things stand in a plan, as specs/Places says.
-pub const CHILDREN_AT: usize = 256;
-
-// What stands before this is only rearranged while a plan is made.
-pub const LOOSE_AT: usize = 376;
-
-pub const ORDER_AT: usize = 376;
-
-pub const POSITIONS_AT: usize = 400;
-
-pub const RECORD_ENDS_AT: usize = 424;
-
-pub const CHILD_ENDS_AT: usize = 449;
-
-pub const MESSAGE_ENDS_AT: usize = 474;
-
-pub const MESSAGES_AT: usize = 499;
-
-pub const MESSAGE_WIDTH: usize = 7;
-
-pub const NUMBERS_AT: usize = 1339;
-
-pub const MAX_MESSAGES: usize = 120;
 
 // A number that grows evenly with a variable's value: `first` at value 0, and `stride` more at each next one.
 pub struct Progression {
@@ -95,7 +71,7 @@ pub fn variable_at(k: usize, plan: &[u32]) -> usize
     requires { ⌜ k ≤ maxVariables ⌝ }
     ensures { λ v. ⌜ (v ≡ orderIn (now (plan .entry)) k) × (v < wordEnd) ⌝ }
 {
-    number_at(plan, ORDER_AT + k)
+    number_at(plan, layout::ORDER_AT + k)
 }
 
 // The bucket of position `k`.
@@ -103,10 +79,10 @@ pub fn span_at(k: usize, plan: &[u32]) -> Span
     requires { ⌜ (k < maxVariables) × (numbersAt ≤ length (now plan)) ⌝ }
     ensures { λ span. ⌜ span ≡ spanAt (now (plan .entry)) k ⌝ }
 {
-    let from = plan[RECORD_ENDS_AT + (k + 1)] as usize;
-    let to = plan[RECORD_ENDS_AT + k] as usize;
-    let first = plan[CHILD_ENDS_AT + (k + 1)] as usize;
-    let last = plan[CHILD_ENDS_AT + k] as usize;
+    let from = plan[layout::RECORD_ENDS_AT + (k + 1)] as usize;
+    let to = plan[layout::RECORD_ENDS_AT + k] as usize;
+    let first = plan[layout::CHILD_ENDS_AT + (k + 1)] as usize;
+    let last = plan[layout::CHILD_ENDS_AT + k] as usize;
     Span {
         from,
         to,
@@ -149,7 +125,7 @@ fn message_run(g: usize, v: usize, choice: &[u8], width: usize, plan: &[u32]) ->
     requires { ⌜ (g < wordEnd) × (width ≤ 8) × (v < length (now choice)) ⌝ }
     ensures { λ r. ⌜ MessageSays width (now (plan .entry)) g v (now (choice .entry)) r ⌝ }
 {
-    let at = MESSAGES_AT + MESSAGE_WIDTH * g;
+    let at = layout::MESSAGES_AT + layout::MESSAGE_WIDTH * g;
     let start = number_at(plan, at);
     let one = number_at(plan, at + 1);
     let one_stride = number_at(plan, at + 2);
@@ -167,7 +143,7 @@ pub fn message_start(g: usize, choice: &[u8], width: usize, plan: &[u32]) -> usi
     requires { ⌜ (g < wordEnd) × (width ≤ 8) ⌝ }
     ensures { λ r. ⌜ (r ≡ messageStart width (now (plan .entry)) g (now (choice .entry))) × (r < addEnd) ⌝ }
 {
-    let at = MESSAGES_AT + MESSAGE_WIDTH * g;
+    let at = layout::MESSAGES_AT + layout::MESSAGE_WIDTH * g;
     let start = number_at(plan, at);
     let one = number_at(plan, at + 1);
     let one_stride = number_at(plan, at + 2);
@@ -259,7 +235,7 @@ fn add_received(
 {
     let mut i = span.first;
     while i < span.last {
-        let g = plan[CHILDREN_AT + i] as usize;
+        let g = plan[layout::CHILDREN_AT + i] as usize;
         add_message(g, v, size, choice, width, plan, rows);
         i += 1;
     }

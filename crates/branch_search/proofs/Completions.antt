@@ -22,7 +22,7 @@ use Rattle.branch_directions.specs.Directions.{directionsOf, widthOf}
 use Rattle.branch_directions.specs.declared.Directions as DD
 use Rattle.branch_directions.proofs.AtMostAt.{at-most-each}
 use Rattle.branch_directions.proofs.DirectionLaws.{directions-length}
-use Rattle.branch_buckets.specs.Places.{positionIn}
+use Rattle.layout.specs.Places.{positionIn}
 use Rattle.branch_buckets.specs.Bounds.{costsOver, Agree}
 use Rattle.branch_buckets.specs.Sound.{Sound}
 use Rattle.branch_buckets.proofs.Bounds.{bound-local, bound-below}

@@ -9,7 +9,7 @@ use denote.Laws.{Is}
 use denote.Struct.Declared.{row}
 use Rattle.model.specs.Limits.{maxVariables}
 use Rattle.branch_directions.specs.Directions.{maxDirections}
-use Rattle.branch_buckets.specs.Places.{orderIn}
+use Rattle.layout.specs.Places.{orderIn}
 use Rattle.branch_search.specs.declared.Node as DN
 use Rattle.branch_search.specs.States.{extended, leaf}
 use Rattle.branch_search.proofs.Node.{the-type}

@@ -16,7 +16,7 @@ use Rattle.model.proofs.Choices.{choice-length}
 use Rattle.model.proofs.Prefixes.{choice-prefix, prefix-below, set-choice}
 use Rattle.branch_directions.specs.Directions.{widthOf}
 use Rattle.branch_directions.specs.declared.Directions as DD
-use Rattle.branch_buckets.specs.Places.{orderIn, positionIn}
+use Rattle.layout.specs.Places.{orderIn, positionIn}
 use Rattle.branch_buckets.specs.Bounds.{Agree, boundAt, sentAt}
 use Rattle.branch_buckets.specs.Content.{Planned}
 use Rattle.branch_buckets.specs.Sound.{Tested, Sound}

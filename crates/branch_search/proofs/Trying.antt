@@ -19,7 +19,7 @@ use Rattle.model.proofs.Archive.{archived-wide, covered-follows, follows-refl, 
 use Rattle.rows.proofs.RowPlaces.{equal-or}
 use Rattle.branch_directions.specs.Directions.{leadWeights, leadAt}
 use Rattle.branch_directions.specs.declared.Directions as DD
-use Rattle.branch_buckets.specs.Places.{orderIn}
+use Rattle.layout.specs.Places.{orderIn}
 use Rattle.branch_buckets.specs.Bounds.{Agree, boundAt}
 use Rattle.branch_buckets.proofs.Bounds.{bound-local, bound-below}
 use Rattle.branch_pruning.specs.declared.Progress as DP

@@ -21,7 +21,7 @@ use Rattle.groups.specs.declared.Task as DT
 use Rattle.branch_directions.specs.Directions.{directionEnd, widthOf, leadWeights}
 use Rattle.branch_directions.specs.declared.Directions as DD
 use Rattle.branch_zones.specs.Zones.{cornersIn, Measured}
-use Rattle.branch_buckets.specs.Places.{positionIn, numbersAt}
+use Rattle.layout.specs.Places.{positionIn, numbersAt}
 use Rattle.branch_buckets.specs.Bounds.{boundAt, Agree}
 use Rattle.branch_buckets.specs.Content.{Planned}
 use Rattle.branch_buckets.specs.Sound.{Sound}

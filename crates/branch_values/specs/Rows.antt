@@ -5,7 +5,7 @@ use Prim.Native.Nat.{ℕ, _+_, _-_, _*_, _≤_, _<_}
 use lib.ListN.{getD}
 use Rattle.branch_directions.specs.Directions.{widthOf}
 use Rattle.branch_directions.specs.declared.Directions as DD
-use Rattle.branch_buckets.specs.Places.{messageEnd}
+use Rattle.layout.specs.Places.{messageEnd}
 use Rattle.branch_buckets.specs.Bounds.{spanAt}
 use Rattle.branch_buckets.specs.Content.{Filled, Summed}
 

@@ -6,7 +6,7 @@ ghost use lib.ListN.{length, getD, replicate};
 ghost use Rattle.model.specs.Limits.{maxDomain};
 ghost use Rattle.model.specs.Costs.{isChoice};
 ghost use Rattle.branch_directions.specs.Directions.{widthOf, leadAt, Sensible, maxDirections};
-ghost use Rattle.branch_buckets.specs.Places.{numbersAt, recordEnd};
+ghost use Rattle.layout.specs.Places.{numbersAt, recordEnd};
 ghost use Rattle.branch_buckets.specs.Bounds.{spanAt, baseAt};
 ghost use Rattle.branch_buckets.specs.Content.{Planned, Ranged};
 ghost use Rattle.branch_buckets.specs.Sound.{Tested};
@@ -45,8 +45,8 @@ pub fn away_at(
     ensures { λ t. ⌜ Away d (now (plan .entry)) k (now (x .entry)) t ⌝ }
 {
     let next = k + 1;
-    let from = plan[branch_buckets::MESSAGE_ENDS_AT + next] as usize;
-    let to = plan[branch_buckets::MESSAGE_ENDS_AT + k] as usize;
+    let from = plan[layout::MESSAGE_ENDS_AT + next] as usize;
+    let to = plan[layout::MESSAGE_ENDS_AT + k] as usize;
     branch_buckets::sent(from, to, x, d.objectives + d.sums, plan)
 }
 
@@ -122,9 +122,9 @@ pub fn root_bound(
 {
     let zeros = [0u8; 24];
     let n = sizes.len();
-    let from = plan[branch_buckets::RECORD_ENDS_AT] as usize;
-    let first = plan[branch_buckets::CHILD_ENDS_AT] as usize;
-    let last = plan[branch_buckets::MESSAGE_ENDS_AT] as usize;
+    let from = plan[layout::RECORD_ENDS_AT] as usize;
+    let first = plan[layout::CHILD_ENDS_AT] as usize;
+    let last = plan[layout::MESSAGE_ENDS_AT] as usize;
     let span = branch_buckets::Span {
         from,
         to: r,

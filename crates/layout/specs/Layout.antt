@@ -1,6 +1,5 @@
--- Where everything stands in work memory, in numbers from its start. In the first form of
--- the search the first 25 say where the group of each variable starts, and where the last one ends. What stands inside
--- a plan is with the buckets.
+-- Where everything stands in work memory, in numbers from its start. In the first form of the search the first 25 say
+-- where the group of each variable starts, and where the last one ends. Places.antt has what stands inside a plan.
 use Prim.Native.Nat.{ℕ}
 
 -- the second form's zones stand from the start up to here: 128 rows of eight numbers

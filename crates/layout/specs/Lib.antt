@@ -1,2 +1,3 @@
--- Work memory: where everything stands in it.
+-- Where everything stands in work memory, and in a plan.
 pub mod Layout
+pub mod Places

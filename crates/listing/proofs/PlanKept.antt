@@ -13,7 +13,7 @@ use Rattle.groups.proofs.Overwritten.{over, take-drop, over-length, over-part, 
 use Rattle.groups.specs.Sources.{sourceIn}
 use Rattle.branch_directions.specs.Directions.{Sensible}
 use Rattle.branch_directions.specs.declared.Directions as DD
-use Rattle.branch_buckets.specs.Places.{maxMessages, childrenAt, numbersAt}
+use Rattle.layout.specs.Places.{maxMessages, childrenAt, numbersAt}
 use Rattle.branch_buckets.specs.Messages.{countFrom}
 use Rattle.branch_buckets.specs.Content.{Planned}
 use Rattle.branch_buckets.specs.Sound.{Tested, Rearranged}

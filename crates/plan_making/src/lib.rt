@@ -6,7 +6,7 @@ ghost use lib.ListN.{length, take, drop};
 ghost use Rattle.model.specs.Basics.{All};
 ghost use Rattle.model.specs.Limits.{maxVariables};
 ghost use Rattle.problem.specs.Records.{Whole};
-ghost use Rattle.branch_buckets.specs.Places.{numbersAt, maxMessages, childrenAt};
+ghost use Rattle.layout.specs.Places.{numbersAt, maxMessages, childrenAt};
 ghost use Rattle.branch_buckets.specs.Messages.{countFrom};
 ghost use Rattle.branch_buckets.specs.Sound.{Rearranged};
 ghost use Rattle.branch_buckets.specs.Content.{Planned};
@@ -41,9 +41,9 @@ fn put_ends(k: usize, records: usize, slots: usize, messages: usize, plan: &mut 
     requires { ⌜ k ≤ maxVariables ⌝ }
     ensures { λ _. ⌜ Loose (now (plan .entry)) (now (plan .exit)) ⌝ }
 {
-    plan_memory::put(branch_buckets::RECORD_ENDS_AT + k, records, plan);
-    plan_memory::put(branch_buckets::CHILD_ENDS_AT + k, slots, plan);
-    plan_memory::put(branch_buckets::MESSAGE_ENDS_AT + k, messages, plan);
+    plan_memory::put(layout::RECORD_ENDS_AT + k, records, plan);
+    plan_memory::put(layout::CHILD_ENDS_AT + k, slots, plan);
+    plan_memory::put(layout::MESSAGE_ENDS_AT + k, messages, plan);
 }
 
 // Whether there is a message for one more part of position `k`. Messages are kept back for each position up to it: for
@@ -52,10 +52,10 @@ fn put_ends(k: usize, records: usize, slots: usize, messages: usize, plan: &mut 
 fn may_send(g: usize, k: usize, plan: &[u32]) -> bool
     requires { ⌜ k < maxVariables ⌝ }
 {
-    if plan_shapes::room_from(branch_buckets::NUMBERS_AT, plan) < 8 {
+    if plan_shapes::room_from(layout::NUMBERS_AT, plan) < 8 {
         return false;
     }
-    plan_shapes::at_most(g, branch_buckets::MAX_MESSAGES) + 3 * k + 1 < branch_buckets::MAX_MESSAGES
+    plan_shapes::at_most(g, layout::MAX_MESSAGES) + 3 * k + 1 < layout::MAX_MESSAGES
 }
 
 // Sends the message of a part: of the bucket's records and slots from those made on it has those that it covers.
@@ -103,7 +103,7 @@ fn send_part(
         rest: carried,
     };
     let rest = plan_numbers::put_entries(s, sizes, r, part, d, plan);
-    let messages = plan_shapes::at_most(g, branch_buckets::MAX_MESSAGES) + 1;
+    let messages = plan_shapes::at_most(g, layout::MAX_MESSAGES) + 1;
     let numbers = plan_shapes::numbers_end(shape, at, width);
     Made {
         records: to,
@@ -180,7 +180,7 @@ fn send_constant(
         rest,
         8 * plan_shapes::size_of(branch_buckets::variable_at(k, plan), sizes),
     );
-    if branch_buckets::MAX_MESSAGES <= g {
+    if layout::MAX_MESSAGES <= g {
         return made;
     }
     if plan_shapes::room_from(at, plan) < width {
@@ -261,7 +261,7 @@ fn make_buckets(
         records: 0,
         slots: 0,
         messages: 0,
-        numbers: branch_buckets::NUMBERS_AT + 8,
+        numbers: layout::NUMBERS_AT + 8,
         rest: [0u64; 64],
     };
     let mut k = n;
@@ -269,11 +269,7 @@ fn make_buckets(
         k -= 1;
         made = make_bucket(s, sizes, r, k, d, made, plan);
     }
-    plan_memory::put(
-        branch_buckets::MESSAGE_ENDS_AT,
-        branch_buckets::MAX_MESSAGES,
-        plan,
-    );
+    plan_memory::put(layout::MESSAGE_ENDS_AT, layout::MAX_MESSAGES, plan);
     end_messages(made, plan);
 }
 
@@ -291,7 +287,7 @@ fn end_messages(made: Made, plan: &mut [u32])
     let records = made.records;
     let slots = made.slots;
     let mut g = made.messages;
-    while g < branch_buckets::MAX_MESSAGES {
+    while g < layout::MAX_MESSAGES {
         plan_shapes::put_message(g, shape, records, slots, plan);
         g += 1;
     }

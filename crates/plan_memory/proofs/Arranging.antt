@@ -10,7 +10,7 @@ use Rattle.model.specs.Limits.{maxTables}
 use Rattle.problem.specs.Records.{Whole}
 use Rattle.groups.proofs.Overwritten.{take-drop}
 use Rattle.branch_directions.specs.declared.Directions as DD
-use Rattle.branch_buckets.specs.Places.{maxMessages, childrenAt, looseAt}
+use Rattle.layout.specs.Places.{maxMessages, childrenAt, looseAt}
 use Rattle.branch_buckets.specs.Content.{Planned}
 use Rattle.branch_buckets.proofs.Rearranging.{exchanged, exchange-rearranged, exchange-all, exchange-part}
 use Rattle.branch_buckets.proofs.Rearranging.{exchange-front}

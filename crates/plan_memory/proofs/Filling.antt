@@ -10,7 +10,7 @@ use Rattle.model.specs.Limits.{maxTables}
 use Rattle.problem.specs.Records.{Whole}
 use Rattle.branch_directions.specs.declared.Directions as DD
 use Rattle.groups.proofs.Overwritten.{over, over-length, over-next, over-front, over-here}
-use Rattle.branch_buckets.specs.Places.{maxMessages, childrenAt, looseAt}
+use Rattle.layout.specs.Places.{maxMessages, childrenAt, looseAt}
 use Rattle.branch_buckets.specs.Messages.{countFrom}
 use Rattle.branch_buckets.specs.Sound.{Rearranged}
 use Rattle.branch_buckets.specs.Content.{Planned}

@@ -5,7 +5,7 @@ use Prim.Native.Nat.{ℕ}
 use lib.ListN.{length, take, drop}
 use Rattle.model.specs.Basics.{All}
 use Rattle.problem.specs.Records.{Whole}
-use Rattle.branch_buckets.specs.Places.{maxMessages, childrenAt, looseAt}
+use Rattle.layout.specs.Places.{maxMessages, childrenAt, looseAt}
 use Rattle.branch_buckets.specs.Sound.{Rearranged}
 
 -- only what is written anew may have changed

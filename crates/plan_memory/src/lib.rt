@@ -4,7 +4,7 @@ ghost use mathlib.Core.Path.{_≡_};
 ghost use Prim.Native.Nat.{_≤_, _<_};
 ghost use lib.ListN.{length};
 ghost use Rattle.model.specs.Limits.{maxTables};
-ghost use Rattle.branch_buckets.specs.Places.{numbersAt, maxMessages, childrenAt, looseAt};
+ghost use Rattle.layout.specs.Places.{numbersAt, maxMessages, childrenAt, looseAt};
 ghost use Rattle.branch_buckets.specs.Messages.{countFrom};
 ghost use Rattle.branch_buckets.proofs.Rearranging.{exchanged};
 ghost use Rattle.groups.proofs.Overwritten.{over};
@@ -17,7 +17,7 @@ pub const MOST_NUMBER: usize = 4294967295;
 pub fn put(i: usize, number: usize, plan: &mut [u32])
     ensures { λ _. ⌜ Loose (now (plan .entry)) (now (plan .exit)) ⌝ }
 {
-    if branch_buckets::LOOSE_AT <= i {
+    if layout::LOOSE_AT <= i {
         if i < plan.len() {
             if number <= MOST_NUMBER {
                 plan[i] = number as u32;
@@ -44,7 +44,7 @@ fn exchange_records(i: usize, j: usize, r: usize, plan: &mut [u32])
 {
     if i < r {
         if j < r {
-            if branch_buckets::LOOSE_AT <= plan.len() {
+            if layout::LOOSE_AT <= plan.len() {
                 exchange(i, j, plan);
             }
         }
@@ -56,14 +56,10 @@ fn exchange_slots(i: usize, j: usize, r: usize, plan: &mut [u32])
     requires { ⌜ r ≤ maxTables ⌝ }
     ensures { λ _. ⌜ Arranged r (now (plan .entry)) (now (plan .exit)) ⌝ }
 {
-    if i < branch_buckets::MAX_MESSAGES {
-        if j < branch_buckets::MAX_MESSAGES {
-            if branch_buckets::LOOSE_AT <= plan.len() {
-                exchange(
-                    branch_buckets::CHILDREN_AT + i,
-                    branch_buckets::CHILDREN_AT + j,
-                    plan,
-                );
+    if i < layout::MAX_MESSAGES {
+        if j < layout::MAX_MESSAGES {
+            if layout::LOOSE_AT <= plan.len() {
+                exchange(layout::CHILDREN_AT + i, layout::CHILDREN_AT + j, plan);
             }
         }
     }
@@ -84,7 +80,7 @@ pub fn record_scope(s: &[u8], at: usize, plan: &[u32]) -> u32 {
     let mut i: usize = 0;
     while i < a {
         let v = branch_buckets::byte_at(s, at + 4 + i);
-        set = set | bit(branch_buckets::number_at(plan, branch_buckets::POSITIONS_AT + v));
+        set = set | bit(branch_buckets::number_at(plan, layout::POSITIONS_AT + v));
         i += 1;
     }
     set
@@ -93,17 +89,17 @@ pub fn record_scope(s: &[u8], at: usize, plan: &[u32]) -> u32 {
 // The position of variable `v` as a set.
 fn position_of(v: usize, plan: &[u32]) -> u32 {
     if v < 24 {
-        return bit(branch_buckets::number_at(plan, branch_buckets::POSITIONS_AT + v));
+        return bit(branch_buckets::number_at(plan, layout::POSITIONS_AT + v));
     }
     0
 }
 
 // The positions that message `g` reads.
 pub fn message_scope(g: usize, plan: &[u32]) -> u32 {
-    if branch_buckets::MAX_MESSAGES <= g {
+    if layout::MAX_MESSAGES <= g {
         return 0;
     }
-    let at = branch_buckets::MESSAGES_AT + branch_buckets::MESSAGE_WIDTH * g;
+    let at = layout::MESSAGES_AT + layout::MESSAGE_WIDTH * g;
     let mut set: u32 = 0;
     if branch_buckets::number_at(plan, at + 2) != 0 {
         set = position_of(branch_buckets::number_at(plan, at + 1), plan);
@@ -164,11 +160,11 @@ pub fn gather_slots(
     let mut end = from;
     let mut i = from;
     while i < to {
-        if branch_buckets::MAX_MESSAGES <= i {
+        if layout::MAX_MESSAGES <= i {
             return end;
         }
         let set = message_scope(
-            branch_buckets::number_at(plan, branch_buckets::CHILDREN_AT + i),
+            branch_buckets::number_at(plan, layout::CHILDREN_AT + i),
             plan,
         );
         if is_between(set, needed, allowed) {
@@ -186,8 +182,8 @@ pub fn fill_slots(plan: &mut [u32])
     ensures { λ _. ⌜ now (plan .exit) ≡ over (now (plan .entry)) childrenAt (countFrom 0 maxMessages) looseAt ⌝ }
 {
     let mut i: usize = 0;
-    while i < branch_buckets::MAX_MESSAGES {
-        plan[branch_buckets::CHILDREN_AT + i] = i as u32;
+    while i < layout::MAX_MESSAGES {
+        plan[layout::CHILDREN_AT + i] = i as u32;
         i += 1;
     }
 }

@@ -45,7 +45,7 @@ fn content_of(
     let from = part_span.from;
     let to = plan_shapes::at_most(part_span.to, r);
     let first = part_span.first;
-    let last = plan_shapes::at_most(part_span.last, branch_buckets::MAX_MESSAGES);
+    let last = plan_shapes::at_most(part_span.last, layout::MAX_MESSAGES);
     let own = part.own;
     let n = sizes.len();
     let choice = &x[..n];
@@ -147,7 +147,7 @@ fn left_over(left: [u64; 64], rows: [u64; 64], numbers: [u64; 8], count: usize) 
 fn numbers_at(place: usize, rows: [u64; 64], count: usize) -> [u64; 8]
     requires { ⌜ count ≤ 64 ⌝ }
 {
-    if place == branch_buckets::NUMBERS_AT {
+    if place == layout::NUMBERS_AT {
         return [0u64; 8];
     }
     least_numbers(rows, count)

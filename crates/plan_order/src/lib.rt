@@ -9,7 +9,7 @@ fn number_positions(plan: &mut [u32])
 {
     let mut v: usize = 0;
     while v < 24 {
-        plan_memory::put(branch_buckets::POSITIONS_AT + v, v, plan);
+        plan_memory::put(layout::POSITIONS_AT + v, v, plan);
         v += 1;
     }
 }
@@ -91,7 +91,7 @@ pub fn set_order(s: &[u8], n: usize, r: usize, plan: &mut [u32])
         left = left & !plan_memory::bit(v);
         let next = linked(links, links[v] & left);
         links = next;
-        plan_memory::put(branch_buckets::ORDER_AT + k, v, plan);
-        plan_memory::put(branch_buckets::POSITIONS_AT + v, k, plan);
+        plan_memory::put(layout::ORDER_AT + k, v, plan);
+        plan_memory::put(layout::POSITIONS_AT + v, k, plan);
     }
 }

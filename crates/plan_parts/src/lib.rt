@@ -84,10 +84,10 @@ fn cover_slots(
     let mut all = parts;
     let mut i = span.first;
     while i < span.last {
-        if branch_buckets::MAX_MESSAGES <= i {
+        if layout::MAX_MESSAGES <= i {
             return all;
         }
-        let g = branch_buckets::number_at(plan, branch_buckets::CHILDREN_AT + i);
+        let g = branch_buckets::number_at(plan, layout::CHILDREN_AT + i);
         let set = plan_memory::message_scope(g, plan) & !own;
         if u32::count_ones(set) == size {
             all = cover(set, all);

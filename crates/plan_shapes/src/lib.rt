@@ -112,7 +112,7 @@ fn constant_place(is_last: bool, at: usize, width: usize, plan: &[u32]) -> usize
             return at;
         }
     }
-    branch_buckets::NUMBERS_AT
+    layout::NUMBERS_AT
 }
 
 // The first position of a set, or 24.
@@ -210,8 +210,8 @@ pub fn choose_shape(
 pub fn put_message(g: usize, shape: Shape, records: usize, slots: usize, plan: &mut [u32])
     ensures { λ _. ⌜ Loose (now (plan .entry)) (now (plan .exit)) ⌝ }
 {
-    if g < branch_buckets::MAX_MESSAGES {
-        let at = branch_buckets::MESSAGES_AT + branch_buckets::MESSAGE_WIDTH * g;
+    if g < layout::MAX_MESSAGES {
+        let at = layout::MESSAGES_AT + layout::MESSAGE_WIDTH * g;
         plan_memory::put(at, shape.place, plan);
         plan_memory::put(at + 1, shape.u, plan);
         plan_memory::put(at + 2, shape.u_stride, plan);
@@ -226,7 +226,7 @@ pub fn put_message(g: usize, shape: Shape, records: usize, slots: usize, plan: &
 pub fn numbers_end(shape: Shape, at: usize, width: usize) -> usize
     requires { ⌜ width ≤ 8 ⌝ }
 {
-    if shape.place == branch_buckets::NUMBERS_AT {
+    if shape.place == layout::NUMBERS_AT {
         return at;
     }
     at_most(at, plan_memory::MOST_NUMBER) + width * at_most(shape.entries, 64)

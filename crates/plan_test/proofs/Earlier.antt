@@ -8,7 +8,7 @@ use borrow.Author.Count.{below-more, below-none}
 use lib.ListN.{length, set, replicate, length-set}
 use Rattle.model.specs.Basics.{All}
 use Rattle.model.proofs.Elements.{all-map}
-use Rattle.branch_buckets.specs.Places.{maxMessages, orderIn, positionIn, recordEnd, childEnd, messageEnd}
+use Rattle.layout.specs.Places.{maxMessages, orderIn, positionIn, recordEnd, childEnd, messageEnd}
 use Rattle.branch_buckets.specs.Messages.{countFrom}
 use Rattle.branch_buckets.specs.Sound.{ReadsBefore, Ordered, Ends, Early}
 use Rattle.branch_buckets.proofs.Reading.{Reads}

@@ -19,7 +19,7 @@ use Rattle.branch_buckets.specs.Content.{Ranged}
 use Rattle.branch_buckets.specs.declared.Span as DS
 use Rattle.branch_buckets.proofs.Reading.{Reads, joined}
 use Rattle.branch_buckets.proofs.Sums.{placesOver-split, childrenOver-split}
-use Rattle.branch_buckets.specs.Places.{fieldIn}
+use Rattle.layout.specs.Places.{fieldIn}
 use Rattle.plan_test.specs.declared.Part as DP
 use Rattle.plan_test.specs.Marks.{Marked, ScopeIn, BucketIn}
 use Rattle.plan_test.specs.Parts.{PartReads}

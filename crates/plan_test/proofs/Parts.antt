@@ -17,7 +17,7 @@ use Rattle.model.proofs.Zeros.{zeros-at}
 use Rattle.costs.proofs.ScopeVariables.{value-below}
 use Rattle.branch_directions.specs.Directions.{widthOf}
 use Rattle.branch_directions.specs.declared.Directions as DD
-use Rattle.branch_buckets.specs.Places.{maxMessages, orderIn, recordEnd, childEnd, messageEnd, fieldIn}
+use Rattle.layout.specs.Places.{maxMessages, orderIn, recordEnd, childEnd, messageEnd, fieldIn}
 use Rattle.branch_buckets.specs.Messages.{messageEntry, messageAt, sentOver}
 use Rattle.branch_buckets.specs.Bounds.{contentOver}
 use Rattle.branch_buckets.specs.Content.{Ranged, Filled, Summed}

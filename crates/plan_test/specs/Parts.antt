@@ -9,7 +9,7 @@ use lib.ListN.{length, getD, set}
 use Rattle.model.specs.Costs.{isChoice}
 use Rattle.branch_directions.specs.Directions.{widthOf}
 use Rattle.branch_directions.specs.declared.Directions as DD
-use Rattle.branch_buckets.specs.Places.{maxMessages, orderIn, recordEnd, childEnd, messageEnd, fieldIn}
+use Rattle.layout.specs.Places.{maxMessages, orderIn, recordEnd, childEnd, messageEnd, fieldIn}
 use Rattle.branch_buckets.specs.Messages.{messageAt, sentOver}
 use Rattle.branch_buckets.specs.Bounds.{contentOver, contentAt, sentAt}
 use Rattle.branch_buckets.specs.Content.{Planned, Ranged}

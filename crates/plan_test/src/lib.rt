@@ -9,7 +9,7 @@ ghost use Rattle.model.specs.Limits.{maxVariables, maxTables};
 ghost use Rattle.model.specs.Reading.{tableArity};
 ghost use Rattle.model.specs.Problems.{DomainSize};
 ghost use Rattle.model.specs.Costs.{isChoice};
-ghost use Rattle.branch_buckets.specs.Places.{maxMessages, numbersAt, messageEnd, fieldIn};
+ghost use Rattle.layout.specs.Places.{maxMessages, numbersAt, messageEnd, fieldIn};
 ghost use Rattle.branch_buckets.specs.Messages.{countFrom, childrenOver};
 ghost use Rattle.branch_buckets.specs.Bounds.{placesOver};
 ghost use Rattle.branch_buckets.specs.Content.{Planned, Ranged, contentEnd};
@@ -63,20 +63,10 @@ fn is_ordered(n: usize, plan: &[u32]) -> bool
     requires { ⌜ (n ≤ maxVariables) × (numbersAt ≤ length (now plan)) ⌝ }
     ensures { λ ok. ⌜ (ok ≡ true → Ordered n (now (plan .entry))) ⌝ }
 {
-    if !leads_back(
-        branch_buckets::ORDER_AT,
-        branch_buckets::POSITIONS_AT,
-        n,
-        plan,
-    ) {
+    if !leads_back(layout::ORDER_AT, layout::POSITIONS_AT, n, plan) {
         return false;
     }
-    leads_back(
-        branch_buckets::POSITIONS_AT,
-        branch_buckets::ORDER_AT,
-        n,
-        plan,
-    )
+    leads_back(layout::POSITIONS_AT, layout::ORDER_AT, n, plan)
 }
 
 // Whether the numbers from `at` on fall, to 0 at number `n`.
@@ -99,22 +89,22 @@ fn are_ends(n: usize, r: usize, plan: &[u32]) -> bool
     requires { ⌜ (n ≤ maxVariables) × (numbersAt ≤ length (now plan)) ⌝ }
     ensures { λ ok. ⌜ (ok ≡ true → Ends n r (now (plan .entry))) ⌝ }
 {
-    if !falls(branch_buckets::RECORD_ENDS_AT, n, plan) {
+    if !falls(layout::RECORD_ENDS_AT, n, plan) {
         return false;
     }
-    if !falls(branch_buckets::CHILD_ENDS_AT, n, plan) {
+    if !falls(layout::CHILD_ENDS_AT, n, plan) {
         return false;
     }
-    if !falls(branch_buckets::MESSAGE_ENDS_AT, n, plan) {
+    if !falls(layout::MESSAGE_ENDS_AT, n, plan) {
         return false;
     }
-    if r < plan[branch_buckets::RECORD_ENDS_AT] as usize {
+    if r < plan[layout::RECORD_ENDS_AT] as usize {
         return false;
     }
-    if branch_buckets::MAX_MESSAGES < plan[branch_buckets::CHILD_ENDS_AT] as usize {
+    if layout::MAX_MESSAGES < plan[layout::CHILD_ENDS_AT] as usize {
         return false;
     }
-    plan[branch_buckets::MESSAGE_ENDS_AT] as usize == branch_buckets::MAX_MESSAGES
+    plan[layout::MESSAGE_ENDS_AT] as usize == layout::MAX_MESSAGES
 }
 
 // Whether variable `v` is marked.
@@ -131,7 +121,7 @@ fn is_field_marked(g: usize, i: usize, marks: &[u8], plan: &[u32]) -> bool
         → (fieldIn (now (plan .entry)) g (i + 1) ≡ 0)
         ⊎ Marked (now (marks .entry)) (fieldIn (now (plan .entry)) g i)) ⌝ }
 {
-    let at = branch_buckets::MESSAGES_AT + branch_buckets::MESSAGE_WIDTH * g;
+    let at = layout::MESSAGES_AT + layout::MESSAGE_WIDTH * g;
     if plan[at + (i + 1)] == 0 {
         return true;
     }
@@ -143,7 +133,7 @@ fn reads_marked(g: usize, marks: &[u8], plan: &[u32]) -> bool
     requires { ⌜ numbersAt ≤ length (now plan) ⌝ }
     ensures { λ ok. ⌜ (ok ≡ true → Reads (Marked (now (marks .entry))) (now (plan .entry)) g) ⌝ }
 {
-    if branch_buckets::MAX_MESSAGES <= g {
+    if layout::MAX_MESSAGES <= g {
         return false;
     }
     if !is_field_marked(g, 1, marks, plan) {
@@ -193,7 +183,7 @@ fn are_slots_marked(first: usize, last: usize, marks: &[u8], plan: &[u32]) -> bo
 {
     let mut i = first;
     while i < last {
-        if !reads_marked(plan[branch_buckets::CHILDREN_AT + i] as usize, marks, plan) {
+        if !reads_marked(plan[layout::CHILDREN_AT + i] as usize, marks, plan) {
             return false;
         }
         i += 1;
@@ -238,11 +228,11 @@ fn is_early(s: &[u8], n: usize, r: usize, plan: &[u32]) -> bool
 {
     let mut marks = [0u8; 24];
     let mut to = r;
-    let mut last = branch_buckets::MAX_MESSAGES;
+    let mut last = layout::MAX_MESSAGES;
     let mut k: usize = 0;
     while k < n {
-        let from = plan[branch_buckets::RECORD_ENDS_AT + k] as usize;
-        let first = plan[branch_buckets::CHILD_ENDS_AT + k] as usize;
+        let from = plan[layout::RECORD_ENDS_AT + k] as usize;
+        let first = plan[layout::CHILD_ENDS_AT + k] as usize;
         let span = branch_buckets::Span {
             from,
             to,
@@ -252,8 +242,8 @@ fn is_early(s: &[u8], n: usize, r: usize, plan: &[u32]) -> bool
         if !is_bucket_marked(s, span, &marks, plan) {
             return false;
         }
-        let begin = plan[branch_buckets::MESSAGE_ENDS_AT + (k + 1)] as usize;
-        let end = plan[branch_buckets::MESSAGE_ENDS_AT + k] as usize;
+        let begin = plan[layout::MESSAGE_ENDS_AT + (k + 1)] as usize;
+        let end = plan[layout::MESSAGE_ENDS_AT + k] as usize;
         if !are_sent_marked(begin, end, &marks, plan) {
             return false;
         }
@@ -373,7 +363,7 @@ fn lower_pair(
     let n = sizes.len();
     let i = c / 8;
     let j = c % 8;
-    let at = branch_buckets::MESSAGES_AT + branch_buckets::MESSAGE_WIDTH * p.message;
+    let at = layout::MESSAGES_AT + layout::MESSAGE_WIDTH * p.message;
     let u = plan[at + 1] as usize;
     let v = plan[at + 3] as usize;
     if u == v {
@@ -399,7 +389,7 @@ fn part_fits(s: &[u8], p: Part, plan: &[u32]) -> bool
         × Inside (now s) (now plan) (p .span .to) × (numbersAt ≤ length (now plan)) ⌝ }
     ensures { λ ok. ⌜ (ok ≡ true → Fits (now (s .entry)) (now (plan .entry)) p) ⌝ }
 {
-    let at = branch_buckets::MESSAGES_AT + branch_buckets::MESSAGE_WIDTH * p.message;
+    let at = layout::MESSAGES_AT + layout::MESSAGE_WIDTH * p.message;
     let zeros = [0u8; 24];
     let one = branch_buckets::with_value(zeros, p.own, 1);
     let two = branch_buckets::with_value(one, plan[at + 1] as usize, 1);
@@ -470,7 +460,7 @@ fn after_message(
     ensures { λ h. ⌜ (h .ok ≡ true
         → Holding d (now (sizes .entry)) (now (s .entry)) (now (plan .entry)) k (g + 1) h) ⌝ }
 {
-    let at = branch_buckets::MESSAGES_AT + branch_buckets::MESSAGE_WIDTH * g;
+    let at = layout::MESSAGES_AT + layout::MESSAGE_WIDTH * g;
     if plan.len() <= plan[at] as usize {
         return held;
     }
@@ -479,10 +469,10 @@ fn after_message(
     let first = taken.last;
     let to = larger(from, plan[at + 5] as usize);
     let last = larger(first, plan[at + 6] as usize);
-    if (plan[branch_buckets::RECORD_ENDS_AT + k] as usize) < to {
+    if (plan[layout::RECORD_ENDS_AT + k] as usize) < to {
         return none_held();
     }
-    if (plan[branch_buckets::CHILD_ENDS_AT + k] as usize) < last {
+    if (plan[layout::CHILD_ENDS_AT + k] as usize) < last {
         return none_held();
     }
     let own = branch_buckets::variable_at(k, plan);
@@ -518,7 +508,7 @@ fn holds_at(
         × Ordered (length (now sizes)) (now plan) × Ends (length (now sizes)) r (now plan) ⌝ }
     ensures { λ ok. ⌜ (ok ≡ true → HoldsAt d (now (sizes .entry)) (now (s .entry)) (now (plan .entry)) k) ⌝ }
 {
-    let end = plan[branch_buckets::MESSAGE_ENDS_AT + k] as usize;
+    let end = plan[layout::MESSAGE_ENDS_AT + k] as usize;
     let bucket = branch_buckets::span_at(k, plan);
     let from = bucket.from;
     let first = bucket.first;
@@ -534,7 +524,7 @@ fn holds_at(
         span,
         rest,
     };
-    let mut g = plan[branch_buckets::MESSAGE_ENDS_AT + (k + 1)] as usize;
+    let mut g = plan[layout::MESSAGE_ENDS_AT + (k + 1)] as usize;
     while g < end {
         held = after_message(s, sizes, k, g, d, plan, held);
         if !held.ok {

@@ -1,7 +1,7 @@
 -- `branch_buckets::span_at` meets its contract.
 use Prim.Native.Nat.{_+_}
 use native.Mathlib.Omega.{arith}
-use Rattle.branch_buckets.specs.Places.{recordEndsAt, childEndsAt}
+use Rattle.layout.specs.Places.{recordEndsAt, childEndsAt}
 use borrow.Author.Needs.{needs}
 use Rattle.branch_buckets.proofs.span_at.Statement.{statement}
 use Rattle.branch_buckets.proofs.span_at.Tie as tie

@@ -14,7 +14,7 @@ use Rattle.model.specs.Problems.{DomainSize}
 use Rattle.model.proofs.Elements.{all-below}
 use Rattle.layout.specs.Layout.{listEnd}
 use Rattle.branch_directions.specs.Directions.{widthOf, leadAt}
-use Rattle.branch_buckets.specs.Places.{numbersAt, orderIn}
+use Rattle.layout.specs.Places.{numbersAt, orderIn}
 use Rattle.branch_buckets.specs.Content.{Planned}
 use Rattle.branch_buckets.specs.Sound.{Tested}
 use Rattle.branch_buckets.proofs.ContentRows.{planned-fewer}

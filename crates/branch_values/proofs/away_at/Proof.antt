@@ -1,7 +1,7 @@
 -- `branch_values::away_at` meets its contract.
 use Prim.Native.Nat.{_+_}
 use native.Mathlib.Omega.{arith}
-use Rattle.branch_buckets.specs.Places.{messageEndsAt}
+use Rattle.layout.specs.Places.{messageEndsAt}
 use Rattle.branch_buckets.proofs.Bounds.{messages-inside}
 use Rattle.branch_directions.proofs.Widths.{width-few}
 use borrow.Author.Needs.{needs}

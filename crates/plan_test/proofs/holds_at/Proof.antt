@@ -6,7 +6,7 @@ use Prim.Native.Nat.{ℕ, _+_, _-_, _≤_}
 use native.Mathlib.Omega.{arith}
 use borrow.Author.Tests.{not-false}
 use denote.Ref.{now}
-use Rattle.branch_buckets.specs.Places.{maxMessages, messageEnd}
+use Rattle.layout.specs.Places.{maxMessages, messageEnd}
 use Rattle.branch_buckets.specs.declared.Span as DS
 use Rattle.branch_buckets.proofs.Ends.{child-limit, message-limit}
 use Rattle.plan_test.specs.Parts.{Holding}

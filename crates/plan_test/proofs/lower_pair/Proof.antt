@@ -6,7 +6,7 @@ use borrow.Author.Needs.{needs}
 use lib.ListN.{length, getD, take, set, replicate}
 use lib.Seq.{length-take-le}
 use denote.Ref.{now}
-use Rattle.branch_buckets.specs.Places.{fieldIn}
+use Rattle.layout.specs.Places.{fieldIn}
 use Rattle.plan_test.proofs.PairChoices.{pair-front, pair-choice}
 use Rattle.plan_test.proofs.Parts.{pair-leaves}
 use Rattle.plan_test.proofs.lower_pair.Statement.{statement}
