@@ -10,7 +10,7 @@ use Rattle.model.specs.Problems.{DomainSize, sizeOf}
 use Rattle.model.specs.Bounds.{leastTo, leastFrom}
 use Rattle.problem.specs.Records.{Whole}
 use Rattle.problem.proofs.WholeRecord.{whole-long}
-use Rattle.costs.specs.Entries.{entryAt, scopeAt, entriesAt}
+use Rattle.costs.specs.Entries.{numberAt, scopeAt, entriesAt}
 use Rattle.costs.proofs.ScopeVariables.{scope-end, scope-next, variable-size}
 use Rattle.costs.proofs.Rooms.{rooms-fit, room-next}
 use Rattle.costs.proofs.LeastSteps.{least-none, least-fixed, least-free}
@@ -22,8 +22,8 @@ pub record Running (ds pre s : List ℕ) (at k first count : ℕ) : Type 0 where
   pub some : 1 ≤ count
   pub room : (first + count) * sizeOf ds (drop k (scopeAt s at)) ≤ entriesAt ds s at
   pub least :
-      leastTo (count - 1) (λ a. leastFrom ds pre (entryAt ds s at) (first + a) (drop k (scopeAt s at)))
-      ≡ leastFrom ds pre (entryAt ds s at) 0 (scopeAt s at)
+      leastTo (count - 1) (λ a. leastFrom ds pre (numberAt ds s at) (first + a) (drop k (scopeAt s at)))
+      ≡ leastFrom ds pre (numberAt ds s at) 0 (scopeAt s at)
 
 module _ (ds pre s : List ℕ) (at : ℕ) where
   pub running-start : Running ds pre s at 0 0 1
@@ -42,7 +42,7 @@ module _ (ds pre s : List ℕ) (at : ℕ) (w : Whole ds s at) (sizes : All Domai
   running-inside = rooms-fit ds s at w sizes k (first + count) (u .room)
 
   pub running-end : k ≡ getD s (at + 3) 0
-      → leastTo (count - 1) (λ a. entryAt ds s at (first + a)) ≡ leastFrom ds pre (entryAt ds s at) 0 (scopeAt s at)
+      → leastTo (count - 1) (λ a. numberAt ds s at (first + a)) ≡ leastFrom ds pre (numberAt ds s at) 0 (scopeAt s at)
   running-end e =
       let none = scope-end ds s at w in
       least-same (count - 1) _ _ (λ a. sym (rw (e, none, least-none))) ∙ u .least
@@ -65,13 +65,13 @@ module _ (ds pre s : List ℕ) (at : ℕ) (w : Whole ds s at) (sizes : All Domai
     running-free h =
         let d = domain in
         let vs = drop (k + 1) (scopeAt s at) in
-        let from : ℕ → ℕ = λ i. leastFrom ds pre (entryAt ds s at) i vs in
+        let from : ℕ → ℕ = λ i. leastFrom ds pre (numberAt ds s at) i vs in
         let one : 1 ≤ d = variable-size ds s at w k more sizes .0 in
         let each : (a : ℕ)
         → leastTo (d - 1) (λ b. from (first * d + (a * d + b)))
-        ≡ leastFrom ds pre (entryAt ds s at) (first + a) (drop k (scopeAt s at)) = λ a. rw (
+        ≡ leastFrom ds pre (numberAt ds s at) (first + a) (drop k (scopeAt s at)) = λ a. rw (
           scope-next ds s at w k more,
-          least-free ds pre (entryAt ds s at) (first + a) variable vs h,
+          least-free ds pre (numberAt ds s at) (first + a) variable vs h,
         ) (simp (add-mul, add-assoc)) in
         record {
           inside = omega arith;
@@ -96,6 +96,6 @@ module _ (ds pre s : List ℕ) (at : ℕ) (w : Whole ds s at) (sizes : All Domai
                 e,
                 add-zero,
                 scope-next ds s at w k more,
-                least-fixed ds pre (entryAt ds s at) first variable (drop (k + 1) (scopeAt s at)) h,
+                least-fixed ds pre (numberAt ds s at) first variable (drop (k + 1) (scopeAt s at)) h,
               ) at (u .least));
         }

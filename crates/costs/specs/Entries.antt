@@ -13,6 +13,10 @@ tableAt ds s at = coreTable (tableOf ds (drop at s))
 abbrev pub entryAt : List ℕ → List ℕ → ℕ → ℕ → ℕ
 entryAt ds s at i = getD (tableAt ds s at .costs) i 0
 
+-- the number that stands in the table as entry i, before it is weighed
+abbrev pub numberAt : List ℕ → List ℕ → ℕ → ℕ → ℕ
+numberAt ds s at i = getD (tableOf ds (drop at s) .costs) i 0
+
 abbrev pub scopeAt : List ℕ → ℕ → List ℕ
 scopeAt s at = tableScope (drop at s)
 

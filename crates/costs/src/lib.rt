@@ -6,12 +6,12 @@ ghost use lib.ListN.{length, drop};
 ghost use Rattle.model.specs.Basics.{All};
 ghost use Rattle.model.specs.Limits.{maxTables, maxObjectives};
 ghost use Rattle.model.specs.Problems.{DomainSize, sizeOf};
-ghost use Rattle.model.specs.Reading.{tableArity, tablesAt};
+ghost use Rattle.model.specs.Reading.{tableArity, tableOf, tablesAt};
 ghost use Rattle.model.specs.Costs.{isChoice, entryFrom, costOf, totalsFrom};
 ghost use Rattle.model.specs.Core.{entryEnd, entry, plain};
 ghost use Rattle.model.specs.Bounds.{prefixOk, leastTo, leastFrom, leastOf};
 ghost use Rattle.problem.specs.Records.{Whole, AllWhole};
-ghost use Rattle.costs.specs.Entries.{tableAt, entryAt, scopeAt, entriesAt};
+ghost use Rattle.costs.specs.Entries.{tableAt, entryAt, numberAt, scopeAt, entriesAt};
 ghost use Rattle.costs.specs.Runs.{RunSays};
 
 // What a table's number weighs in the core.
@@ -28,13 +28,21 @@ fn unweighed(w: u64) -> u64
     w
 }
 
-// Entry `i` of the table of the record at `at`: the one place that knows where tables stand.
+// The number that stands as entry `i` in the table of the record at `at`: the one place that knows where tables stand.
+fn number_at(s: &[u8], at: usize, i: usize, sizes: &[u8]) -> u32
+    requires { ⌜ Whole (now sizes) (now s) at × (i < entriesAt (now sizes) (now s) at) ⌝ }
+    ensures { λ r. ⌜ r ≡ numberAt (now (sizes .entry)) (now (s .entry)) at i ⌝ }
+{
+    let a = s[at + 3] as usize;
+    problem::four_at(s, at + 4 + a + 4 * i)
+}
+
+// Entry `i` of the table of the record at `at`, as the core has it.
 pub fn table_entry(s: &[u8], at: usize, i: usize, sizes: &[u8]) -> u64
     requires { ⌜ Whole (now sizes) (now s) at × (i < entriesAt (now sizes) (now s) at) ⌝ }
     ensures { λ r. ⌜ (r ≡ entryAt (now (sizes .entry)) (now (s .entry)) at i) × (r < entryEnd) ⌝ }
 {
-    let a = s[at + 3] as usize;
-    weigh(problem::four_at(s, at + 4 + a + 4 * i))
+    weigh(number_at(s, at, i, sizes))
 }
 
 // How many entries the table of the record at `at` has.
@@ -114,7 +122,7 @@ pub fn prefix_ok(sizes: &[u8], prefix: &[u8]) -> bool
     true
 }
 
-fn lesser(a: u64, b: u64) -> u64
+fn lesser(a: u32, b: u32) -> u32
     ensures { λ r. ⌜ r ≡ Prim.Native.Nat.min a b ⌝ }
 {
     if a <= b {
@@ -123,34 +131,32 @@ fn lesser(a: u64, b: u64) -> u64
     b
 }
 
-// The least of `count` entries in a row, from entry `first` on. The loop meets the first again:
-// `count` turns suit vectors.
-pub fn least_row(s: &[u8], at: usize, first: usize, count: usize, sizes: &[u8]) -> u64
+// The least of `count` numbers in a row, from entry `first` on. They are weighed afterwards, so that a vector has many of
+// them; the loop meets the first again: `count` turns suit vectors.
+pub fn least_row(s: &[u8], at: usize, first: usize, count: usize, sizes: &[u8]) -> u32
     requires { ⌜ Whole (now sizes) (now s) at × (1 ≤ count) × (first + count ≤ entriesAt (now sizes) (now s) at) ⌝ }
-    ensures { λ r. ⌜ (r ≡ leastTo (count - 1) (λ a. entryAt (now (sizes .entry)) (now (s .entry)) at (first + a)))
-        × (r < entryEnd) ⌝ }
+    ensures { λ r. ⌜ r ≡ leastTo (count - 1) (λ a. numberAt (now (sizes .entry)) (now (s .entry)) at (first + a)) ⌝ }
 {
-    let mut least = table_entry(s, at, first, sizes);
+    let mut least = number_at(s, at, first, sizes);
     let mut i: usize = 0;
     while i < count {
-        least = lesser(least, table_entry(s, at, first + i, sizes));
+        least = lesser(least, number_at(s, at, first + i, sizes));
         i += 1;
     }
     least
 }
 
-// The least entry over the scope variables from number `k` on that agrees with the prefix, after the index `index`.
-pub fn least_from(s: &[u8], at: usize, k: usize, index: usize, sizes: &[u8], prefix: &[u8]) -> u64
+// The least number over the scope variables from number `k` on that agrees with the prefix, after the index `index`.
+pub fn least_from(s: &[u8], at: usize, k: usize, index: usize, sizes: &[u8], prefix: &[u8]) -> u32
     requires { ⌜ Whole (now sizes) (now s) at × All DomainSize (now sizes) × (prefixOk (now sizes) (now prefix) ≡ true)
         × (k ≤ tableArity (drop at (now s)))
         × ((index + 1) * sizeOf (now sizes) (drop k (scopeAt (now s) at)) ≤ entriesAt (now sizes) (now s) at) ⌝ }
-    ensures { λ r. ⌜ (r ≡ leastFrom (now (sizes .entry)) (now (prefix .entry))
-        (entryAt (now (sizes .entry)) (now (s .entry)) at) index (drop k (scopeAt (now (s .entry)) at)))
-        × (r < entryEnd) ⌝ }
+    ensures { λ r. ⌜ r ≡ leastFrom (now (sizes .entry)) (now (prefix .entry))
+        (numberAt (now (sizes .entry)) (now (s .entry)) at) index (drop k (scopeAt (now (s .entry)) at)) ⌝ }
 {
     let a = s[at + 3] as usize;
     if k == a {
-        return table_entry(s, at, index, sizes);
+        return number_at(s, at, index, sizes);
     }
     let v = s[at + 4 + k] as usize;
     let d = sizes[v] as usize;
@@ -210,18 +216,28 @@ pub fn run_at(s: &[u8], at: usize, sizes: &[u8], prefix: &[u8]) -> Run
     Run { first, count }
 }
 
-// The least entry of the record at `at` that agrees with the prefix.
-pub fn least_at(s: &[u8], at: usize, sizes: &[u8], prefix: &[u8]) -> u64
+// The least number in the table of the record at `at` that agrees with the prefix.
+fn least_number(s: &[u8], at: usize, sizes: &[u8], prefix: &[u8]) -> u32
     requires { ⌜ Whole (now sizes) (now s) at × All DomainSize (now sizes)
         × (prefixOk (now sizes) (now prefix) ≡ true) ⌝ }
-    ensures { λ r. ⌜ (r ≡ leastOf (now (sizes .entry)) (now (prefix .entry))
-        (tableAt (now (sizes .entry)) (now (s .entry)) at)) × (r < entryEnd) ⌝ }
+    ensures { λ r. ⌜ r ≡ leastOf (now (sizes .entry)) (now (prefix .entry))
+        (tableOf (now (sizes .entry)) (drop at (now (s .entry)))) ⌝ }
 {
     let t = run_at(s, at, sizes, prefix);
     if t.count == 0 {
         return least_from(s, at, 0, 0, sizes, prefix);
     }
     least_row(s, at, t.first, t.count, sizes)
+}
+
+// The least entry of the record at `at` that agrees with the prefix: what the least number weighs.
+pub fn least_at(s: &[u8], at: usize, sizes: &[u8], prefix: &[u8]) -> u64
+    requires { ⌜ Whole (now sizes) (now s) at × All DomainSize (now sizes)
+        × (prefixOk (now sizes) (now prefix) ≡ true) ⌝ }
+    ensures { λ r. ⌜ (r ≡ leastOf (now (sizes .entry)) (now (prefix .entry))
+        (tableAt (now (sizes .entry)) (now (s .entry)) at)) × (r < entryEnd) ⌝ }
+{
+    weigh(least_number(s, at, sizes, prefix))
 }
 
 // The bound of a prefix: the sums of least entries over the tables of the `r` records from `at` on, as they were read.

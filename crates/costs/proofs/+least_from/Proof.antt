@@ -1,7 +1,7 @@
 -- `costs::least_from` meets its contract. By recursion on the scope's variables, with a loop over the values of a free
 -- one.
--- The invariant: the least so far is the least over the first x values, and below the entries' limit. The measure is
--- how many variables are left, of three at most.
+-- The invariant: the least so far is the least over the first x values. The measure is how many variables are left, of
+-- three at most.
 use mathlib.Core.Path.{_≡_}
 use mathlib.Core.Bool.{true}
 use mathlib.Core.List.{List}
@@ -17,12 +17,11 @@ use Rattle.model.specs.Basics.{All}
 use Rattle.model.specs.Limits.{maxArity}
 use Rattle.model.specs.Problems.{DomainSize}
 use Rattle.model.specs.Reading.{tableArity}
-use Rattle.model.specs.Core.{entryEnd}
 use Rattle.model.specs.Bounds.{prefixOk, leastTo, leastFrom}
 use Rattle.problem.specs.Records.{Whole}
 use Rattle.model.proofs.Prefixes.{prefix-below}
 use Rattle.problem.proofs.WholeRecord.{whole-few, whole-long}
-use Rattle.costs.specs.Entries.{entryAt, scopeAt}
+use Rattle.costs.specs.Entries.{numberAt, scopeAt}
 use Rattle.costs.proofs.ScopeVariables.{scope-end, scope-next, variable-exists, variable-size}
 use Rattle.costs.proofs.Rooms.{Room, room-index, room-fits, room-next}
 use Rattle.costs.proofs.LeastSteps.{least-next, least-none, least-fixed, least-free}
@@ -30,7 +29,7 @@ use Rattle.costs.proofs.least_from.Reads as least-from
 use Rattle.costs.proofs.least_from.Kinds as kinds
 use Rattle.costs.proofs.+least_from.Lts-least_from as lts
 use Rattle.costs.proofs.lesser.Reads as lesser-reads
-use Rattle.costs.proofs.table_entry.Reads as table-entry-reads
+use Rattle.costs.proofs.number_at.Reads as number-at-reads
 use Rattle.costs.proofs.+least_from.{statement}
 use Rattle.costs.proofs.+least_from.Tie.{close}
 
@@ -45,8 +44,8 @@ asked-below t = and 3 kinds.ps (falls 3 kinds.ps _<_ μ-least-from t) least-from
 
 abbrev calls : ℕ → lts.Claims
 calls t = (
-  table-entry-reads.Asked,
-  table-entry-reads.Learnt,
+  number-at-reads.Asked,
+  number-at-reads.Learnt,
   asked-below t,
   least-from.Post,
   lesser-reads.Asked,
@@ -56,11 +55,11 @@ calls t = (
 -- the least over the variables after number k, where it takes the value y of a domain of d
 abbrev after : List ℕ → ℕ → ℕ → ℕ → List ℕ → List ℕ → ℕ → ℕ → ℕ
 after s at k index sizes prefix d =
-    λ y. leastFrom sizes prefix (entryAt sizes s at) (index * d + y) (drop (k + 1) (scopeAt s at))
+    λ y. leastFrom sizes prefix (numberAt sizes s at) (index * d + y) (drop (k + 1) (scopeAt s at))
 
 abbrev Inv-loop : lts.InvT-loop
 Inv-loop s at k index sizes prefix a v d least₀ x₀ least x =
-    (1 ≤ x) × (x ≤ d) × (least ≡ leastTo (x - 1) (after s at k index sizes prefix d)) × (least < entryEnd)
+    (1 ≤ x) × (x ≤ d) × (least ≡ leastTo (x - 1) (after s at k index sizes prefix d))
 
 abbrev μ-loop : lts.MeasureT-loop
 μ-loop s at k index sizes prefix a v d least₀ x₀ least x = d - x
@@ -147,14 +146,14 @@ module _ (t : ℕ) where
   free : (c : Free) (r : ℕ) → r ≡ leastTo (domain (c .before .before .before) - 1) (rest (c .before .before .before))
       → let a = start (c .before .before .before) .args in
       r
-      ≡ leastFrom (now (a .sizes)) (now (a .prefix)) (entryAt (now (a .sizes)) (now (a .s)) (a .at)) (a .index)
+      ≡ leastFrom (now (a .sizes)) (now (a .prefix)) (numberAt (now (a .sizes)) (now (a .s)) (a .at)) (a .index)
       (drop (a .k) (scopeAt (now (a .s)) (a .at)))
   free c r e =
       let a = start (c .before .before .before) .args in
       let q = start (c .before .before .before) .pre .1 in
       rw (
         scope-next (now (a .sizes)) (now (a .s)) (a .at) (q .0) (a .k) (inside (c .before .before .before)),
-        least-free (now (a .sizes)) (now (a .prefix)) (entryAt (now (a .sizes)) (now (a .s)) (a .at)) (a .index) _
+        least-free (now (a .sizes)) (now (a .prefix)) (numberAt (now (a .sizes)) (now (a .s)) (a .at)) (a .index) _
             (drop (a .k + 1) (scopeAt (now (a .s)) (a .at))) (c .if2 .left),
       ) e
 
@@ -175,8 +174,8 @@ module _ (t : ℕ) where
   cast-a : lts.Need-cast-a (calls t) (asked t) least-from.Post Inv-loop μ-loop
   cast-a c = omega (arith, c .shared-slice-known4 .given (c .before .before .before .before .args .at + 3))
 
-  table-entry-requires : lts.Need-table-entry-requires (calls t) (asked t) least-from.Post Inv-loop μ-loop
-  table-entry-requires c κs =
+  number-at-requires : lts.Need-number-at-requires (calls t) (asked t) least-from.Post Inv-loop μ-loop
+  number-at-requires c κs =
       let a = c .before .before .before .before .before .args in
       let q = c .before .before .before .before .before .pre .1 in
       (q .0, room-index (now (a .sizes)) (now (a .s)) (a .at) (q .0) (q .1) (a .k) (a .index) (q .4))
@@ -185,10 +184,8 @@ module _ (t : ℕ) where
   returns c =
       let a = c .before .before .before .before .before .before .args in
       let q = c .before .before .before .before .before .before .pre .1 in
-      let entry = c .table-entry .ensures in (
-        rw (c .before .if1 .taken, scope-end (now (a .sizes)) (now (a .s)) (a .at) (q .0), least-none) (entry .0),
-        entry .1,
-      )
+      let none = scope-end (now (a .sizes)) (now (a .s)) (a .at) (q .0) in
+      rw (c .before .if1 .taken, none, least-none) (c .number-at .ensures)
 
   add-v : lts.Need-add-v (calls t) (asked t) least-from.Post Inv-loop μ-loop
   add-v c =
@@ -250,9 +247,9 @@ module _ (t : ℕ) where
       let vs = drop (a .k + 1) (scopeAt (now (a .s)) (a .at)) in
       let next = scope-next (now (a .sizes)) (now (a .s)) (a .at) (s .pre .1 .0) (a .k)
       (inside (fixed .before .before .before)) in
-      let value = least-fixed (now (a .sizes)) (now (a .prefix)) (entryAt (now (a .sizes)) (now (a .s)) (a .at))
+      let value = least-fixed (now (a .sizes)) (now (a .prefix)) (numberAt (now (a .sizes)) (now (a .s)) (a .at))
       (a .index) _ vs (fixed .if2 .taken) in
-      (rw (next, value) (c .least-from .ensures .0), c .least-from .ensures .1)
+      rw (next, value) (c .least-from .ensures)
 
   add-least-from-3 : lts.Need-add-least-from-3 (calls t) (asked t) least-from.Post Inv-loop μ-loop
   add-least-from-3 c = omega (arith, short (c .before .before .before))
@@ -266,8 +263,7 @@ module _ (t : ℕ) where
   loop-holds : lts.Need-loop-holds (calls t) (asked t) least-from.Post Inv-loop μ-loop
   unfolding leastTo
   loop-holds c =
-      let one = c .least-from2 .ensures in
-      (omega arith, size (c .before .before .before .before) .0, rw add-zero (one .0), one .1)
+      (omega arith, size (c .before .before .before .before) .0, rw add-zero (c .least-from2 .ensures))
 
   add-least-from-4 : lts.Need-add-least-from-4 (calls t) (asked t) least-from.Post Inv-loop μ-loop
   add-least-from-4 c = omega (arith, short (c .before .before .before .before .before .before))
@@ -301,19 +297,14 @@ module _ (t : ℕ) where
   loop-again : lts.Need-loop-again (calls t) (asked t) least-from.Post Inv-loop μ-loop
   loop-again c =
       let w = c .before .before .before .loop in
-      let next = c .before .least-from3 .ensures in
-      let step = least-next (w .x) (rest (c .before .before .before .before .before .before .before .before)) in (
-        omega arith,
-        omega arith,
-        rw (step, c .lesser .ensures, w .inv .2, next .0),
-        omega (arith, c .lesser .ensures, w .inv .3, next .1),
-      )
+      let step = least-next (w .x) (rest (c .before .before .before .before .before .before .before .before)) in
+      (omega arith, omega arith, rw (step, c .lesser .ensures, w .inv .2, c .before .least-from3 .ensures))
 
   returns-3 : lts.Need-returns-3 (calls t) (asked t) least-from.Post Inv-loop μ-loop
   returns-3 c =
       let w = c .before .loop in
       let end : w .x ≡ domain (c .before .before .before .before .before .before) = omega arith in
-      (free (c .before .before .before) _ (rw end at (w .inv .2)), w .inv .3)
+      free (c .before .before .before) _ (rw end at (w .inv .2))
 
 pub +least-from-spec : {M : Type 1} → statement M
 +least-from-spec =
@@ -328,7 +319,7 @@ pub +least-from-spec : {M : Type 1} → statement M
     (add-a t)
     (shared-slice-read-a t)
     (cast-a t)
-    (table-entry-requires t)
+    (number-at-requires t)
     (returns t)
     (add-v t)
     (add-v-2 t)

@@ -1,68 +1,25 @@
--- `costs::table_entry` meets its contract. The entry is what a four-byte number of the problem weighs (`entry-place`),
--- and the number lies in it (`entry-inside`).
+-- `costs::table_entry` meets its contract: the entry is what the number weighs.
 use mathlib.Core.Path.{sym, ap, _∙_}
-use Prim.Native.Nat.{_+_}
-use native.Mathlib.Omega.{arith}
+use lib.ListN.{drop}
 use denote.Ref.{now}
 use Rattle.model.specs.Core.{entry}
-use Rattle.problem.proofs.WholeRecord.{whole-long}
-use Rattle.costs.proofs.TableEntries.{entry-place, entry-inside}
+use Rattle.model.specs.Reading.{tableOf}
+use Rattle.model.proofs.Core.{weighed-at}
 use borrow.Author.Needs.{needs}
 use Rattle.costs.proofs.table_entry.Statement.{statement}
 use Rattle.costs.proofs.table_entry.Tie as tie
 
-shared-slice-read-a : tie.Need-shared-slice-read-a
-shared-slice-read-a c =
-    let a = c .before .before .before .args in
-    let q = c .before .before .before .pre in
-    omega (arith, whole-long (now (a .sizes)) (now (a .s)) (a .at) (q .0))
-
-cast-a : tie.Need-cast-a
-cast-a c = omega (arith, c .shared-slice-known3 .given (c .before .before .before .args .at + 3))
-
-add-four-at-2 : tie.Need-add-four-at-2
-add-four-at-2 c =
-    let a = c .before .before .before .args in
-    let q = c .before .before .before .pre in
-    omega (arith, entry-inside (now (a .sizes)) (now (a .s)) (a .at) (a .i) (q .1) (q .0))
-
-mul-four-at : tie.Need-mul-four-at
-mul-four-at c =
-    let a = c .before .before .before .args in
-    let q = c .before .before .before .pre in
-    omega (arith, entry-inside (now (a .sizes)) (now (a .s)) (a .at) (a .i) (q .1) (q .0))
-
-add-four-at-3 : tie.Need-add-four-at-3
-add-four-at-3 c =
-    let a = c .before .before .before .args in
-    let q = c .before .before .before .pre in
-    omega (arith, entry-inside (now (a .sizes)) (now (a .s)) (a .at) (a .i) (q .1) (q .0))
-
-four-at-requires : tie.Need-four-at-requires
-four-at-requires c κs =
-    let a = c .before .before .before .args in
-    let q = c .before .before .before .pre in
-    omega (arith, entry-inside (now (a .sizes)) (now (a .s)) (a .at) (a .i) (q .1) (q .0))
-
 returns : tie.Need-returns
 returns c =
     let read = c .before in
-    let start = read .before .before .before .before in
-    let a = start .args in
-    let place = entry-place (now (a .sizes)) (now (a .s)) (a .at) (a .i) (start .pre .1) in
-    (c .weigh .ensures .0 ∙ ap entry (read .four-at .ensures) ∙ sym place, c .weigh .ensures .1)
+    let a = read .before .before .before .args in
+    let weighs = weighed-at (tableOf (now (a .sizes)) (drop (a .at) (now (a .s))) .costs) (a .i) in
+    (c .weigh .ensures .0 ∙ ap entry (read .number-at .ensures) ∙ sym weighs, c .weigh .ensures .1)
 
 pub table-entry-spec : {M : Type 1} → statement M
 table-entry-spec =
     tie.close
     (tie.spec
-    (λ c. search needs)  -- add-a
-    shared-slice-read-a
-    cast-a
-    (λ c. search needs)  -- add-four-at
-    add-four-at-2
-    mul-four-at
-    add-four-at-3
-    four-at-requires
+    (λ c κs. search needs)  -- number-at-requires
     (λ c κs. search needs)  -- weigh-requires
     returns)
