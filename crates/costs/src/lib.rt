@@ -131,8 +131,8 @@ fn lesser(a: u32, b: u32) -> u32
     b
 }
 
-// The least of `count` numbers in a row, from entry `first` on. They are weighed afterwards, so that a vector has many of
-// them; the loop meets the first again: `count` turns suit vectors.
+// The least of `count` numbers in a row, from entry `first` on. It is weighed afterwards, so that a vector has many
+// numbers. The loop meets the first again: `count` turns suit vectors.
 pub fn least_row(s: &[u8], at: usize, first: usize, count: usize, sizes: &[u8]) -> u32
     requires { ⌜ Whole (now sizes) (now s) at × (1 ≤ count) × (first + count ≤ entriesAt (now sizes) (now s) at) ⌝ }
     ensures { λ r. ⌜ r ≡ leastTo (count - 1) (λ a. numberAt (now (sizes .entry)) (now (s .entry)) at (first + a)) ⌝ }
