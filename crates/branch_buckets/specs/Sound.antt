@@ -1,6 +1,5 @@
 -- What the search relies on of a plan. Most of it is tested before the search (crate plan_test), so that nothing
--- depends
--- on how the plan was made.
+-- depends on how the plan was made.
 use mathlib.Core.Path.{_≡_}
 use mathlib.Core.Logic.{_⊎_}
 use mathlib.Core.Bool.{true}

@@ -2,25 +2,18 @@
 -- sizes, its ceilings and its tables.
 use mathlib.Core.Path.{_≡_, refl, sym, ap, _∙_}
 use mathlib.Core.List.{List}
-use Prim.Native.Nat.{ℕ, zero, suc, _-_, _<_}
+use Prim.Native.Nat.{ℕ}
 use native.Mathlib.Omega.{arith}
-use lib.ListN.{length, getD, take, drop, replicate}
+use lib.ListN.{length, take, drop}
 use lib.Seq.{length-take-le, take-at}
 use Rattle.model.specs.Basics.{All}
-use Rattle.model.specs.Limits.{maxObjectives}
-use Rattle.model.specs.Problems.{Word, DomainSize}
-use Rattle.model.specs.Encoding.{Byte}
+use Rattle.model.specs.Problems.{DomainSize}
 use Rattle.model.specs.Reading.{wordsIn, headObjectives, tablesAt, problemOf}
 use Rattle.model.specs.Calls.{padded}
-use Rattle.model.proofs.Elements.{all-each, all-append, all-drop}
-use Rattle.model.proofs.Words.{length-wordsIn, words-below}
+use Rattle.model.proofs.Words.{length-wordsIn}
 use Rattle.problem.specs.declared.Reading as DG
 use Rattle.problem.specs.Says.{startOf}
 use Rattle.problem.proofs.Accepted.{AcceptedReading}
-
-all-zeros : (n : ℕ) → All Word (replicate n 0)
-all-zeros zero = tt
-all-zeros (suc n) = (omega arith, all-zeros n)
 
 module _ (s : List ℕ) (r : DG.Reading) (a : AcceptedReading s r) where
   abbrev sizes : List ℕ
@@ -50,15 +43,6 @@ module _ (s : List ℕ) (r : DG.Reading) (a : AcceptedReading s r) where
   pub tables-are : tablesAt (r .head .tables) sizes s (startOf (r .head)) ≡ problemOf s .tables
   unfolding problemOf
   tables-are = rw (a .domains, a .tables, a .objectives, a .variables) refl
-
-  -- all four ceilings are words
-  pub ceilings-words : ((i : ℕ) → getD s i 0 < 256) → All Word (r .head .ceilings)
-  unfolding problemOf padded
-  ceilings-words bytes =
-      let ws = wordsIn (headObjectives s) (drop 6 s) in
-      let words = words-below (headObjectives s) (drop 6 s) (all-drop Byte 6 s (all-each Byte 0 s bytes)) in
-      rw (a .ceilings)
-      (all-append Word ws (replicate (maxObjectives - length ws) 0) words (all-zeros (maxObjectives - length ws)))
 
   -- the domains are sizes of domains
   pub domains-small : All DomainSize (problemOf s .domains)
