@@ -1,10 +1,13 @@
 -- Boolean tests: what a conjunction, a disjunction, a `pick` and a `keepIf` say.
-use mathlib.Core.Path.{_≡_, refl}
+use mathlib.Core.Path.{_≡_, refl, sym}
 use mathlib.Core.Logic.{_⊎_, inl, inr, ⊎-elim}
 use mathlib.Core.Bool.{Bool, true, false, _&&_, _||_, false≢true}
-use mathlib.Core.List.{List, List·Memᴰ as In, List·Memᴰ·head as here, List·Memᴰ·tail as there}
+use mathlib.Core.List.{List, _++_, List·Memᴰ as In, List·Memᴰ·head as here, List·Memᴰ·tail as there}
 use mathlib.Core.List.{List·Memᴰ·cases-cons as in-cases}
-use Rattle.model.specs.Basics.{pick, keepIf}
+use Prim.Native.Nat.{_+_, _≤_}
+use native.Mathlib.Omega.{arith}
+use lib.ListN.{length}
+use Rattle.model.specs.Basics.{pick, when, keepIf, All}
 
 pub test : (b : Bool) → (b ≡ true) ⊎ (b ≡ false)
 test true = inl refl
@@ -28,6 +31,19 @@ and-right false false h = h
 
 pub and-both : {a b : Bool} → a ≡ true → b ≡ true → (a && b) ≡ true
 and-both p q = rw (p, q)
+
+pub and-false : (a b : Bool) → (a ≡ false) ⊎ (b ≡ false) → (a && b) ≡ false
+and-false true b (inl e) = absurd (false≢true (sym e))
+and-false true b (inr e) = e
+and-false false b e = refl
+
+pub and-again : (a b : Bool) → (a && (a && b)) ≡ (a && b)
+and-again true b = refl
+and-again false b = refl
+
+pub or-false : (a b : Bool) → (a || b) ≡ false → (a ≡ false) × (b ≡ false)
+or-false true b h = absurd (false≢true (sym h))
+or-false false b h = (refl, h)
 
 pub or-cases : (a b : Bool) → (a || b) ≡ true → (a ≡ true) ⊎ (b ≡ true)
 or-cases true b h = inl refl
@@ -57,3 +73,20 @@ module _ {A : Type 0} where
   pub kept-there : (t : Bool) (x : A) {a : A} {xs : List A} → In a xs → In a (keepIf t x xs)
   kept-there true x m = there m
   kept-there false x m = m
+
+  -- of such a list: two in a row, what all have, and how long it is
+  pub keep-append : (t : Bool) (x : A) (xs ys : List A) → keepIf t x (xs ++ ys) ≡ keepIf t x xs ++ ys
+  keep-append true x xs ys = refl
+  keep-append false x xs ys = refl
+
+  pub keep-all : (P : A → Type 0) (t : Bool) (x : A) (xs : List A) → P x → All P xs → All P (keepIf t x xs)
+  keep-all P true x xs p h = (p, h)
+  keep-all P false x xs p h = h
+
+  pub keep-length : (t : Bool) (x : A) (xs : List A) → length (keepIf t x xs) ≡ when t 1 + length xs
+  keep-length true x xs = omega arith
+  keep-length false x xs = omega arith
+
+  pub keep-few : (t : Bool) (x : A) (xs : List A) → length (keepIf t x xs) ≤ 1 + length xs
+  keep-few true x xs = omega arith
+  keep-few false x xs = omega arith

@@ -2,9 +2,9 @@
 use mathlib.Core.Path.{_≡_, refl, sym, subst, _∙_}
 use mathlib.Core.Bool.{Bool, true, false}
 use mathlib.Core.List.{List}
-use Prim.Native.Nat.{ℕ, zero, suc, _*_, _≤_}
+use Prim.Native.Nat.{ℕ, _*_, _≤_}
 use native.Mathlib.Omega.{arith}
-use native.Mathlib.Nat.{zero-mul}
+use native.Mathlib.Nat.{zero-mul, pos-of-ne-zero}
 use lib.ListN.{length, take, drop, length-append, length-drop}
 use lib.Seq.{take-at, drop-at}
 use borrow.Author.Tests.{eqb-true, eqb-false, ne-eqb}
@@ -20,10 +20,6 @@ use Rattle.model.proofs.Flat.{Wide, costs-long, choices-long, frontier-
 
 pub refuses : (v : Verdict) → 1 ≤ v .number → answers v ≡ false
 refuses v h = ne-eqb (v .number) 0 (λ e. omega (arith, e, h))
-
-positive : (n : ℕ) → (n ≡ 0 → ⊥) → 1 ≤ n
-positive zero h = absurd (h refl)
-positive (suc n) h = omega arith
 
 -- k elements are written where the call answers, and they fit
 module _ {A : Type 0} (v : Verdict) (front : List A) (k : ℕ) where
@@ -58,7 +54,7 @@ module _ {A : Type 0} (v : Verdict) (front : List A) (k : ℕ) where
       go true e =
           let k-is = sym (all (eqb-true _ _ e)) in
           take-at front (drop (length front) old) k k-is ∙ sym (take-at front (drop (length front) old′) k k-is)
-      go false e = rw (none (positive (v .number) (eqb-false _ _ e))) refl
+      go false e = rw (none (pos-of-ne-zero (eqb-false _ _ e))) refl
 
 pub cleared : (v : Verdict) (work : List ℕ) → Cleared v work (workAfter v work)
 unfolding workAfter

@@ -150,7 +150,7 @@ module _ (q : Problem) (ss : List ℕ) (sides : sidesOk q ss ≡ true) (free : u
       let (a, b, i, j, e, u) = pairs-in q ss (listOf 0) (listOf 1) p m in
       subst (CoreReached q) (sym e) (pair-reached a b (listed 0 a i) (listed 1 b j) u)
 
-  pub pairs-sized : AllSized (q .objectives) (length (q .domains)) (allPairs q ss (listOf 0) (listOf 1))
+  pairs-sized : AllSized (q .objectives) (length (q .domains)) (allPairs q ss (listOf 0) (listOf 1))
   unfolding pairs
   pairs-sized p m = let h = pairs-reached p m in (reached-width q p h, reached-length q p h)
 

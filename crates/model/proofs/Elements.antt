@@ -1,12 +1,13 @@
 -- A property of every element: at one place, from each that stands in the list, from another property, of two lists in
--- a row, of a front and of what is left behind it. Where members stand.
+-- a row, of a front and of what is left behind it, with an element set. Where members stand.
 use mathlib.Core.Path.{_≡_, refl}
 use mathlib.Core.Logic.{⊎-elim}
 use mathlib.Core.List.{List, [], _∷_, _++_, List·Memᴰ as In, List·Memᴰ·head as here, List·Memᴰ·tail as there}
 use mathlib.Core.List.{List·Memᴰ·not-nil as in-none, List·Memᴰ·cases-cons as in-cases}
-use Prim.Native.Nat.{ℕ, zero, suc, _<_}
+use Prim.Native.Nat.{ℕ, zero, suc, _≤_, _<_}
 use native.Mathlib.Omega.{arith}
-use lib.ListN.{length, getD, take, drop}
+use lib.ListN.{length, getD, take, drop, set}
+use lib.Seq.{length-take-le, getD-take}
 use Rattle.model.specs.Basics.{All}
 
 module _ {A : Type 0} (P : A → Type 0) where
@@ -47,6 +48,27 @@ module _ {A : Type 0} (P : A → Type 0) where
   all-take zero xs h = tt
   all-take (suc n) [] h = tt
   all-take (suc n) (x ∷ xs) h = (h .0, all-take n xs (h .1))
+
+  pub all-set : (xs : List A) (i : ℕ) (x : A) → All P xs → P x → All P (set xs i x)
+  all-set [] i x h p = h
+  all-set (y ∷ xs) zero x h p = (p, h .1)
+  all-set (y ∷ xs) (suc i) x h p = (h .0, all-set xs i x (h .1) p)
+
+  -- of a front, at a place; and of another list's front, place by place
+  pub front-each : (d : A) (p : ℕ) (xs : List A) → p ≤ length xs → All P (take p xs) → (i : ℕ) → i < p → P (getD xs i d)
+  front-each d p xs long h i l =
+      rw (getD-take p xs i d l) at (all-below (take p xs) h i d (omega (arith, length-take-le p xs long)))
+
+  pub front-map : (Q : A → Type 0) (d : A) (p : ℕ) (xs ys : List A) → length xs ≡ length ys
+      → ((j : ℕ) → j < length xs → P (getD xs j d) → Q (getD ys j d)) → All P (take p xs) → All Q (take p ys)
+  front-map Q d zero xs ys e f h = tt
+  front-map Q d (suc p) [] [] e f h = tt
+  front-map Q d (suc p) [] (y ∷ ys) e f h = absurd (omega arith)
+  front-map Q d (suc p) (x ∷ xs) [] e f h = tt
+  front-map Q d (suc p) (x ∷ xs) (y ∷ ys) e f h = (
+    f 0 (omega arith) (h .0),
+    front-map Q d p xs ys (omega arith) (λ j l. f (suc j) (omega arith)) (h .1),
+  )
 
 -- what stands at a place is a member, and a member stands at a place
 module _ {A : Type 0} where

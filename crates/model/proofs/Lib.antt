@@ -1,6 +1,8 @@
 -- The theorems about the definitions, in the order in which they rest on each other.
--- tests, elements, vectors
+-- tests, numbers, lists, vectors
 pub mod Bits
+pub mod Numbers
+pub mod Lists
 pub mod Elements
 pub mod Zeros
 pub mod Vectors

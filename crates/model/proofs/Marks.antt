@@ -1,16 +1,17 @@
 -- A record's start, the mark due and the single fields, and fields with a limit: what number 0 says of them.
-use mathlib.Core.Path.{_≡_, refl, sym}
+use mathlib.Core.Path.{_≡_, refl}
 use mathlib.Core.Logic.{⊎-elim}
-use mathlib.Core.Bool.{Bool, true, false, _&&_, _||_, not, false≢true}
+use mathlib.Core.Bool.{true, false, _&&_, not}
 use mathlib.Core.List.{List, [], _∷_}
-use Prim.Native.Nat.{ℕ, zero, suc, _+_, _≤_}
+use Prim.Native.Nat.{ℕ, _+_, _≤_}
 use native.Mathlib.Omega.{arith}
+use native.Mathlib.Nat.{pos-of-ne-zero}
 use lib.Dec.{eqb, ltb, leb}
 use lib.ListN.{length, getD, drop}
 use borrow.Author.Tests.{ltb-false, lt-ltb, le-ltb, leb-true, leb-false, eqb-true, eqb-false, eq-eqb, ne-eqb, not-false}
 use Rattle.model.specs.Refusals.{cutShort, strayMark}
 use Rattle.model.specs.Reading.{startNumber, outside}
-use Rattle.model.proofs.Bits.{test, and-left, and-right, and-both}
+use Rattle.model.proofs.Bits.{test, and-left, and-right, and-both, or-false}
 use Rattle.model.proofs.Verdicts.{first-none, none-first, when-none, none-when}
 
 -- the list begins with the letters a and b, and has the single fields
@@ -47,18 +48,10 @@ marked-list a b fields (x ∷ []) m = absurd (omega (arith, m .long))
 marked-list a b fields (x ∷ y ∷ s) m = λ i. m .letter i ∷ m .next i ∷ s
 
 -- a number that is not outside 1 to its limit
-or-false : (a b : Bool) → (a || b) ≡ false → (a ≡ false) × (b ≡ false)
-or-false true b h = absurd (false≢true (sym h))
-or-false false b h = (refl, h)
-
-positive : (x : ℕ) → (x ≡ 0 → ⊥) → 1 ≤ x
-positive zero h = absurd (h refl)
-positive (suc x) h = omega arith
-
 pub not-outside : (limit x : ℕ) → outside limit x ≡ false → (1 ≤ x) × (x ≤ limit)
 not-outside limit x h =
     let both = or-false (eqb x 0) (ltb limit x) h in
-    (positive x (eqb-false x 0 (both .0)), ltb-false limit x (both .1))
+    (pos-of-ne-zero (eqb-false x 0 (both .0)), ltb-false limit x (both .1))
 
 pub inside : (limit x : ℕ) → (1 ≤ x) × (x ≤ limit) → outside limit x ≡ false
 inside limit x h = rw (ne-eqb x 0 (λ e. omega arith), le-ltb limit x (h .1))

@@ -26,7 +26,7 @@ use Rattle.model.proofs.Best.{Pool, listed-count, best-unique}
 use Rattle.model.proofs.Sorting.{Sized, AllSized, best-right}
 use Rattle.model.proofs.Frontier.{frontier-best}
 use Rattle.model.proofs.Spread.{spreadPoint, spread-merged, spread-small}
-use Rattle.model.proofs.Cut.{sides-long, sides-all, sides-with, pairs-sized, cut-best}
+use Rattle.model.proofs.Cut.{sides-long, sides-all, sides-with, cut-best}
 use Rattle.model.proofs.Views.{view-list, view-choice}
 use Rattle.model.proofs.Passes.{NotAfter, not-after-refl, not-after-trans, Unmatched, matched-in}
 use Rattle.model.proofs.Passes.{unmatched-false, Prefix, prefix-more, prefix-done}
@@ -80,10 +80,6 @@ module _ (q : Problem) (ss : List ℕ) (sides : sidesOk q ss ≡ true) (free : u
 
   pub sums-best : best (allSums (q .ceilings) (seen 0) (seen 1)) ≡ coreFrontier q
   sums-best = ap best sums-pairs ∙ cut-best q ss sides free hs loose
-
-  pub sums-sized : AllSized (q .objectives) (length (q .domains)) (allSums (q .ceilings) (seen 0) (seen 1))
-  sums-sized =
-      subst (AllSized (q .objectives) (length (q .domains))) (sym sums-pairs) (pairs-sized q ss sides free hs loose)
 
 -- the values of a summed choice are values of domains, so they fit bytes
 pub sums-bytes : (q : Problem) (ss : List ℕ) → All DomainSize (q .domains) → (a b : Point)

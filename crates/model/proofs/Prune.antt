@@ -8,15 +8,15 @@ use Prim.Native.Nat.{ℕ}
 use lib.ListN.{length}
 use borrow.Author.Tests.{not-true}
 use Rattle.model.specs.Problems.{Problem}
-use Rattle.model.specs.Vectors.{under, same, earlier}
+use Rattle.model.specs.Vectors.{under, earlier}
 use Rattle.model.specs.Costs.{costsOf}
 use Rattle.model.specs.Frontiers.{Point, point}
 use Rattle.model.specs.Core.{CoreReached}
 use Rattle.model.specs.Bounds.{boundOf}
 use Rattle.model.specs.Search.{Held, nothing, just, matched, late, dead, passes, solved}
-use Rattle.model.proofs.Bits.{test, true-false, or-cases}
-use Rattle.model.proofs.Vectors.{AtMost, Earlier, NotLater, same-eq, same-true, not-earlier, not-later-trans}
-use Rattle.model.proofs.Vectors.{at-most-trans, at-most-earlier}
+use Rattle.model.proofs.Bits.{true-false, or-cases}
+use Rattle.model.proofs.Vectors.{AtMost, Earlier, NotLater, not-earlier, not-later-trans, at-most-trans}
+use Rattle.model.proofs.Vectors.{at-most-not-later}
 use Rattle.model.proofs.Sums.{under-mono}
 use Rattle.model.proofs.Frontier.{reached-width}
 use Rattle.model.proofs.Core.{core-under}
@@ -30,11 +30,6 @@ use Rattle.model.proofs.Bounded.{bound-length, bound-at-most}
 pub record Lower (q : Problem) (low : List ℕ → List ℕ) : Type 0 where
   pub width : (pre y : List ℕ) → From (q .domains) pre y → length (low pre) ≡ q .objectives
   pub below : (pre y : List ℕ) → From (q .domains) pre y → AtMost (low pre) (costsOf q y)
-
-at-most-not-later : (b c : List ℕ) → length b ≡ length c → AtMost b c → NotLater b c
-at-most-not-later b c e a =
-    ⊎-elim (λ s. inl (same-true b c s)) (λ s. inr (at-most-earlier b c e a (λ d. true-false (same-eq d) s)))
-    (test (same b c))
 
 -- a vector b that the point r does not undercut
 module _ (q : Problem) (ps : List Point) (f : Prefix (CoreReached q) ps) (b : List ℕ) (wide : length b ≡ q .objectives)

@@ -6,7 +6,7 @@ use mathlib.Core.List.{List, [], _∷_, _++_}
 use Prim.Native.Nat.{ℕ, zero, suc, _+_, _<_}
 use native.Mathlib.Omega.{arith}
 use lib.Dec.{ltb}
-use lib.ListN.{length, getD, replicate, length-replicate}
+use lib.ListN.{length, getD, take, replicate, length-replicate}
 use lib.Seq.{getD-at}
 use borrow.Author.Tests.{ltb-true, lt-ltb}
 use Rattle.model.specs.Vectors.{under, added}
@@ -18,6 +18,30 @@ unfolding added
 added-length [] bs e = refl
 added-length (a ∷ xs) [] e = absurd (omega arith)
 added-length (a ∷ xs) (b ∷ bs) e = ap suc (added-length xs bs (omega arith))
+
+-- number by number, of two vectors in a row, and the first p
+pub added-at : (xs bs : List ℕ) → length xs ≡ length bs → (j : ℕ) → getD (added xs bs) j 0 ≡ getD xs j 0 + getD bs j 0
+unfolding added
+added-at [] [] e j = refl
+added-at [] (b ∷ bs) e j = absurd (omega arith)
+added-at (a ∷ xs) [] e j = absurd (omega arith)
+added-at (a ∷ xs) (b ∷ bs) e zero = refl
+added-at (a ∷ xs) (b ∷ bs) e (suc j) = added-at xs bs (omega arith) j
+
+pub added-append : (xs bs cs ds : List ℕ) → length xs ≡ length bs
+    → added (xs ++ cs) (bs ++ ds) ≡ added xs bs ++ added cs ds
+unfolding added
+added-append [] [] cs ds e = refl
+added-append [] (b ∷ bs) cs ds e = absurd (omega arith)
+added-append (a ∷ xs) [] cs ds e = absurd (omega arith)
+added-append (a ∷ xs) (b ∷ bs) cs ds e = ap (_∷_ (a + b)) (added-append xs bs cs ds (omega arith))
+
+pub take-added : (p : ℕ) (xs bs : List ℕ) → take p (added xs bs) ≡ added (take p xs) (take p bs)
+unfolding added
+take-added zero xs bs = refl
+take-added (suc p) [] bs = refl
+take-added (suc p) (a ∷ xs) [] = refl
+take-added (suc p) (a ∷ xs) (b ∷ bs) = ap (_∷_ (a + b)) (take-added p xs bs)
 
 -- a part of a sum is at most the sum
 pub added-left : (xs bs : List ℕ) → AtMost xs (added xs bs)

@@ -13,6 +13,7 @@ use borrow.Author.Tests.{ltb-true, lt-ltb, leb-true, le-leb, eqb-true, eq-eqb, n
 use Rattle.model.specs.Vectors.{atMost, same, beats, earlier}
 use Rattle.model.proofs.Bits.{test, true-false, not-true-false, and-left, and-right, and-both, or-cases, or-left}
 use Rattle.model.proofs.Bits.{or-right}
+use Rattle.model.proofs.Numbers.{trichotomy}
 
 abbrev pub AtMost : List ℕ → List ℕ → Type 0
 AtMost [] ys = Unit {0}
@@ -141,13 +142,6 @@ heads x y xs ys (inl p) o = first (inl p)
 heads x y xs ys (inr (inl p)) o = grown x y xs ys p o
 heads x y xs ys (inr (inr p)) o = second (inl p)
 
-trichotomy : (x y : ℕ) → (x < y) ⊎ ((x ≡ y) ⊎ (y < x))
-trichotomy x y =
-    ⊎-elim (λ t. inl (ltb-true x y t))
-    (λ t. ⊎-elim (λ u. inr (inr (ltb-true y x u))) (λ u. inr (inl (omega (arith, ltb-false x y t, ltb-false y x u))))
-    (test (ltb y x)))
-    (test (ltb x y))
-
 pub ordered : (xs ys : List ℕ) → length xs ≡ length ys → Ordered xs ys
 ordered [] [] e = equal refl
 ordered [] (y ∷ ys) e = absurd (omega arith)
@@ -182,6 +176,11 @@ less-sum (x ∷ xs) (y ∷ ys) e h n =
 -- not later: equal or earlier
 abbrev pub NotLater : List ℕ → List ℕ → Type 0
 NotLater xs ys = (xs ≡ ys) ⊎ Earlier xs ys
+
+pub at-most-not-later : (xs ys : List ℕ) → length xs ≡ length ys → AtMost xs ys → NotLater xs ys
+at-most-not-later xs ys e h =
+    ⊎-elim (λ s. inl (same-true xs ys s)) (λ s. inr (at-most-earlier xs ys e h (λ d. true-false (same-eq d) s)))
+    (test (same xs ys))
 
 pub not-later-trans : (xs ys zs : List ℕ) → NotLater xs ys → NotLater ys zs → NotLater xs zs
 not-later-trans xs ys zs (inl p) (inl q) = inl (cc)

@@ -1,7 +1,7 @@
 -- Lists of zeros: what stands in them, their fronts, and the choice of zeros, the first of all.
 use mathlib.Core.Path.{_≡_, refl, ap}
 use mathlib.Core.Bool.{true}
-use mathlib.Core.List.{List, [], _∷_}
+use mathlib.Core.List.{List, [], _∷_, _++_}
 use Prim.Native.Nat.{ℕ, zero, suc, _≤_}
 use native.Mathlib.Omega.{arith}
 use lib.ListN.{length, getD, take, set, replicate}
@@ -20,10 +20,20 @@ pub zeros-set : (n : ℕ) → set {A = ℕ} (replicate n 0) 0 0 ≡ replicate n 
 zeros-set zero = refl
 zeros-set (suc n) = refl
 
+-- zeros behind a list
+pub behind-zeros : (xs : List ℕ) (n j : ℕ) → getD (xs ++ replicate n 0) j 0 ≡ getD xs j 0
+behind-zeros [] n j = zeros-at n j
+behind-zeros (x ∷ xs) n zero = refl
+behind-zeros (x ∷ xs) n (suc j) = behind-zeros xs n j
+
+-- the front of a list of one number
+pub front-same : (n m a : ℕ) → n ≤ m → take n (replicate m a) ≡ replicate n a
+front-same zero m a l = refl
+front-same (suc n) zero a l = absurd (omega arith)
+front-same (suc n) (suc m) a l = ap (_∷_ a) (front-same n m a (omega arith))
+
 pub front-zeros : (n m : ℕ) → n ≤ m → take {A = ℕ} n (replicate m 0) ≡ replicate n 0
-front-zeros zero m l = refl
-front-zeros (suc n) zero l = absurd (omega arith)
-front-zeros (suc n) (suc m) l = ap (_∷_ 0) (front-zeros n m (omega arith))
+front-zeros n m l = front-same n m 0 l
 
 pub zeros-choice : (ds : List ℕ) → All DomainSize ds → isChoice ds (replicate (length ds) 0) ≡ true
 unfolding isChoice
