@@ -6,13 +6,13 @@ use native.Mathlib.Omega.{arith}
 use lib.ListN.{length, getD, take, set}
 use lib.Seq.{getD-take, length-take-le, take-take}
 use Rattle.model.specs.Costs.{costOf}
+use Rattle.model.proofs.Lists.{four-read}
 use Rattle.model.proofs.Elements.{all-below, all-take}
 use Rattle.problem.specs.Records.{Whole}
 use Rattle.problem.proofs.Sizes.{domain-size}
 use Rattle.groups.specs.Groups.{tablesOver}
 use Rattle.branch_directions.specs.Directions.{directionEnd, directionsOf, widthOf}
 use Rattle.branch_directions.specs.declared.Directions as DD
-use Rattle.branch_directions.proofs.TableRows.{row-read}
 use Rattle.branch_directions.proofs.DirectionLaws.{directions-limit}
 use Rattle.branch_buckets.specs.Messages.{receivedOver}
 use Rattle.branch_buckets.specs.Bounds.{placesOver, recordsOver}
@@ -56,7 +56,7 @@ module _ {d : DD.Directions} {r : ℕ} {ds s plan : List ℕ} (planned : Planned
           let all-small = four-small totals a p (λ o k. sums a o h k .1) in
           let as-many = length-take-le p (four totals a) (planned .sensible .few) in
           let small = directions-limit d costs (planned .sensible) all-small as-many j in
-          rw (rows-are a j h l, ← row-read totals (4 * a) (inside a h)) small
+          rw (rows-are a j h l, ← four-read 0 totals (4 * a) (inside a h)) small
 
       pub directed-is :
           (a j : ℕ) → a < getD ds v 0 → j < 8

@@ -7,12 +7,9 @@ use native.Mathlib.Omega.{arith}
 use native.Mathlib.Nat.{add-zero, zero-add, mul-le-mul-right}
 use borrow.Author.Tests.{ltb-true, ltb-false}
 use lib.Dec.{ltb}
-use lib.ListN.{length, getD, take, drop, set, replicate, length-append, length-map, List·getD-append}
+use lib.ListN.{length, getD, take, drop, set, length-append, List·getD-append}
 use lib.ListN.{List·getD-eq-default}
 use lib.Seq.{getD-append-add, length-take-le, take-take}
-use mir.Val.{Val}
-use denote.Laws.{Is}
-use denote.Struct.Declared.{row}
 use Rattle.model.specs.Basics.{All, when}
 use Rattle.model.specs.Limits.{maxObjectives}
 use Rattle.model.specs.Core.{coreSumEnd}
@@ -20,22 +17,17 @@ use Rattle.model.specs.Problems.{Table}
 use Rattle.model.specs.Costs.{total, totalsFrom}
 use Rattle.model.specs.Archive.{weighted}
 use Rattle.model.proofs.Bits.{test, pick-both}
+use Rattle.model.proofs.Lists.{four-read}
 use Rattle.model.proofs.Elements.{all-at, all-take}
 use Rattle.model.proofs.Totals.{take-totals}
-use Rattle.model.proofs.Zeros.{zeros-at}
+use Rattle.model.proofs.Zeros.{behind-zeros}
 use Rattle.branch_archive.specs.Changes.{maxWeight}
 use Rattle.branch_directions.specs.Directions.{maxSums, weightsOf, sumsFrom, directionsOf}
 use Rattle.branch_directions.specs.declared.Directions as DD
-use Rattle.branch_directions.proofs.Directions.{the-type}
-use Rattle.branch_directions.proofs.SumsOf.{sums-length}
-use Rattle.branch_directions.proofs.TableRows.{row-read}
+use Rattle.branch_directions.proofs.SumsOf.{sums-length, sums-at}
 use Rattle.branch_buckets.specs.Adding.{PartFilled, RowFilled, fourSum}
 use Rattle.branch_buckets.specs.declared.Totals as DT
 use Rattle.branch_buckets.proofs.RowSteps.{Filling, filling-start, filling-next}
-
--- directions that are a parameter have sixteen weights
-pub weights-sixteen : (d : DD.Directions) (vs : List Val) → Is (row the-type) d vs → length (d .weights) ≡ 16
-weights-sixteen d vs good = sym (length-map (d .weights) (λ v. v)) ∙ good .1 .1 .1 .1 .0 .1 .0 .1
 
 -- the four totals of value a
 module _ (totals : List ℕ) (a : ℕ) where
@@ -55,7 +47,7 @@ module _ (totals : List ℕ) (a : ℕ) where
   unfolding totalsFrom
   four-totals f ts p few inside is =
       let none : getD totals (4 * a) 0 ≡ total 0 f ts = rw add-zero at (is 0 (omega arith)) in
-      let all : take 4 (drop (4 * a) totals) ≡ totalsFrom maxObjectives 0 f ts = sym (row-read totals (4 * a) inside)
+      let all : take 4 (drop (4 * a) totals) ≡ totalsFrom maxObjectives 0 f ts = sym (four-read 0 totals (4 * a) inside)
       ∙ rw (none, is 1 (omega arith), is 2 (omega arith), is 3 (omega arith)) refl in
       rw all (take-totals f ts p maxObjectives 0 few)
 
@@ -66,12 +58,6 @@ weight-times ws small i t = mul-le-mul-right t (all-at (λ w. w ≤ maxWeight) w
 -- what is not counted stays below every limit that 0 does
 pub counted-small : (o p cost x : ℕ) → x ≡ when (ltb o p) cost → cost < coreSumEnd → x < coreSumEnd
 counted-small o p cost x e h = rw e (pick-both (λ n. n < coreSumEnd) (ltb o p) h (omega arith))
-
--- zeros behind a list
-behind-zeros : (xs : List ℕ) (n j : ℕ) → getD (xs ++ replicate n 0) j 0 ≡ getD xs j 0
-behind-zeros [] n j = zeros-at n j
-behind-zeros (x ∷ xs) n zero = refl
-behind-zeros (x ∷ xs) n (suc j) = behind-zeros xs n j
 
 -- four costs, of which the first p are counted
 module _ (x y z u : ℕ) where
@@ -108,18 +94,9 @@ module _ (x y z u : ℕ) where
   sum-counted p h ws i l =
       let row : take p (getD ws (4 * i) 0 ∷ getD ws (4 * i + 1) 0 ∷ getD ws (4 * i + 2) 0 ∷ getD ws (4 * i + 3) 0 ∷ [])
       ≡ take p (drop (4 * i) ws) =
-      rw (row-read ws (4 * i) l) (take-take p 4 (drop (4 * i) ws) h) in
+      rw (four-read 0 ws (4 * i) l) (take-take p 4 (drop (4 * i) ws) h) in
       rw (← row)
       (counted-sum p h (getD ws (4 * i) 0) (getD ws (4 * i + 1) 0) (getD ws (4 * i + 2) 0) (getD ws (4 * i + 3) 0))
-
--- sum k of some
-sums-at : (d : DD.Directions) (c i : ℕ) (v : List ℕ) (k : ℕ) → k < c
-    → getD (sumsFrom d c i v) k 0 ≡ weighted (weightsOf d (i + k)) v
-unfolding sumsFrom
-sums-at d zero i v k h = absurd (omega arith)
-sums-at d (suc c) i v zero h = rw add-zero refl
-sums-at d (suc c) i v (suc k) h =
-    let e : i + suc k ≡ suc i + k = omega arith in rw e (sums-at d c (suc i) v k (omega arith))
 
 -- a row with the costs in front and the sums behind them
 module _ (d : DD.Directions) (v : List ℕ) (all : length v ≡ d .objectives) (few : d .objectives ≤ 4)
@@ -210,4 +187,4 @@ value-directed p sums ws totals a rows rows′ t few few-sums table inside room 
     (λ j. ap (λ (l : List ℕ). getD l j 0) costs ∙ counted-at x y z u p few j)
     (λ k l. rw (e, f, g, h) (sum-counted x y z u p few ws k (omega arith)))
     (four-put row rows (8 * a) (omega arith)) put in
-    rw (← row-read totals (4 * a) inside) directed
+    rw (← four-read 0 totals (4 * a) inside) directed

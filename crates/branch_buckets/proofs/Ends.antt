@@ -1,19 +1,12 @@
 -- The ends of every position lie inside their limits.
 use mathlib.Core.List.{List}
-use Prim.Native.Nat.{ℕ, zero, suc, _+_, _≤_, _<_}
+use Prim.Native.Nat.{ℕ, _≤_, _<_}
 use native.Mathlib.Omega.{arith}
-use native.Mathlib.Numerals.{add-one}
+use Rattle.model.proofs.Numbers.{largest-first}
 use Rattle.layout.specs.Places.{maxMessages, recordEnd, childEnd, messageEnd}
 use Rattle.branch_buckets.specs.Bounds.{spanAt}
 use Rattle.branch_buckets.specs.Content.{Ranged}
 use Rattle.branch_buckets.specs.Sound.{Ends}
-
--- what falls as positions rise is largest at the first
-largest-first :
-    (end : ℕ → ℕ) (n : ℕ) → ((k : ℕ) → k < n → end (k + 1) ≤ end k) → (k : ℕ) → k ≤ n → end k ≤ end 0
-largest-first end n h zero l = omega arith
-largest-first end n h (suc k) l =
-    rw (← add-one k) (omega (arith, h k (omega arith), largest-first end n h k (omega arith)))
 
 module _ {n r : ℕ} {plan : List ℕ} (e : Ends n r plan) (k : ℕ) where
   pub record-limit : k ≤ n → recordEnd plan k ≤ r

@@ -10,6 +10,7 @@ use lib.ListN.{length, getD, drop, set}
 use Rattle.model.specs.Basics.{All}
 use Rattle.model.specs.Problems.{DomainSize}
 use Rattle.model.specs.Costs.{isChoice, entryFrom}
+use Rattle.model.proofs.Numbers.{digit-grows}
 use Rattle.model.proofs.Prefixes.{set-choice}
 use Rattle.problem.specs.Records.{Whole}
 use Rattle.problem.proofs.Sizes.{domain-size}
@@ -19,7 +20,6 @@ use Rattle.costs.proofs.ScopeVariables.{scope-end, scope-next, variable-exists,
 use Rattle.costs.proofs.Rooms.{Room, room-index, room-fits, room-next}
 use Rattle.branch_buckets.specs.Adding.{TermSays, EntrySays}
 use Rattle.branch_buckets.specs.declared.Progression as DP
-use Rattle.branch_buckets.proofs.Runs.{shifted}
 
 pub record EntrySteps (ds s : List ℕ) (at v : ℕ) (x : List ℕ) (k first stride : ℕ) : Type 0 where
   pub room : (a : ℕ) → a < getD ds v 0 → Room ds s at k (first + a * stride)
@@ -69,7 +69,7 @@ module _ (ds s : List ℕ) (at v : ℕ) (x : List ℕ) where
           λ a. sym (mul-one (getD (set x v a) z 0)) ∙ says .term a in
           let place : (a : ℕ)
           → (first + a * stride) * d + getD (set x v a) z 0 ≡ (first * d + t .first) + a * (stride * d + t .stride) =
-          λ a. rw (value a) (shifted first stride d (t .first) (t .stride) a) in
+          λ a. rw (value a) (digit-grows first stride d (t .first) (t .stride) a) in
           let below : (a : ℕ) → a < getD ds v 0 → getD (set x v a) z 0 < d =
           λ a h. value-below ds (set x v a) (set-choice ds x v a choice h) z (variable-exists ds s at w k more) in
           record {

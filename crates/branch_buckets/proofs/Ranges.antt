@@ -5,7 +5,7 @@ use Prim.Native.Nat.{ℕ, suc, _+_, _-_, _≤_, _<_}
 use native.Mathlib.Omega.{arith}
 use native.Mathlib.Numerals.{add-one}
 use lib.ListN.{length, getD}
-use Rattle.problem.proofs.Behind.{take-cons}
+use Rattle.model.proofs.Lists.{take-cons, part-next}
 use Rattle.layout.specs.Places.{maxMessages, childrenAt, looseAt}
 use Rattle.branch_buckets.specs.Messages.{sumOver, countFrom, messageAt, sentOver, childrenOver}
 use Rattle.branch_buckets.specs.Bounds.{placesOver}
@@ -13,9 +13,7 @@ use Rattle.branch_buckets.specs.Bounds.{placesOver}
 module _ (plan : List ℕ) (i to : ℕ) where
   pub places-next :
       i < to → to ≤ length plan → placesOver plan i to ≡ getD plan i 0 ∷ placesOver plan (i + 1) to
-  places-next h long =
-      let k : to - i - 1 ≡ to - (i + 1) = omega arith in
-      rw (← k) (take-cons (to - i) i plan (omega arith) (omega arith))
+  places-next h long = part-next 0 plan i to h long
 
   pub places-none : to ≤ i → placesOver plan i to ≡ []
   places-none h = let none : to - i ≡ 0 = omega arith in rw none refl
@@ -26,7 +24,7 @@ module _ (plan : List ℕ) (i to : ℕ) where
   children-next h few long =
       let k : to - i - 1 ≡ to - (i + 1) = omega arith in
       let m : childrenAt + i + 1 ≡ childrenAt + (i + 1) = omega arith in
-      rw (← k, ← m) (take-cons (to - i) (childrenAt + i) plan (omega arith) (omega arith))
+      rw (← k, ← m) (take-cons 0 (to - i) (childrenAt + i) plan (omega arith) (omega arith))
 
   pub children-none : to ≤ i → childrenOver plan i to ≡ []
   children-none h = let none : to - i ≡ 0 = omega arith in rw none refl

@@ -1,6 +1,6 @@
 -- Lists with the same numbers in another order: an exchange makes one, and sums over records' places do not see the
 -- order.
-use mathlib.Core.Path.{_≡_, refl, sym, _∙_}
+use mathlib.Core.Path.{_≡_, sym}
 use mathlib.Core.Logic.{⊎-elim}
 use mathlib.Core.Bool.{true, false}
 use mathlib.Core.List.{List, [], _∷_}
@@ -14,9 +14,8 @@ use Rattle.model.specs.Basics.{All}
 use Rattle.model.specs.Problems.{Table}
 use Rattle.model.specs.Costs.{total, totalsFrom}
 use Rattle.model.proofs.Bits.{test}
-use Rattle.model.proofs.Elements.{all-below}
+use Rattle.model.proofs.Elements.{all-below, all-set}
 use Rattle.groups.specs.Groups.{tablesOver}
-use Rattle.costs.proofs.SumSteps.{all-set}
 use Rattle.branch_buckets.specs.Messages.{sumOver}
 use Rattle.branch_buckets.specs.Sound.{Rearranged}
 use Rattle.branch_buckets.proofs.Sums.{shareOf, total-over, totals-same}
@@ -81,12 +80,6 @@ exchange-front l n i j g h =
       getD-take n l i 0 g,
       getD-take n l j 0 h,
     )
-
-pub rearranged-refl : (xs : List ℕ) → Rearranged xs xs
-rearranged-refl xs f = refl
-
-pub rearranged-trans : (xs ys zs : List ℕ) → Rearranged xs ys → Rearranged ys zs → Rearranged xs zs
-rearranged-trans xs ys zs g h f = h f ∙ g f
 
 -- sums over records do not see their order
 module _ (ds s xs ys : List ℕ) (h : Rearranged xs ys) where

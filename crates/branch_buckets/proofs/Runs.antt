@@ -3,17 +3,14 @@ use mathlib.Core.Path.{_≡_, refl, sym, _∙_}
 use mathlib.Core.List.{List}
 use Prim.Native.Nat.{ℕ, _+_, _*_, _≤_, _<_}
 use native.Mathlib.Omega.{arith}
-use native.Mathlib.Nat.{add-zero, mul-add, add-mul, mul-assoc, mul-comm, mul-le-mul-right}
+use native.Mathlib.Nat.{add-zero, mul-le-mul-right}
 use lib.ListN.{length, getD, set}
 use lib.Seq.{getD-set-same, getD-set-other}
 use Rattle.model.specs.Limits.{wordEnd}
+use Rattle.model.proofs.Numbers.{multiple-grows}
 use Rattle.layout.specs.Places.{messagesAt, messageWidth, fieldIn}
 use Rattle.branch_buckets.specs.Adding.{messageStart, TermSays, MessageSays}
 use Rattle.branch_buckets.specs.declared.Progression as DP
-
--- a byte times a number
-pub byte-times : (y t : ℕ) → y < 256 → y * t ≤ 255 * t
-byte-times y t h = mul-le-mul-right t (omega arith)
 
 -- the variable itself, and another one
 pub own-term : (u t v : ℕ) (x : List ℕ) → u ≡ v → v < length x → TermSays u t v x (record { first = 0; stride = t })
@@ -32,19 +29,6 @@ other-term u t v x y h is small =
       low = mul-le-mul-right t small;
       flat = omega arith;
     }
-
--- a multiple of a sum, after a start
-pub scaled : (s w a f g p q : ℕ) → s + w * ((f + a * p) + (g + a * q)) ≡ (s + w * (f + g)) + a * (w * (p + q))
-scaled s w a f g p q =
-    let e : w * ((f + g) + a * (p + q)) ≡ w * (f + g) + w * (a * (p + q)) = mul-add w (f + g) (a * (p + q)) in
-    let h : w * (a * (p + q)) ≡ a * (w * (p + q)) = sym (mul-assoc w a (p + q))
-    ∙ rw (mul-comm w a) (mul-assoc a w (p + q)) in
-    let k : (f + a * p) + (g + a * q) ≡ (f + g) + a * (p + q) = omega (arith, mul-add a p q) in
-    rw k (omega arith)
-
--- the next digit of an index in mixed base
-pub shifted : (f t d p q a : ℕ) → (f + a * t) * d + (p + a * q) ≡ (f * d + p) + a * (t * d + q)
-shifted f t d p q a = omega (arith, add-mul f (a * t) d, mul-assoc a t d, mul-add a (t * d) q)
 
 -- the start of a message is far below what 64 bits hold
 module _ (w n t t′ : ℕ) (small : n < wordEnd) (narrow : t < wordEnd) (narrow′ : t′ < wordEnd) (few : w ≤ 8) where
@@ -73,7 +57,7 @@ module _ (w : ℕ) (plan : List ℕ) (g n u t u′ t′ : ℕ) (start : n ≡ ge
       record {
         start =
             λ k. sym (message-start-is (set x v k) (getD (set x v k) u 0) (getD (set x v k) u′ 0) refl refl)
-            ∙ rw (p .term k, q .term k) (scaled n w k (a .first) (b .first) (a .stride) (b .stride));
+            ∙ rw (p .term k, q .term k) (multiple-grows n w k (a .first) (b .first) (a .stride) (b .stride));
         low = start-small w n t t′ small narrow narrow′ few (a .first) (b .first) (p .low) (q .low);
         flat = stride-small w n t t′ small narrow narrow′ few (a .stride) (b .stride) (p .flat) (q .flat);
       }

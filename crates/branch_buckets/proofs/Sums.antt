@@ -6,12 +6,13 @@ use Prim.Native.Nat.{ℕ, zero, suc, _+_, _-_, _≤_}
 use native.Mathlib.Nat.{zero-add, add-zero, suc-add}
 use native.Mathlib.Omega.{arith}
 use lib.Dec.{eqb}
-use lib.ListN.{take, drop}
-use lib.Seq.{take-add, take-take, drop-drop}
+use lib.ListN.{length, take, drop}
+use lib.Seq.{take-take}
 use Rattle.model.specs.Basics.{when, All}
 use Rattle.model.specs.Problems.{Table}
 use Rattle.model.specs.Costs.{total, totalsFrom}
 use Rattle.model.specs.Vectors.{added}
+use Rattle.model.proofs.Lists.{part-split}
 use Rattle.model.proofs.Elements.{all-take}
 use Rattle.costs.specs.Entries.{tableAt}
 use Rattle.groups.specs.Groups.{tablesOver}
@@ -41,13 +42,14 @@ countFrom-split i (suc a) b =
     let next : suc i + a ≡ i + suc a = omega arith in
     rw (suc-add a b, ← next) (ap (_∷_ i) (countFrom-split (suc i) a b))
 
--- what stands from a to c behind `at`, cut at b
-part-split : (l : List ℕ) (at a b c : ℕ) → a ≤ b → b ≤ c
-    → take (c - a) (drop (at + a) l) ≡ take (b - a) (drop (at + a) l) ++ take (c - b) (drop (at + b) l)
-part-split l at a b c g h =
-    let both : c - a ≡ b - a + (c - b) = omega arith in
-    let seam : at + a + (b - a) ≡ at + b = omega arith in
-    rw (both, take-add (b - a) (c - b) (drop (at + a) l), drop-drop (b - a) (at + a) l, seam)
+pub countFrom-more : (i c : ℕ) → countFrom i (c + 1) ≡ countFrom i c ++ (i + c) ∷ []
+unfolding countFrom
+countFrom-more i c = countFrom-split i c 1
+
+pub countFrom-length : (i c : ℕ) → length (countFrom i c) ≡ c
+unfolding countFrom
+countFrom-length i zero = refl
+countFrom-length i (suc c) = ap suc (countFrom-length (suc i) c)
 
 pub placesOver-split : (plan : List ℕ) (a b c : ℕ) → a ≤ b → b ≤ c
     → placesOver plan a c ≡ placesOver plan a b ++ placesOver plan b c

@@ -13,11 +13,11 @@ use Rattle.model.specs.Vectors.{added}
 use Rattle.model.specs.Archive.{weighted}
 use Rattle.model.proofs.Vectors.{AtMost}
 use Rattle.model.proofs.Elements.{all-at, all-map, all-append}
+use Rattle.model.proofs.Sums.{added-at, added-append}
 use Rattle.branch_directions.specs.declared.Directions as DD
 use Rattle.branch_directions.specs.Directions.{directionEnd, weightsOf, sumsFrom, directionsOf, widthOf}
 use Rattle.branch_directions.specs.Directions.{leadWeights, leadAt, Sensible}
 use Rattle.branch_directions.proofs.AtMostAt.{at-most-append}
-use Rattle.branch_directions.proofs.AddedAt.{added-at, added-append}
 use Rattle.branch_directions.proofs.SumsOf.{sums-length, sums-at, sums-mono, sums-added, sums-limit}
 
 -- for any number of costs

@@ -1,6 +1,5 @@
 -- Laws of directions for the crates above, and what the functions' proofs share.
 pub mod AtMostAt
-pub mod AddedAt
 pub mod SumsOf
 pub mod DirectionLaws
 pub mod TableRows

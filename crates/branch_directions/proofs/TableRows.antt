@@ -1,33 +1,17 @@
--- Tables with four numbers in a row: a row that is read, and a table with a row written anew.
+-- Tables with four numbers in a row: what a row has, and a table with a row written anew.
 use mathlib.Core.Path.{_≡_}
 use mathlib.Core.Logic.{⊎-elim}
 use mathlib.Core.Bool.{true, false}
 use mathlib.Core.List.{List, [], _∷_, _++_, append-assoc}
-use Prim.Native.Nat.{ℕ, zero, suc, _+_, _*_, _≤_, _<_}
+use Prim.Native.Nat.{ℕ, suc, _+_, _*_, _≤_, _<_}
 use native.Mathlib.Omega.{arith}
 use lib.Dec.{ltb}
 use lib.ListN.{length, getD, take, drop, set}
-use lib.Seq.{drop-cons, take-append-le, take-take, length-take-le, sets-eq}
+use lib.Seq.{take-append-le, take-take, length-take-le, sets-eq}
 use borrow.Author.Tests.{ltb-true, ltb-false}
 use Rattle.model.specs.Basics.{All}
 use Rattle.model.proofs.Bits.{test}
 use Rattle.model.proofs.Elements.{all-take, all-drop, all-append}
-
-pub row-read : (xs : List ℕ) (at : ℕ) → at + 4 ≤ length xs
-    → getD xs at 0 ∷ getD xs (at + 1) 0 ∷ getD xs (at + 2) 0 ∷ getD xs (at + 3) 0 ∷ [] ≡ take 4 (drop at xs)
-row-read xs at h =
-    let one : at + 1 ≡ suc at = omega arith in
-    let two : at + 2 ≡ suc (suc at) = omega arith in
-    let three : at + 3 ≡ suc (suc (suc at)) = omega arith in
-    rw (
-      one,
-      two,
-      three,
-      drop-cons xs at 0 (omega arith),
-      drop-cons xs (suc at) 0 (omega arith),
-      drop-cons xs (suc (suc at)) 0 (omega arith),
-      drop-cons xs (suc (suc (suc at))) 0 (omega arith),
-    )
 
 -- a row has what the table has; the first row, what the table has in front
 module _ (P : ℕ → Type 0) (table row : List ℕ) (i : ℕ) (is : row ≡ take 4 (drop (4 * i) table)) where
@@ -81,24 +65,3 @@ module _ (P : ℕ → Type 0) (table row : List ℕ) (i : ℕ) where
             take-append-le p (take (4 * i) table) (row ++ drop (4 * i + 4) table) (omega arith),
             take-take p (4 * i) table (omega arith),
           ) (h some)
-
--- ys is 0 only where xs is: with no 0 in front of xs there is none in front of ys
-pub ones-kept : (p : ℕ) (xs ys : List ℕ) → length xs ≡ length ys
-    → ((j : ℕ) → j < length xs → 1 ≤ getD xs j 0 → 1 ≤ getD ys j 0) → All (λ x. 1 ≤ x) (take p xs)
-    → All (λ y. 1 ≤ y) (take p ys)
-ones-kept zero xs ys e f h = tt
-ones-kept (suc p) [] [] e f h = tt
-ones-kept (suc p) [] (y ∷ ys) e f h = absurd (omega arith)
-ones-kept (suc p) (x ∷ xs) [] e f h = tt
-ones-kept (suc p) (x ∷ xs) (y ∷ ys) e f h = (
-  f 0 (omega arith) (h .0),
-  ones-kept p xs ys (omega arith) (λ j l. f (suc j) (omega arith)) (h .1),
-)
-
--- what holds at four places
-pub four-each : (P : ℕ → Type 0) → P 0 → P 1 → P 2 → P 3 → (j : ℕ) → j < 4 → P j
-four-each P a b c d zero l = a
-four-each P a b c d (suc zero) l = b
-four-each P a b c d (suc (suc zero)) l = c
-four-each P a b c d (suc (suc (suc zero))) l = d
-four-each P a b c d (suc (suc (suc (suc j)))) l = absurd (omega arith)

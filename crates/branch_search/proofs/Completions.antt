@@ -1,6 +1,6 @@
 -- The completions of a partial choice: none is earlier than it, and none costs less than its bound in any direction.
 use mathlib.Core.Path.{_≡_, refl, sym, _∙_}
-use mathlib.Core.Logic.{inl, inr, ⊎-elim}
+use mathlib.Core.Logic.{⊎-elim}
 use mathlib.Core.Bool.{true, false}
 use mathlib.Core.List.{List}
 use Prim.Native.Nat.{ℕ, _≤_, _<_}
@@ -10,9 +10,9 @@ use lib.ListN.{length, getD, take}
 use lib.Seq.{length-take-le, getD-take}
 use borrow.Author.Tests.{ltb-true, ltb-false}
 use Rattle.model.specs.Costs.{isChoice, costOf, totals, costsOf}
-use Rattle.model.specs.Vectors.{same, earlier}
-use Rattle.model.proofs.Bits.{test, true-false}
-use Rattle.model.proofs.Vectors.{AtMost, NotLater, same-true, same-eq, at-most-earlier, not-earlier, not-later-trans}
+use Rattle.model.specs.Vectors.{earlier}
+use Rattle.model.proofs.Bits.{test}
+use Rattle.model.proofs.Vectors.{AtMost, NotLater, not-earlier, not-later-trans, at-most-not-later}
 use Rattle.model.proofs.Choices.{choice-length}
 use Rattle.model.proofs.Totals.{totals-from-length}
 use Rattle.groups.specs.Groups.{tablesOver}
@@ -40,13 +40,6 @@ pub costs-over-wide : (d : DD.Directions) (ds s places y : List ℕ)
 costs-over-wide d ds s places y =
     directions-length d (costsOver d ds s places y)
     (totals-from-length (d .objectives) 0 (costOf ds y) (tablesOver ds s places))
-
-at-most-not-later : (x y : List ℕ) → length x ≡ length y → AtMost x y → NotLater x y
-at-most-not-later x y e h =
-    ⊎-elim
-    (λ (t : same x y ≡ true). inl (same-true x y t))
-    (λ (t : same x y ≡ false). inr (at-most-earlier x y e h (λ u. true-false (same-eq u) t)))
-    (test (same x y))
 
 module _ {d : DD.Directions} {r : ℕ} {ds s source plan : List ℕ} (w : Sound d r ds s source plan) {k : ℕ}
     {x acc : List ℕ} (h : Partial d r ds s plan k x acc) (y : List ℕ) (c : isChoice ds y ≡ true)

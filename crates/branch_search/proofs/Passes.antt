@@ -6,12 +6,9 @@ use mathlib.Core.List.{List}
 use Prim.Native.Nat.{ℕ, _*_, _≤_, _<_}
 use native.Mathlib.Omega.{arith}
 use native.Mathlib.Nat.{mul-le-mul-right}
-use lib.ListN.{length, getD, take, drop, replicate, length-map}
+use lib.ListN.{length, getD, take, drop, replicate}
 use lib.Seq.{length-take-le}
 use borrow.Author.Tests.{lt-ltb, le-ltb}
-use mir.Val.{Val}
-use denote.Laws.{Is}
-use denote.Struct.Declared.{row}
 use Rattle.model.specs.Basics.{All}
 use Rattle.model.specs.Limits.{maxVariables, byteEnd, wordEnd}
 use Rattle.model.specs.Problems.{Problem, Word}
@@ -35,7 +32,6 @@ use Rattle.rows.proofs.RowParts.{rows-length}
 use Rattle.branch_archive.specs.Changes.{maxWeight}
 use Rattle.branch_directions.specs.Directions.{widthOf, leadWeights, Sensible}
 use Rattle.branch_directions.specs.declared.Directions as DD
-use Rattle.branch_directions.proofs.Directions.{the-type}
 use Rattle.branch_buckets.specs.Bounds.{baseAt, boundAt}
 use Rattle.branch_buckets.proofs.Bounds.{bound-limit}
 use Rattle.branch_pruning.specs.declared.Progress as DP
@@ -47,7 +43,7 @@ use Rattle.branch_search.specs.States.{Standing, OpenedFrom, Between, Pa
 use Rattle.branch_search.specs.Passes.{ZonesWritten, ZonesHold}
 use Rattle.branch_search.proofs.Memory.{still-trans, problem-still, ready-still, framed-still, zones-still}
 use Rattle.branch_search.proofs.Memory.{zones-rows}
-use Rattle.model.proofs.Zeros.{zeros-at, zeros-choice, front-zeros}
+use Rattle.model.proofs.Zeros.{zeros-at, zeros-choice, front-same}
 
 -- the empty choice with its bound
 abbrev pub rootNode : List ℕ → DN.Node
@@ -128,7 +124,7 @@ module _ {d : DD.Directions} {task : DT.Task} {ds s work : List ℕ} (h : Ready 
         Standing d task ds s work′ (record { points = points; zones = m; limit = noLimit }) (rootNode b)
     root-standing bytes b is =
         let zeros : take {A = ℕ} (length ds) (replicate maxVariables 0) ≡ replicate (length ds) 0 =
-        front-zeros (length ds) maxVariables (h .planned .variables) in
+        front-same (length ds) maxVariables 0 (h .planned .variables) in
         record {
           ready = ready-still zones-kept d ds s h;
           running =
@@ -268,10 +264,6 @@ explored-still {task} {work} {work′} k ds s work″ e h =
     let g =
     subst (λ (u : Problem). ExploredSays task (length ds) (coreFrontier u) work′ work″ e) same h in
     record { full = g .full; count = g .count; list = g .list; still = still-trans k (g .still) }
-
--- the weights are sixteen in any value
-pub weights-long : (d : DD.Directions) (vs : List Val) → Is (row the-type) d vs → length (d .weights) ≡ 16
-weights-long d vs h = sym (length-map (d .weights) (λ v. v)) ∙ h .1 .1 .1 .1 .0 .1 .0 .1
 
 -- no pass ended it
 pub undecided :

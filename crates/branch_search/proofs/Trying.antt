@@ -14,9 +14,9 @@ use Rattle.model.specs.Problems.{Problem}
 use Rattle.model.specs.Frontiers.{Point}
 use Rattle.groups.specs.declared.Task as DT
 use Rattle.model.specs.Archive.{Archived, Follows}
+use Rattle.model.proofs.Numbers.{equal-or}
 use Rattle.model.proofs.Frontier.{reached-width}
 use Rattle.model.proofs.Archive.{archived-wide, covered-follows, follows-refl, follows-trans}
-use Rattle.rows.proofs.RowPlaces.{equal-or}
 use Rattle.branch_directions.specs.Directions.{leadWeights, leadAt}
 use Rattle.branch_directions.specs.declared.Directions as DD
 use Rattle.layout.specs.Places.{orderIn}

@@ -10,8 +10,8 @@ use lib.Seq.{getD-set-same, getD-set-other, set-set}
 use Rattle.model.specs.Limits.{maxObjectives}
 use Rattle.model.specs.Vectors.{atMost}
 use Rattle.model.specs.Archive.{below}
+use Rattle.model.proofs.Numbers.{equal-or}
 use Rattle.model.proofs.Vectors.{AtMost, at-most-true, at-most-test, at-most-refl, at-most-trans}
-use Rattle.rows.proofs.RowPlaces.{equal-or}
 use Rattle.branch_directions.proofs.AtMostAt.{at-most-each, at-most-at}
 use Rattle.branch_directions.specs.Directions.{Sensible}
 use Rattle.branch_directions.specs.declared.Directions as DD

@@ -8,8 +8,7 @@ use lib.Seq.{getD-take, take-set-lt}
 use Rattle.model.specs.Basics.{All}
 use Rattle.model.specs.Problems.{Word}
 use Rattle.model.specs.Archive.{below}
-use Rattle.model.proofs.Elements.{all-at}
-use Rattle.costs.proofs.SumSteps.{all-set}
+use Rattle.model.proofs.Elements.{all-at, all-set}
 
 pub part-front : (p : ℕ) (t z : List ℕ) (j : ℕ) → j < p → take p (below t z j) ≡ below (take p t) (take p z) j
 part-front p t z j l =

@@ -10,8 +10,8 @@ use borrow.Author.Count.{below-more}
 use lib.ListN.{length, getD}
 use Rattle.model.specs.Vectors.{atMost}
 use Rattle.model.specs.Archive.{below}
+use Rattle.model.proofs.Numbers.{equal-or}
 use Rattle.model.proofs.Vectors.{at-most-test, at-most-refl}
-use Rattle.rows.proofs.RowPlaces.{equal-or}
 use Rattle.branch_directions.specs.Directions.{Sensible}
 use Rattle.branch_directions.specs.declared.Directions as DD
 use Rattle.branch_zones.specs.Zones.{maxZones, cornerIn, Measured}

@@ -9,10 +9,10 @@ use lib.Seq.{ext-getD, getD-take}
 use Rattle.model.specs.Basics.{All}
 use Rattle.model.specs.Problems.{Word}
 use Rattle.model.specs.Calls.{padded}
+use Rattle.model.proofs.Numbers.{equal-or, one-first}
 use Rattle.model.proofs.Elements.{all-below}
 use Rattle.problem.proofs.Filled.{length-padded}
 use Rattle.groups.proofs.Overwritten.{over, over-length, over-behind, over-part, over-here}
-use Rattle.rows.proofs.RowPlaces.{equal-or, one-first}
 use Rattle.branch_directions.specs.Directions.{maxDirections, directionsOf, widthOf, Sensible}
 use Rattle.branch_directions.specs.declared.Directions as DD
 use Rattle.branch_directions.proofs.DirectionLaws.{directions-length, directions-costs}

@@ -16,7 +16,7 @@ use Rattle.model.specs.Bounds.{leastOf}
 use Rattle.model.proofs.Elements.{all-at, all-each, all-drop}
 use Rattle.model.proofs.Words.{words-below}
 use Rattle.model.proofs.LeastEntry.{least-limit}
-use Rattle.model.proofs.Core.{plain-entry, core-cost, core-least, weighed-limit}
+use Rattle.model.proofs.Core.{plain-entry, core-least, weighed-limit}
 use Rattle.costs.specs.Entries.{tableAt, entryAt}
 
 module _ (ds s : List ℕ) (at : ℕ) (bytes : (i : ℕ) → getD s i 0 < byteEnd) where
@@ -41,13 +41,7 @@ module _ (ds s : List ℕ) (at : ℕ) (bytes : (i : ℕ) → getD s i 0 < byteEn
   pub least-small : (pre : List ℕ) → leastOf ds pre (tableAt ds s at) < entryEnd
   least-small pre = least-limit entryEnd ds pre (tableAt ds s at) entry-small
 
-  -- and taken back it is the one of the table that was read
-  pub plain-cost : (y : List ℕ) → plain (costOf ds y (tableAt ds s at)) ≡ costOf ds y (tableOf ds (drop at s))
-  unfolding costOf
-  plain-cost y =
-      ap plain (core-cost ds y (tableOf ds (drop at s)))
-      ∙ plain-entry _ (word (entryFrom 0 ds (tableOf ds (drop at s) .scope) y))
-
+  -- and a least entry taken back is the one of the table that was read
   pub plain-least : (pre : List ℕ) → plain (leastOf ds pre (tableAt ds s at)) ≡ leastOf ds pre (tableOf ds (drop at s))
   plain-least pre =
       ap plain (core-least ds pre (tableOf ds (drop at s)))

@@ -1,6 +1,7 @@
 -- The test of a prefix, one value at a time.
 use mathlib.Core.Path.{_≡_, refl}
-use mathlib.Core.Bool.{Bool, true, false, _&&_}
+use mathlib.Core.Logic.{inr}
+use mathlib.Core.Bool.{false, _&&_}
 use mathlib.Core.List.{List, [], _∷_}
 use Prim.Native.Nat.{ℕ, _+_, _<_}
 use native.Mathlib.Omega.{arith}
@@ -9,16 +10,13 @@ use lib.Dec.{ltb}
 use lib.ListN.{length, getD, drop}
 use lib.Seq.{drop-cons}
 use Rattle.model.specs.Bounds.{prefixOk}
-
-either-false : (a : Bool) {b : Bool} → b ≡ false → (a && b) ≡ false
-either-false true h = h
-either-false false h = refl
+use Rattle.model.proofs.Bits.{and-false}
 
 pub prefix-long : (ds pre : List ℕ) → length ds < length pre → prefixOk ds pre ≡ false
 unfolding prefixOk
 prefix-long ds [] h = absurd (omega arith)
 prefix-long [] (x ∷ pre) h = refl
-prefix-long (d ∷ ds) (x ∷ pre) h = either-false (ltb x d) (prefix-long ds pre (omega arith))
+prefix-long (d ∷ ds) (x ∷ pre) h = and-false (ltb x d) (prefixOk ds pre) (inr (prefix-long ds pre (omega arith)))
 
 pub prefix-next : (ds pre : List ℕ) (i : ℕ) → i < length ds → i < length pre
     → prefixOk (drop i ds) (drop i pre)

@@ -1,26 +1,19 @@
 -- Room for an index: after the first k variables of a scope, index i has as many entries as the other variables have
 -- values, all in the table.
-use mathlib.Core.Path.{_≡_}
 use mathlib.Core.List.{List}
-use Prim.Native.Nat.{ℕ, suc, _+_, _*_, _≤_, _<_}
+use Prim.Native.Nat.{ℕ, _+_, _*_, _≤_, _<_}
 use native.Mathlib.Omega.{arith}
-use native.Mathlib.Nat.{le-trans, suc-mul, mul-assoc, mul-le-mul-right, le-mul-of-pos-right}
+use native.Mathlib.Nat.{le-trans, le-mul-of-pos-right}
 use lib.ListN.{length, getD, drop}
 use Rattle.model.specs.Basics.{All}
 use Rattle.model.specs.Problems.{DomainSize, sizeOf}
+use Rattle.model.proofs.Numbers.{digit-room}
 use Rattle.model.proofs.Elements.{all-drop}
 use Rattle.problem.specs.Records.{Whole}
 use Rattle.problem.proofs.Sizes.{size-positive}
 use Rattle.problem.proofs.WholeRecord.{whole-long}
 use Rattle.costs.specs.Entries.{scopeAt, entriesAt}
 use Rattle.costs.proofs.ScopeVariables.{scope-next}
-
--- the entries of one value x of d lie among those of all
-inner : (i d x z : ℕ) → x < d → (i * d + x + 1) * z ≤ (i + 1) * (d * z)
-inner i d x z h =
-    let e : suc i * d ≡ i * d + d = suc-mul i d in
-    let f : i + 1 ≡ suc i = omega arith in
-    rw (f, ← mul-assoc) (mul-le-mul-right z (omega arith))
 
 abbrev pub Room : List ℕ → List ℕ → ℕ → ℕ → ℕ → Type 0
 Room ds s at k i = (i + 1) * sizeOf ds (drop k (scopeAt s at)) ≤ entriesAt ds s at
@@ -45,4 +38,4 @@ pub room-next : (ds s : List ℕ) (at : ℕ) → Whole ds s at → (k i : ℕ) �
     → (x : ℕ) → x < getD ds (getD s (at + 4 + k) 0) 0 → Room ds s at (k + 1) (i * getD ds (getD s (at + 4 + k) 0) 0 + x)
 unfolding sizeOf
 room-next ds s at w k i room h x l =
-    le-trans (inner i _ x (sizeOf ds (drop (k + 1) (scopeAt s at))) l) (rw (scope-next ds s at w k h) at room)
+    le-trans (digit-room i _ x (sizeOf ds (drop (k + 1) (scopeAt s at))) l) (rw (scope-next ds s at w k h) at room)

@@ -13,16 +13,11 @@ use Rattle.model.specs.Problems.{Table}
 use Rattle.model.specs.Reading.{tableObjective, tableLength, tableOf, tablesAt}
 use Rattle.model.specs.Vectors.{added}
 use Rattle.model.specs.Costs.{total, totalsFrom}
-use Rattle.model.proofs.Elements.{all-at, all-map}
+use Rattle.model.proofs.Elements.{all-at, all-map, all-set}
 use Rattle.problem.specs.Records.{Whole, AllWhole}
 use Rattle.costs.proofs.RecordSteps.{whole-next, tables-next}
 
 -- ## vectors of sums
-
-pub all-set : (P : ℕ → Type 0) (xs : List ℕ) (i x : ℕ) → All P xs → P x → All P (set xs i x)
-all-set P [] i x h p = h
-all-set P (y ∷ xs) zero x h p = (p, h .1)
-all-set P (y ∷ xs) (suc i) x h p = (h .0, all-set P xs i x (h .1) p)
 
 module _ (f : Table → ℕ) where
   pub added-zeros : (p o : ℕ) (ts : List Table) → added (replicate p 0) (totalsFrom p o f ts) ≡ totalsFrom p o f ts

@@ -1,4 +1,4 @@
-// Costs of choices and bounds of prefixes, over the accepted records of a problem.
+// Entries of tables and bounds of prefixes, over the accepted records of a problem.
 ghost use mathlib.Core.Path.{_≡_};
 ghost use mathlib.Core.Bool.{true};
 ghost use Prim.Native.Nat.{ℕ, _+_, _-_, _*_, _<_, _≤_};
@@ -7,7 +7,7 @@ ghost use Rattle.model.specs.Basics.{All};
 ghost use Rattle.model.specs.Limits.{maxTables, maxObjectives};
 ghost use Rattle.model.specs.Problems.{DomainSize, sizeOf};
 ghost use Rattle.model.specs.Reading.{tableArity, tableOf, tablesAt};
-ghost use Rattle.model.specs.Costs.{isChoice, entryFrom, costOf, totalsFrom};
+ghost use Rattle.model.specs.Costs.{totalsFrom};
 ghost use Rattle.model.specs.Core.{entryEnd, entry, plain};
 ghost use Rattle.model.specs.Bounds.{prefixOk, leastTo, leastFrom, leastOf};
 ghost use Rattle.problem.specs.Records.{Whole, AllWhole};
@@ -52,57 +52,6 @@ pub fn entries_of(s: &[u8], at: usize, sizes: &[u8]) -> usize
 {
     let a = s[at + 3] as usize;
     problem::size_of(s, at + 4, a, sizes)
-}
-
-// Which entry of the record at `at` a complete choice has.
-pub fn entry_index(s: &[u8], at: usize, sizes: &[u8], choice: &[u8]) -> usize
-    requires { ⌜ Whole (now sizes) (now s) at × All DomainSize (now sizes)
-        × (isChoice (now sizes) (now choice) ≡ true) ⌝ }
-    ensures { λ r. ⌜ (r ≡ entryFrom 0 (now (sizes .entry)) (scopeAt (now (s .entry)) at) (now (choice .entry)))
-        × (r < entriesAt (now (sizes .entry)) (now (s .entry)) at) ⌝ }
-{
-    let a = s[at + 3] as usize;
-    let mut index: usize = 0;
-    let mut k: usize = 0;
-    while k < a {
-        let v = s[at + 4 + k] as usize;
-        let d = sizes[v] as usize;
-        let x = choice[v] as usize;
-        index = index * d + x;
-        k += 1;
-    }
-    index
-}
-
-// What the record at `at` costs a complete choice.
-pub fn cost_at(s: &[u8], at: usize, sizes: &[u8], choice: &[u8]) -> u64
-    requires { ⌜ Whole (now sizes) (now s) at × All DomainSize (now sizes)
-        × (isChoice (now sizes) (now choice) ≡ true) ⌝ }
-    ensures { λ r. ⌜ (r ≡ costOf (now (sizes .entry)) (now (choice .entry))
-        (tableAt (now (sizes .entry)) (now (s .entry)) at)) × (r < entryEnd) ⌝ }
-{
-    let i = entry_index(s, at, sizes, choice);
-    table_entry(s, at, i, sizes)
-}
-
-// The cost vector of a complete choice: the sums over the tables of the `r` records from `at` on, as they were read.
-pub fn costs_of(s: &[u8], at: usize, r: u32, sizes: &[u8], choice: &[u8]) -> [u64; 4]
-    requires { ⌜ AllWhole r (now sizes) (now s) at × (r ≤ maxTables) × All DomainSize (now sizes)
-        × (isChoice (now sizes) (now choice) ≡ true) ⌝ }
-    ensures { λ t. ⌜ t ≡ totalsFrom maxObjectives 0 (costOf (now (sizes .entry)) (now (choice .entry)))
-        (tablesAt r (now (sizes .entry)) (now (s .entry)) at) ⌝ }
-{
-    let mut sums = [0u64; 4];
-    let mut here = at;
-    let mut left = r;
-    while left > 0 {
-        let t = problem::record_at(s, here, sizes);
-        let o = t.objective as usize;
-        sums[o] = sums[o] + unweighed(cost_at(s, here, sizes, choice));
-        here += t.length;
-        left -= 1;
-    }
-    sums
 }
 
 // Whether a prefix is no longer than the domains, each value in its own.

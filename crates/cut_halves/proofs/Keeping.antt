@@ -1,15 +1,16 @@
 -- A half's list kept behind the list that is made: rows copied to other rows, and rows before them as they were.
-use mathlib.Core.Path.{_≡_, sym, ap, _∙_}
+use mathlib.Core.Path.{_≡_, _∙_}
 use mathlib.Core.Logic.{_⊎_, inl}
 use mathlib.Core.List.{List, _++_}
-use Prim.Native.Nat.{ℕ, _+_, _-_, _*_, _≤_}
+use Prim.Native.Nat.{ℕ, _+_, _*_, _≤_}
 use native.Mathlib.Omega.{arith}
 use lib.ListN.{length, take, drop, length-drop, length-append}
-use lib.Seq.{length-take-le, take-take, take-append-le, drop-at}
+use lib.Seq.{length-take-le, take-append-le, drop-at}
 use Rattle.model.specs.Limits.{maxObjectives, maxVariables, maxPoints, workNeed}
 use Rattle.model.specs.Frontiers.{Point}
+use Rattle.model.proofs.Lists.{part-same}
 use Rattle.layout.specs.Layout.{listAt, searchEnd, rowWidth, firstRow, secondRow}
-use Rattle.groups.proofs.Overwritten.{over, take-drop, over-length, over-behind, over-here}
+use Rattle.groups.proofs.Overwritten.{over, over-length, over-behind, over-here}
 use Rattle.rows.specs.Rows.{rowAt, listIn}
 use Rattle.rows.proofs.RowsKept.{behind-rows, copied-rows}
 use Rattle.pass_list.specs.declared.Found as DF
@@ -22,13 +23,6 @@ use Rattle.cut_halves.specs.Says.{KeptSays}
 pub kept-few : {p n row : ℕ} {fs : List Point} {was work : List ℕ} {f : DF.Found} → KeptSays p n fs row was work f
     → f .count ≤ maxPoints
 kept-few {fs = fs} {f = f} h = found-few (f .full) maxPoints (f .count) (length fs) (h .full) (h .count)
-
--- equal fronts have equal parts
-part-same : (m k a : ℕ) (x y : List ℕ) → a + k ≤ m → take m x ≡ take m y → take k (drop a x) ≡ take k (drop a y)
-part-same m k a x y h e =
-    take-drop k a x
-    ∙ ap (drop a) (sym (take-take (a + k) m x h) ∙ ap (take (a + k)) e ∙ take-take (a + k) m y h)
-    ∙ sym (take-drop k a y)
 
 -- the rows of the first half, where nothing from them on changed
 pub first-same : (p n : ℕ) (was work : List ℕ) → drop (rowAt firstRow) work ≡ drop (rowAt firstRow) was → (a : ℕ)

@@ -1,21 +1,14 @@
 -- Fronts of two arrays added, number by number: values and costs.
-use mathlib.Core.Path.{_≡_, refl, sym, _∙_}
+use mathlib.Core.Path.{_≡_, sym, _∙_}
 use mathlib.Core.List.{List, [], _∷_, _++_}
-use Prim.Native.Nat.{ℕ, zero, suc, _+_, _≤_, _<_}
+use Prim.Native.Nat.{ℕ, suc, _+_, _≤_, _<_}
 use native.Mathlib.Omega.{arith}
 use lib.ListN.{length, getD, take}
 use lib.Seq.{length-take-le, getD-take, take-suc}
 use Rattle.model.specs.Vectors.{added}
 use Rattle.model.specs.Basics.{All}
 use Rattle.model.proofs.Elements.{all-below}
-use Rattle.model.proofs.Sums.{added-length}
-
-added-at : (xs ys : List ℕ) (i : ℕ) → i < length xs → i < length ys → getD (added xs ys) i 0 ≡ getD xs i 0 + getD ys i 0
-unfolding added
-added-at [] ys i h k = absurd (omega arith)
-added-at (x ∷ xs) [] i h k = absurd (omega arith)
-added-at (x ∷ xs) (y ∷ ys) zero h k = refl
-added-at (x ∷ xs) (y ∷ ys) (suc i) h k = added-at xs ys i (omega arith) (omega arith)
+use Rattle.model.proofs.Sums.{added-length, added-at}
 
 -- the first n numbers of x and of y
 abbrev pub frontsAdded : List ℕ → List ℕ → ℕ → List ℕ
@@ -37,7 +30,7 @@ module _ (x y : List ℕ) (n : ℕ) (lx : n ≤ length x) (ly : n ≤ length y) 
   module _ (i : ℕ) (h : i < n) where
     sums-at : getD sums i 0 ≡ getD x i 0 + getD y i 0
     sums-at =
-        added-at (take n x) (take n y) i (omega (arith, first-long)) (omega (arith, second-long))
+        added-at (take n x) (take n y) (first-long ∙ sym second-long) i
         ∙ rw (getD-take n x i 0 h, getD-take n y i 0 h)
 
     pub sums-more : take (suc i) sums ≡ take i sums ++ ((getD x i 0 + getD y i 0) ∷ [])

@@ -12,9 +12,9 @@ use borrow.Author.Count.{below-more}
 use Rattle.model.specs.Basics.{All, when}
 use Rattle.model.specs.Limits.{maxArity}
 use Rattle.model.specs.Reading.{tableScope}
+use Rattle.model.proofs.Bits.{keep-length}
 use Rattle.problem.specs.Records.{Whole}
 use Rattle.groups.specs.Groups.{hasVariable, groupOf}
-use Rattle.groups.proofs.Keeping.{keep-length}
 use Rattle.problem.proofs.Scopes.{scope-few}
 
 unfoldable pub lengthTo : List ℕ → List ℕ → ℕ → ℕ

@@ -7,25 +7,10 @@ use native.Mathlib.Omega.{arith}
 use native.Mathlib.Numerals.{add-one}
 use lib.ListN.{length, getD, take, drop, length-append, take-append-drop}
 use lib.Seq.{take-suc}
-use Rattle.model.specs.Basics.{All, keepIf, when}
+use Rattle.model.specs.Basics.{All, keepIf}
 use Rattle.model.specs.Reading.{tableScope}
+use Rattle.model.proofs.Bits.{keep-append, keep-all, keep-few}
 use Rattle.groups.specs.Groups.{hasVariable, groupOf}
-
-keep-append : (t : Bool) (x : ℕ) (xs ys : List ℕ) → keepIf t x (xs ++ ys) ≡ keepIf t x xs ++ ys
-keep-append true x xs ys = refl
-keep-append false x xs ys = refl
-
-keep-all : (P : ℕ → Type 0) (t : Bool) (x : ℕ) (xs : List ℕ) → P x → All P xs → All P (keepIf t x xs)
-keep-all P true x xs p h = (p, h)
-keep-all P false x xs p h = h
-
-pub keep-length : (t : Bool) (x : ℕ) (xs : List ℕ) → length (keepIf t x xs) ≡ when t 1 + length xs
-keep-length true x xs = omega arith
-keep-length false x xs = omega arith
-
-keep-few : (t : Bool) (x : ℕ) (xs : List ℕ) → length (keepIf t x xs) ≤ 1 + length xs
-keep-few true x xs = omega arith
-keep-few false x xs = omega arith
 
 -- `of` keeps, in order, the numbers that pass the test
 pub record Keeps (test : ℕ → Bool) (of : List ℕ → List ℕ) : Type 0 where

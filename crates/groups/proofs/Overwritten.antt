@@ -1,22 +1,16 @@
 -- A list with others' elements g written over its own from a place on, up to `end`.
 use mathlib.Core.Path.{_≡_, refl, sym, ap, _∙_}
 use mathlib.Core.List.{List, [], _∷_, _++_, append-assoc, append-nil}
-use Prim.Native.Nat.{ℕ, zero, suc, _+_, _-_, _≤_, _<_}
+use Prim.Native.Nat.{ℕ, suc, _+_, _-_, _≤_, _<_}
 use native.Mathlib.Omega.{arith}
-use native.Mathlib.Nat.{suc-add, zero-add}
 use native.Mathlib.Numerals.{add-one}
 use lib.ListN.{length, getD, take, drop, set, length-append, length-drop, take-append-drop}
 use lib.Seq.{length-take-le, take-append-le, take-append-seam, drop-append-add, drop-at, drop-cons, drop-drop, set-at}
-use lib.Seq.{append-snoc, take-take, take-nil, getD-take}
+use lib.Seq.{append-snoc, take-take, getD-take}
+use Rattle.model.proofs.Lists.{take-drop}
 
 abbrev pub over : List ℕ → ℕ → List ℕ → ℕ → List ℕ
 over w from g end = take from w ++ g ++ drop end w
-
--- a part is what is left of a front
-pub take-drop : (k a : ℕ) (l : List ℕ) → take k (drop a l) ≡ drop a (take (a + k) l)
-take-drop k zero l = rw zero-add
-take-drop k (suc a) [] = rw suc-add (take-nil k)
-take-drop k (suc a) (x ∷ l) = rw suc-add (take-drop k a l)
 
 -- nothing is written yet
 pub over-none : (w : List ℕ) (from : ℕ) → w ≡ over w from [] from

@@ -13,22 +13,16 @@ use Rattle.model.specs.Problems.{Table}
 use Rattle.model.specs.Reading.{tableObjective, tableOf}
 use Rattle.model.specs.Vectors.{added}
 use Rattle.model.specs.Costs.{totalsFrom}
-use Rattle.model.proofs.Elements.{all-at, all-map}
+use Rattle.model.proofs.Lists.{part-next}
+use Rattle.model.proofs.Elements.{all-at, all-map, all-set}
 use Rattle.problem.specs.Records.{Whole}
-use Rattle.problem.proofs.Behind.{take-cons}
 use Rattle.costs.specs.Entries.{tableAt}
-use Rattle.costs.proofs.SumSteps.{all-set, added-zeros, added-none, added-next}
+use Rattle.costs.proofs.SumSteps.{added-zeros, added-none, added-next}
 use Rattle.groups.specs.Groups.{tablesOver}
 
 -- what stands from i to `to`
 abbrev pub left : List ℕ → ℕ → ℕ → List ℕ
 left work i to = take (to - i) (drop i work)
-
-left-next : (work : List ℕ) (i to : ℕ) → i < to → to ≤ length work
-    → left work i to ≡ getD work i 0 ∷ left work (i + 1) to
-left-next work i to h l =
-    let k : to - i - 1 ≡ to - (i + 1) = omega arith in
-    rw (← k) (take-cons (to - i) i work (omega arith) (omega arith))
 
 -- `sums` so far
 pub record SummingOver (f : Table → ℕ) (ds s work : List ℕ) (from to : ℕ) (sums : List ℕ) (i : ℕ) : Type 0 where
@@ -78,7 +72,7 @@ module _ {f : Table → ℕ} {ds s work : List ℕ} {from to : ℕ} {sums : List
 
   module _ (more : i < to) where
     step : left work i to ≡ getD work i 0 ∷ left work (i + 1) to
-    step = left-next work i to more (u .inside)
+    step = part-next 0 work i to more (u .inside)
 
     pub place-whole : Whole ds s (getD work i 0)
     place-whole = (rw step at (u .whole)) .0

@@ -7,9 +7,10 @@ use native.Mathlib.Omega.{arith}
 use lib.ListN.{length, take, drop, length-append, length-drop}
 use lib.Seq.{length-take-le, take-all, take-take, take-append-le, drop-at, drop-drop, drop-length}
 use Rattle.model.specs.Basics.{All}
+use Rattle.model.proofs.Lists.{take-drop}
 use Rattle.problem.specs.Records.{Whole}
 use Rattle.layout.specs.Layout.{sourceAt, listEnd}
-use Rattle.groups.proofs.Overwritten.{over, take-drop, over-length, over-part, over-here}
+use Rattle.groups.proofs.Overwritten.{over, over-length, over-part, over-here}
 use Rattle.groups.specs.Sources.{sourceIn}
 use Rattle.branch_directions.specs.Directions.{Sensible}
 use Rattle.branch_directions.specs.declared.Directions as DD

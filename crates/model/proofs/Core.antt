@@ -11,7 +11,7 @@ use Rattle.model.specs.Basics.{keepIf, All}
 use Rattle.model.specs.Limits.{wordEnd, maxTables}
 use Rattle.model.specs.Problems.{Table, Problem, Word}
 use Rattle.model.specs.Vectors.{under, added}
-use Rattle.model.specs.Costs.{entryFrom, costOf, total, totalsFrom, totals, costsOf}
+use Rattle.model.specs.Costs.{costOf, total, totalsFrom, totals, costsOf}
 use Rattle.model.specs.Frontiers.{consistent, Point, frontier}
 use Rattle.model.specs.Bounds.{leastTo, leastFrom, leastOf}
 use Rattle.model.specs.Cuts.{sidesOk, crosses, uncrossed, inHalf, halfTable, halfTables, half}
@@ -87,10 +87,6 @@ unfolding weighed
 weighed-at [] i = sym entry-zero
 weighed-at (x ∷ xs) zero = refl
 weighed-at (x ∷ xs) (suc i) = weighed-at xs i
-
-pub core-cost : (ds x : List ℕ) (t : Table) → costOf ds x (coreTable t) ≡ entry (costOf ds x t)
-unfolding costOf
-core-cost ds x t = weighed-at (t .costs) (entryFrom 0 ds (t .scope) x)
 
 -- entries grow with what is weighed, so that the least is the least's weight
 least-entry : (x y : ℕ) → min (entry x) (entry y) ≡ entry (min x y)

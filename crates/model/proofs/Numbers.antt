@@ -3,7 +3,7 @@ use mathlib.Core.Path.{_≡_, sym, _∙_}
 use mathlib.Core.Logic.{_⊎_, inl, inr, ⊎-elim}
 use Prim.Native.Nat.{ℕ, zero, suc, _+_, _*_, _/_, _%_, _≤_, _<_}
 use native.Mathlib.Omega.{arith}
-use native.Mathlib.Nat.{suc-mul, mul-add, add-mul, mul-assoc, mul-comm, mul-le-mul-right}
+use native.Mathlib.Nat.{suc-mul, mul-add, add-mul, mul-assoc, mul-comm, mul-le-mul, mul-le-mul-right}
 use native.Mathlib.Numerals.{add-one}
 use lib.Dec.{eqb, ltb}
 use borrow.Author.Tests.{eqb-true, eqb-false, ltb-true, ltb-false}
@@ -36,6 +36,13 @@ pub largest-first :
 largest-first f n h zero l = omega arith
 largest-first f n h (suc k) l =
     rw (← add-one k) (omega (arith, h k (omega arith), largest-first f n h k (omega arith)))
+
+-- products by their limits; the factors are named, so that `omega` reads them
+pub product-small : (m n a b : ℕ) → a ≤ m → b ≤ n → a * b ≤ m * n
+product-small m n a b g h = mul-le-mul g h
+
+pub byte-times : (y t : ℕ) → y < 256 → y * t ≤ 255 * t
+byte-times y t h = mul-le-mul-right t (omega arith)
 
 -- where k rows of b have room, each of them has
 pub row-room : (b k row all : ℕ) → k * b ≤ all → row < k → row * b + b ≤ all

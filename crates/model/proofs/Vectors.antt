@@ -9,7 +9,7 @@ use Prim.Native.Nat.{ℕ, _+_, _≤_, _<_}
 use native.Mathlib.Omega.{arith}
 use lib.Dec.{eqb, ltb, leb}
 use lib.ListN.{length}
-use borrow.Author.Tests.{ltb-true, lt-ltb, leb-true, le-leb, eqb-true, eq-eqb, not-true, ltb-false}
+use borrow.Author.Tests.{ltb-true, lt-ltb, leb-true, le-leb, eqb-true, eq-eqb, not-true}
 use Rattle.model.specs.Vectors.{atMost, same, beats, earlier}
 use Rattle.model.proofs.Bits.{test, true-false, not-true-false, and-left, and-right, and-both, or-cases, or-left}
 use Rattle.model.proofs.Bits.{or-right}

@@ -32,9 +32,6 @@ front-same zero m a l = refl
 front-same (suc n) zero a l = absurd (omega arith)
 front-same (suc n) (suc m) a l = ap (_∷_ a) (front-same n m a (omega arith))
 
-pub front-zeros : (n m : ℕ) → n ≤ m → take {A = ℕ} n (replicate m 0) ≡ replicate n 0
-front-zeros n m l = front-same n m 0 l
-
 pub zeros-choice : (ds : List ℕ) → All DomainSize ds → isChoice ds (replicate (length ds) 0) ≡ true
 unfolding isChoice
 zeros-choice [] h = refl

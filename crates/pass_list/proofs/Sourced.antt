@@ -11,6 +11,7 @@ use Rattle.model.specs.Limits.{maxObjectives}
 use Rattle.model.specs.Problems.{Problem}
 use Rattle.model.specs.Core.{coreFrontier}
 use Rattle.model.specs.Suffixes.{Gains}
+use Rattle.model.proofs.Lists.{drop-later}
 use Rattle.layout.specs.Layout.{recordsAt, gainsAt, sourceAt}
 use Rattle.groups.specs.Groups.{placesIn, Placed, Grouped}
 use Rattle.groups.proofs.Overwritten.{over, over-length, over-behind, over-here}
@@ -19,7 +20,7 @@ use Rattle.groups.specs.Sources.{sourceIn, sourceProblem, Source}
 use Rattle.pass_suffixes.specs.Gained.{Left}
 use Rattle.pass_list.specs.Says.{FoundSays}
 use Rattle.pass_list.specs.declared.Found as DF
-use Rattle.pass_list.proofs.Since.{drop-more, says-since}
+use Rattle.pass_list.proofs.Since.{says-since}
 
 -- the gains of a problem's records are found
 pub record Gained (p r : ℕ) (ceilings ds s was work : List ℕ) : Type 0 where
@@ -70,7 +71,7 @@ module _ {p r : ℕ} {ceilings ds s was gained : List ℕ} (u : Gained p r ceili
         × (length work ≡ length copied)) where
       behind : (k : ℕ) → recordsAt + r ≤ k → drop k work ≡ drop k gained
       behind k h =
-          drop-more recordsAt k work copied (omega arith) (after .1)
+          drop-later recordsAt k work copied (omega arith) (after .1)
           ∙ rw says (over-behind gained recordsAt (sourceIn gained r) (recordsAt + r) ends (source-apart .1) k h)
 
       same-gains : (w j : ℕ) → gainsIn w work j ≡ gainsIn w gained j

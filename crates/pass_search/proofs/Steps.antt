@@ -15,13 +15,13 @@ use Rattle.model.specs.Bounds.{leastOf, boundOf}
 use Rattle.model.specs.Frontiers.{Point, point}
 use Rattle.model.specs.Search.{Held, just, dead}
 use Rattle.model.specs.Suffixes.{sharper}
+use Rattle.model.proofs.Sums.{take-added}
 use Rattle.layout.specs.Layout.{gainsAt}
 use Rattle.rows.specs.Rows.{listIn}
 use Rattle.pass_search.specs.States.{heldOf, tablesIn, problemIn, prefixOf, deadIn, gainsIn, ruleOf, Setting}
 use Rattle.pass_search.specs.States.{opensFrom, triesFrom}
 use Rattle.pass_search.specs.declared.Partial as DP
 use Rattle.pass_search.specs.declared.Best as DB
-use Rattle.vectors.proofs.Fours.{take-added}
 use Rattle.model.proofs.Totals.{take-totals}
 use Rattle.pass_search.proofs.FourTotals.{added-zero}
 use Rattle.pass_search.proofs.Partials.{Standing, prefix-length}

@@ -1,7 +1,7 @@
 -- One more value in a prefix changes only the least entries of the tables whose scope has its variable.
 use mathlib.Core.Path.{_≡_, refl, ap, fun-ext}
 use mathlib.Core.Logic.{⊎-elim}
-use mathlib.Core.Bool.{Bool, true, false, _||_, not}
+use mathlib.Core.Bool.{Bool, true, false, not}
 use mathlib.Core.List.{List, [], _∷_, _++_}
 use Prim.Native.Nat.{ℕ, _+_, _-_, _*_, _≤_, _<_}
 use native.Mathlib.Omega.{arith}
@@ -13,15 +13,10 @@ use Rattle.model.specs.Problems.{Table}
 use Rattle.model.specs.Reading.{tableScope, tableOf}
 use Rattle.model.specs.Costs.{total}
 use Rattle.model.specs.Bounds.{leastTo, leastFrom, leastOf}
-use Rattle.model.proofs.Bits.{test}
+use Rattle.model.proofs.Bits.{test, or-false}
 use Rattle.costs.specs.Entries.{tableAt}
 use Rattle.groups.specs.Groups.{hasVariable, groupOf, tablesOver}
 use Rattle.pass_search.specs.States.{untouched}
-
-neither : (a b : Bool) → (a || b) ≡ false → (a ≡ false) × (b ≡ false)
-neither true true h = (h, h)
-neither true false h = (h, refl)
-neither false b h = (refl, h)
 
 -- a variable that a scope lacks does not matter
 module _ (ds pre : List ℕ) (v : ℕ) where
@@ -33,7 +28,7 @@ module _ (ds pre : List ℕ) (v : ℕ) where
   unfolding leastFrom hasVariable
   from-apart entry i [] h = refl
   from-apart entry i (w ∷ vs) h =
-      let n = neither (eqb w (length pre)) (hasVariable (length pre) vs) h in
+      let n = or-false (eqb w (length pre)) (hasVariable (length pre) vs) h in
       let next : (j : ℕ) → leastFrom ds pre entry j vs ≡ leastFrom ds more entry j vs =
       λ j. from-apart entry j vs (n .1) in
       let long : length more ≡ length pre + 1 = length-append pre (v ∷ []) in

@@ -8,12 +8,13 @@ use lib.Seq.{drop-set-lt}
 use Rattle.model.specs.Limits.{maxObjectives}
 use Rattle.model.specs.Problems.{Problem}
 use Rattle.model.specs.Suffixes.{Gain, Gains}
+use Rattle.model.proofs.Lists.{drop-later}
 use Rattle.layout.specs.Layout.{gainsAt, sourceAt, searchEnd}
 use Rattle.groups.proofs.Overwritten.{over}
 use Rattle.pass_search.specs.States.{gainsIn}
 use Rattle.groups.specs.Sources.{sourceProblem, Source}
 use Rattle.pass_suffixes.specs.Gained.{Found-from, Left}
-use Rattle.pass_suffixes.proofs.GainRows.{gainsCount, drop-later, found-same, cleared-found, cleared-left}
+use Rattle.pass_suffixes.proofs.GainRows.{gainsCount, found-same, cleared-found, cleared-left}
 use Rattle.pass_suffixes.proofs.GainRows.{written-found, found-gains, found-last}
 
 left-both : (was work then : List ℕ) → Left was work → Left work then → Left was then

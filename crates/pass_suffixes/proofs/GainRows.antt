@@ -8,7 +8,7 @@ use native.Mathlib.Omega.{arith}
 use native.Mathlib.Nat.{add-assoc}
 use lib.Dec.{eqb}
 use lib.ListN.{length, getD, drop, set, replicate, length-drop, getD-replicate}
-use lib.Seq.{length-take-le, getD-take, getD-drop, getD-set-same, getD-set-other, drop-drop, ext-getD}
+use lib.Seq.{length-take-le, getD-take, getD-drop, getD-set-same, getD-set-other, ext-getD}
 use borrow.Author.Tests.{eqb-true, eqb-false}
 use Rattle.model.specs.Limits.{maxObjectives, maxVariables}
 use Rattle.model.specs.Problems.{Problem}
@@ -35,12 +35,6 @@ row-width p work j long few h =
 
 gain-from : (work : List ℕ) (j i : ℕ) → gainIn work j i ≡ getD (drop gainsAt work) (4 * j + i) 0
 gain-from work j i = rw (getD-drop gainsAt work (4 * j + i) 0, add-assoc gainsAt (4 * j) i)
-
--- memory that is the same from a place on is so from a later one
-pub drop-later : (a b : ℕ) (w v : List ℕ) → a ≤ b → drop a w ≡ drop a v → drop b w ≡ drop b v
-drop-later a b w v h e =
-    let at : a + (b - a) ≡ b = omega arith in
-    rw (← at) (sym (drop-drop (b - a) a w) ∙ ap (drop (b - a)) e ∙ drop-drop (b - a) a v)
 
 -- memory that is the same from the gains on has the same gains
 pub found-same : {q : Problem} {o k : ℕ} (w v : List ℕ) → drop gainsAt v ≡ drop gainsAt w → Found-from q o k w

@@ -1,18 +1,13 @@
 -- Side lists of the variables from k on: ones over zeros, and the front of a longer one.
-use mathlib.Core.Path.{_≡_, refl, ap, _∙_}
-use mathlib.Core.List.{[], _∷_, _++_, append-nil}
-use Prim.Native.Nat.{ℕ, zero, suc, _+_, _-_, _≤_}
+use mathlib.Core.Path.{_≡_, ap, _∙_}
+use mathlib.Core.List.{[], _++_, append-nil}
+use Prim.Native.Nat.{ℕ, _+_, _-_, _≤_}
 use native.Mathlib.Omega.{arith}
 use lib.ListN.{length, take, drop, replicate, length-replicate, drop-of-length-le}
 use lib.Seq.{take-append-add}
 use Rattle.model.specs.Suffixes.{suffixSides}
+use Rattle.model.proofs.Zeros.{front-same}
 use Rattle.groups.proofs.Overwritten.{over}
-
--- the front of a list of one number
-pub front-same : (k n a : ℕ) → k ≤ n → take k (replicate n a) ≡ replicate k a
-front-same zero n a h = refl
-front-same (suc k) zero a h = absurd (omega arith)
-front-same (suc k) (suc n) a h = ap (_∷_ a) (front-same k n a (omega arith))
 
 module _ (n k : ℕ) (below : k ≤ n) where
   pub sides-written : over (replicate n 0) k (replicate (n - k) 1) n ≡ suffixSides n k

@@ -16,6 +16,7 @@ use Rattle.model.specs.Frontiers.{point}
 use Rattle.model.specs.Search.{Held, nothing, just, pass}
 use Rattle.model.specs.Views.{narrowed}
 use Rattle.model.specs.Suffixes.{suffixSides, suffixOf, leastCost, gainOf, Gain, Gains}
+use Rattle.model.proofs.Lists.{drop-later}
 use Rattle.model.proofs.Elements.{all-map}
 use Rattle.model.proofs.Search.{Sound}
 use Rattle.model.proofs.Suffixes.{sides-length, gains-sound, gain-less}
@@ -35,7 +36,7 @@ use Rattle.views.proofs.KeptPlaces.{kept-count, kept-whole, kept-tables}
 use Rattle.views.proofs.KeptTables.{wanted-suffix}
 use Rattle.groups.specs.Sources.{sourceIn, sourceProblem, Source}
 use Rattle.pass_suffixes.specs.Gained.{Found-from}
-use Rattle.pass_suffixes.proofs.GainRows.{row-at, row-width, drop-later, found-same, found-last}
+use Rattle.pass_suffixes.proofs.GainRows.{row-at, row-width, found-same, found-last}
 
 -- the records of objective o over the variables from k on, by the side list ss, over the domain sizes that it leaves:
 -- `count` of r, their places written

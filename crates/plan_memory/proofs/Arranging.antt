@@ -7,8 +7,8 @@ use native.Mathlib.Omega.{arith}
 use lib.ListN.{length, getD, set, take, drop, length-set, length-drop}
 use lib.Seq.{take-take, take-set-le, drop-set-lt, length-take-le}
 use Rattle.model.specs.Limits.{maxTables}
+use Rattle.model.proofs.Lists.{take-drop}
 use Rattle.problem.specs.Records.{Whole}
-use Rattle.groups.proofs.Overwritten.{take-drop}
 use Rattle.branch_directions.specs.declared.Directions as DD
 use Rattle.layout.specs.Places.{maxMessages, childrenAt, looseAt}
 use Rattle.branch_buckets.specs.Content.{Planned}

@@ -1,7 +1,7 @@
 -- The slots are filled with the numbers of the messages, one after the other.
-use mathlib.Core.Path.{_≡_, refl, ap, _∙_}
-use mathlib.Core.List.{List, [], _∷_, _++_}
-use Prim.Native.Nat.{ℕ, zero, suc, _+_, _≤_, _<_}
+use mathlib.Core.Path.{_≡_, refl, _∙_}
+use mathlib.Core.List.{List}
+use Prim.Native.Nat.{ℕ, _+_, _≤_, _<_}
 use native.Mathlib.Omega.{arith}
 use native.Mathlib.Nat.{add-assoc, zero-add}
 use lib.ListN.{length, set, take, drop}
@@ -14,43 +14,34 @@ use Rattle.layout.specs.Places.{maxMessages, childrenAt, looseAt}
 use Rattle.branch_buckets.specs.Messages.{countFrom}
 use Rattle.branch_buckets.specs.Sound.{Rearranged}
 use Rattle.branch_buckets.specs.Content.{Planned}
-use Rattle.branch_buckets.proofs.Sums.{countFrom-split}
+use Rattle.branch_buckets.proofs.Sums.{countFrom-more, countFrom-length}
 use Rattle.plan_memory.specs.Arranged.{Arranged}
-
-pub count-length : (i c : ℕ) → length (countFrom i c) ≡ c
-unfolding countFrom
-count-length i zero = refl
-count-length i (suc c) = ap suc (count-length (suc i) c)
-
-pub count-next : (i c : ℕ) → countFrom i (c + 1) ≡ countFrom i c ++ (i + c) ∷ []
-unfolding countFrom
-count-next i c = countFrom-split i c 1
 
 module _ (w : List ℕ) (i : ℕ) (long : looseAt ≤ length w) where
   pub filled-length : i ≤ maxMessages → length (over w childrenAt (countFrom 0 i) (childrenAt + i)) ≡ length w
   filled-length h =
-      over-length w childrenAt (countFrom 0 i) (childrenAt + i) (omega (arith, count-length 0 i)) (omega arith)
+      over-length w childrenAt (countFrom 0 i) (childrenAt + i) (omega (arith, countFrom-length 0 i)) (omega arith)
 
   pub filled-next : i < maxMessages
       → set (over w childrenAt (countFrom 0 i) (childrenAt + i)) (childrenAt + i) i
       ≡ over w childrenAt (countFrom 0 (i + 1)) (childrenAt + (i + 1))
   filled-next h =
-      over-next w childrenAt (countFrom 0 i) (childrenAt + i) (omega (arith, count-length 0 i)) (omega arith)
+      over-next w childrenAt (countFrom 0 i) (childrenAt + i) (omega (arith, countFrom-length 0 i)) (omega arith)
       (omega arith) i
-      ∙ rw (count-next 0 i, zero-add i, add-assoc childrenAt i 1) refl
+      ∙ rw (countFrom-more 0 i, zero-add i, add-assoc childrenAt i 1) refl
 
 -- what stands before the slots is kept, and they hold the numbers
 module _ (w : List ℕ) (long : looseAt ≤ length w) where
   pub filled-front : (r : ℕ) → r ≤ maxTables → take r (over w childrenAt (countFrom 0 maxMessages) looseAt) ≡ take r w
   filled-front r few =
-      over-front w childrenAt (countFrom 0 maxMessages) looseAt (omega (arith, count-length 0 maxMessages)) long r
+      over-front w childrenAt (countFrom 0 maxMessages) looseAt (omega (arith, countFrom-length 0 maxMessages)) long r
       (omega arith)
 
   pub filled-slots :
       take maxMessages (drop childrenAt (over w childrenAt (countFrom 0 maxMessages) looseAt)) ≡ countFrom 0 maxMessages
   filled-slots =
-      rw (count-length 0 maxMessages)
-      at (over-here w childrenAt (countFrom 0 maxMessages) looseAt (omega (arith, count-length 0 maxMessages)) long)
+      rw (countFrom-length 0 maxMessages)
+      at (over-here w childrenAt (countFrom 0 maxMessages) looseAt (omega (arith, countFrom-length 0 maxMessages)) long)
 
 -- a plan whose slots are filled, and what is made of it
 module _ {d : DD.Directions} {r : ℕ} {ds s w b : List ℕ} (p : Planned d r ds s w)

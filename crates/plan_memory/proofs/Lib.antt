@@ -1,4 +1,3 @@
 -- The laws that the functions' proofs share.
 pub mod Arranging
 pub mod Filling
-pub mod Products

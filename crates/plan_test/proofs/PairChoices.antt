@@ -1,31 +1,25 @@
 -- The choices at which a part is looked at: zeros, but for the values of two variables. Every choice has the same
 -- values there as one of them.
-use mathlib.Core.Path.{_≡_, refl, ap, sym, _∙_}
-use mathlib.Core.Logic.{_⊎_, ⊎-elim}
+use mathlib.Core.Path.{_≡_}
+use mathlib.Core.Logic.{⊎-elim}
 use mathlib.Core.Bool.{true, false}
-use mathlib.Core.List.{List, [], _∷_}
-use Prim.Native.Nat.{ℕ, zero, suc, _≤_, _<_}
+use mathlib.Core.List.{List}
+use Prim.Native.Nat.{ℕ, _≤_, _<_}
 use native.Mathlib.Omega.{arith}
-use borrow.Author.Tests.{eqb-true, eqb-false, ltb-true, ltb-false}
-use lib.Dec.{eqb, ltb}
+use borrow.Author.Tests.{ltb-true, ltb-false}
+use lib.Dec.{ltb}
 use lib.ListN.{length, getD, take, set, replicate, List·getD-eq-default}
-use lib.Seq.{set-out, getD-set-same, getD-set-other}
+use lib.Seq.{set-out}
 use Rattle.model.specs.Basics.{All}
 use Rattle.model.specs.Problems.{DomainSize}
 use Rattle.model.specs.Costs.{isChoice}
 use Rattle.model.proofs.Bits.{test}
+use Rattle.model.proofs.Lists.{take-set}
 use Rattle.model.proofs.Choices.{choice-length}
 use Rattle.model.proofs.Prefixes.{set-choice}
-use Rattle.model.proofs.Zeros.{front-zeros, zeros-choice}
+use Rattle.model.proofs.Zeros.{zeros-choice, front-same}
 use Rattle.problem.proofs.Sizes.{domain-size}
 use Rattle.costs.proofs.ScopeVariables.{value-below}
-
--- the front of a list with one number changed
-pub take-set : (n : ℕ) (l : List ℕ) (u a : ℕ) → take n (set l u a) ≡ set (take n l) u a
-take-set zero l u a = refl
-take-set (suc n) [] u a = refl
-take-set (suc n) (x ∷ l) zero a = refl
-take-set (suc n) (x ∷ l) (suc u) a = ap (_∷_ x) (take-set n l u a)
 
 -- a value of a variable, if there is such a variable
 pub put-choice : (ds x : List ℕ) (u a : ℕ) → isChoice ds x ≡ true → (u < length ds → a < getD ds u 0)
@@ -37,31 +31,11 @@ put-choice ds x u a c h =
     rw (set-out x u a (omega (arith, choice-length ds x c, ltb-false u (length ds) t))) c)
     (test (ltb u (length ds)))
 
--- with y's value of p, x is as y at p, and wherever it was
-pub set-toward : (x y : List ℕ) → length x ≡ length y → (p w : ℕ) → (w ≡ p) ⊎ (getD x w 0 ≡ getD y w 0)
-    → getD (set x p (getD y p 0)) w 0 ≡ getD y w 0
-set-toward x y long p w h =
-    ⊎-elim
-    (λ (t : eqb w p ≡ true). rw (eqb-true w p t) same)
-    (λ (t : eqb w p ≡ false). getD-set-other x p w (getD y p 0) 0 (eqb-false w p t)
-    ∙ ⊎-elim (λ (e : w ≡ p). absurd (eqb-false w p t e)) (λ (e : getD x w 0 ≡ getD y w 0). e) h)
-    (test (eqb w p))
-  where
-    same : getD (set x p (getD y p 0)) p 0 ≡ getD y p 0
-    same =
-        ⊎-elim
-        (λ (t : ltb p (length x) ≡ true). getD-set-same x p (getD y p 0) 0 (ltb-true p (length x) t))
-        (λ (t : ltb p (length x) ≡ false).
-        let out : length x ≤ p = ltb-false p (length x) t in
-        let out′ : length y ≤ p = omega arith in
-        rw (set-out x p (getD y p 0) out) (List·getD-eq-default x 0 out ∙ sym (List·getD-eq-default y 0 out′)))
-        (test (ltb p (length x)))
-
 -- the choice that is made, by its first values
 pub pair-front : (n u i v j : ℕ) (one two : List ℕ) → n ≤ 24 → one ≡ set (replicate 24 0) u i → two ≡ set one v j
     → take n two ≡ set (set (replicate n 0) u i) v j
 pair-front n u i v j one two few e f =
-    rw (f, take-set n one v j, e, take-set n (replicate 24 0) u i, front-zeros n 24 few)
+    rw (f, take-set n one v j, e, take-set n (replicate 24 0) u i, front-same n 24 0 few)
 
 pub pair-choice : (ds : List ℕ) (u i v j : ℕ) → All DomainSize ds → (u < length ds → i < getD ds u 0)
     → (v < length ds → j < getD ds v 0) → isChoice ds (set (set (replicate (length ds) 0) u i) v j) ≡ true

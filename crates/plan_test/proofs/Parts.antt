@@ -12,6 +12,7 @@ use lib.ListN.{length, getD, set, replicate, length-set, length-replicate, List�
 use Rattle.model.specs.Basics.{All}
 use Rattle.model.specs.Problems.{DomainSize}
 use Rattle.model.proofs.Bits.{test}
+use Rattle.model.proofs.Lists.{set-toward}
 use Rattle.model.proofs.Choices.{choice-length}
 use Rattle.model.proofs.Zeros.{zeros-at}
 use Rattle.costs.proofs.ScopeVariables.{value-below}
@@ -30,7 +31,7 @@ use Rattle.plan_test.specs.declared.Part as DP
 use Rattle.plan_test.specs.declared.Held as DH
 use Rattle.plan_test.specs.Parts.{restEnd, Rows, Lowered, RowLeft, PartReads, Fits}
 use Rattle.plan_test.specs.Parts.{ChoiceLeaves, PairLeaves, PartLeaves, takenSpan, Holding, HoldsAt}
-use Rattle.plan_test.proofs.PairChoices.{set-toward, value-small}
+use Rattle.plan_test.proofs.PairChoices.{value-small}
 
 most-at : (n i : ℕ) → getD (replicate n restEnd) i 0 ≤ restEnd
 most-at zero i = omega arith
@@ -69,13 +70,13 @@ module _ (d : DD.Directions) (ds s plan : List ℕ) (p : DP.Part) where
       let long : length zeros ≡ length y = length-replicate (length ds) 0 ∙ sym (choice-length ds y c) in
       let long′ : length first ≡ length y = length-set zeros u (getD y u 0) ∙ long in
       let long″ : length second ≡ length y = length-set first v (getD y v 0) ∙ long′ in
-      let at-first : (w : ℕ) → w ≡ u → getD first w 0 ≡ getD y w 0 = λ w q. set-toward zeros y long u w (inl q) in
+      let at-first : (w : ℕ) → w ≡ u → getD first w 0 ≡ getD y w 0 = λ w q. set-toward 0 zeros y long u w (inl q) in
       let at-second : (w : ℕ) → (w ≡ u) ⊎ (w ≡ v) → getD second w 0 ≡ getD y w 0 = λ w. ⊎-elim
-      (λ (q : w ≡ u). set-toward first y long′ v w (inr (at-first w q)))
-      (λ (q : w ≡ v). set-toward first y long′ v w (inl q)) in
+      (λ (q : w ≡ u). set-toward 0 first y long′ v w (inr (at-first w q)))
+      (λ (q : w ≡ v). set-toward 0 first y long′ v w (inl q)) in
       let at-third : (w : ℕ) → PartReads plan p w → getD third w 0 ≡ getD y w 0 = λ w. ⊎-elim
-      (λ (q : w ≡ p .own). set-toward second y long″ (p .own) w (inl q))
-      (λ (q : (w ≡ u) ⊎ (w ≡ v)). set-toward second y long″ (p .own) w (inr (at-second w q))) in
+      (λ (q : w ≡ p .own). set-toward 0 second y long″ (p .own) w (inl q))
+      (λ (q : (w ≡ u) ⊎ (w ≡ v)). set-toward 0 second y long″ (p .own) w (inr (at-second w q))) in
       let x-is : x ≡ second = rw (e, f) is in
       let number : messageAt (widthOf d) plan x k (p .message) ≡ messageAt (widthOf d) plan y k (p .message) = rw x-is
       (message-reads (λ w. (w ≡ u) ⊎ (w ≡ v)) second y at-second (widthOf d) plan k (p .message)

@@ -7,7 +7,7 @@ use native.Mathlib.Nat.{mul-one, mul-assoc, le-mul-of-pos-right}
 use lib.ListN.{length, getD, take, drop}
 use Rattle.model.specs.Basics.{All}
 use Rattle.model.specs.Problems.{DomainSize, InRange, sizeOf}
-use Rattle.problem.proofs.Behind.{take-cons}
+use Rattle.model.proofs.Lists.{take-cons}
 use Rattle.problem.proofs.Sizes.{size-positive}
 
 -- `size` so far, with `left` variables from `here` on yet to come, of `total` entries in all
@@ -27,7 +27,7 @@ module _ (ds s : List ℕ) (total size here left : ℕ) (u : Sizing ds s total s
 
   module _ (more : 0 < left) where
     first : take left (drop here s) ≡ getD s here 0 ∷ take (left - 1) (drop (here + 1) s)
-    first = take-cons left here s more (omega (arith, u .inside))
+    first = take-cons 0 left here s more (omega (arith, u .inside))
 
     pub sizing-exists : getD s here 0 < length ds
     sizing-exists = (rw first at (u .range)) .0

@@ -8,10 +8,10 @@ use native.Mathlib.Omega.{arith}
 use lib.ListN.{length, take, drop, set, length-set, length-drop}
 use lib.Seq.{ext-getD, getD-take, getD-drop, getD-set-other, length-take-le}
 use Rattle.model.specs.Limits.{maxObjectives, maxVariables, maxPoints}
+use Rattle.model.proofs.Numbers.{one-first}
 use Rattle.layout.specs.Layout.{listAt, listEnd, rowWidth}
 use Rattle.rows.specs.Rows.{rowAt, rowIn, Changed, Framed}
 use Rattle.rows.proofs.RowNumbers.{equal-points}
-use Rattle.rows.proofs.RowPlaces.{one-first}
 
 pub changed-none : (at size : ℕ) (work : List ℕ) → Changed at size work work
 changed-none at size work = record { long = refl; others = λ j o. refl }

@@ -1,12 +1,11 @@
--- The first n elements of a list, written over a buffer from a place on, one after another; and a list written behind
--- another.
-use mathlib.Core.Path.{_≡_, ap₂, _∙_}
-use mathlib.Core.List.{List, _++_}
+-- The first n elements of a list, written over a buffer from a place on, one after another.
+use mathlib.Core.Path.{_≡_}
+use mathlib.Core.List.{List}
 use Prim.Native.Nat.{ℕ, _+_, _≤_, _<_}
 use native.Mathlib.Omega.{arith}
 use native.Mathlib.Numerals.{add-one}
-use lib.ListN.{length, take, drop, getD, set}
-use lib.Seq.{paste, paste-zero, paste-suc, length-paste, take-at, drop-append-add, drop-drop}
+use lib.ListN.{length, getD, set}
+use lib.Seq.{paste, paste-zero, paste-suc, length-paste}
 
 -- i of them are written
 pub record Copied (old : List ℕ) (at : ℕ) (xs : List ℕ) (n : ℕ) (new : List ℕ) (i : ℕ) : Type 0 where
@@ -36,10 +35,3 @@ module _ {old : List ℕ} {at : ℕ} {xs : List ℕ} {n : ℕ} {new : List ℕ} 
         long = u .long;
         holds = rw (e, u .holds, add-one) (paste-suc old at xs i 0 (omega arith) (omega arith));
       }
-
--- ys written behind xs, where xs ends at a
-pub written-behind : (xs ys old : List ℕ) (a b : ℕ) → length xs ≡ a
-    → take a (xs ++ drop a old) ++ ys ++ drop (a + b) (xs ++ drop a old) ≡ xs ++ ys ++ drop (a + b) old
-written-behind xs ys old a b e =
-    ap₂ (λ (f r : List ℕ). f ++ ys ++ r) (take-at xs (drop a old) a e)
-    ((rw e at (drop-append-add xs (drop a old) b)) ∙ drop-drop b a old)

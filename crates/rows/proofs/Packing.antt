@@ -12,6 +12,7 @@ use lib.ListN.{length, getD, set, length-set}
 use lib.Seq.{getD-set-same, getD-set-other}
 use Rattle.model.specs.Limits.{wordEnd}
 use Rattle.model.proofs.Bits.{test}
+use Rattle.model.proofs.Numbers.{bytes-of}
 use Rattle.rows.specs.Rows.{costAt, valueAt, Changed}
 use Rattle.rows.proofs.Changing.{changed-none, changed-set}
 
@@ -74,12 +75,6 @@ pub record ValuesTo (at : ℕ) (choice work work′ : List ℕ) (k : ℕ) : Type
 
 pub values-none : (at : ℕ) (choice work : List ℕ) → ValuesTo at choice work work 0
 values-none at choice work = record { changed = changed-none at 6 work; written = λ v l. absurd (omega arith) }
-
--- a number's four bytes
-bytes-of : (a b c d number : ℕ) → a < 256 → b < 256 → c < 256 → d < 256
-    → number ≡ a + 256 * b + 65536 * c + 16777216 * d
-    → (number / 1 % 256 ≡ a) × (number / 256 % 256 ≡ b) × (number / 65536 % 256 ≡ c) × (number / 16777216 % 256 ≡ d)
-bytes-of a b c d number ha hb hc hd is = (omega arith, omega arith, omega arith, omega arith)
 
 module _ {at : ℕ} {choice work work′ : List ℕ} {k : ℕ} (u : ValuesTo at choice work work′ k)
     (more : k < 6) (inside : at + 6 ≤ length work) (bytes : (j : ℕ) → j < 4 → getD choice (4 * k + j) 0 < 256)

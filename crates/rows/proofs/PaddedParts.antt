@@ -1,5 +1,4 @@
--- A front of a list with zeros behind it, number by number and as it is written over zeros; and what each number of a
--- front has.
+-- A front of a list with zeros behind it, number by number and as it is written over zeros.
 use mathlib.Core.Path.{_≡_, sym, _∙_}
 use mathlib.Core.List.{List, _++_}
 use Prim.Native.Nat.{ℕ, _+_, _-_, _≤_, _<_}
@@ -8,9 +7,7 @@ use native.Mathlib.Nat.{zero-add}
 use lib.ListN.{length, take, drop, getD, replicate, List·getD-append, getD-replicate, length-replicate}
 use lib.ListN.{replicate-append-replicate}
 use lib.Seq.{length-take-le, getD-take, getD-append-add, drop-at}
-use Rattle.model.specs.Basics.{All}
 use Rattle.model.specs.Calls.{padded}
-use Rattle.model.proofs.Elements.{all-below}
 use Rattle.problem.proofs.Filled.{length-padded}
 
 module _ (n p : ℕ) (xs : List ℕ) (few : p ≤ n) (long : n ≤ length xs) where
@@ -33,9 +30,6 @@ module _ (n p : ℕ) (xs : List ℕ) (few : p ≤ n) (long : n ≤ length xs) wh
   padded-rest i h l =
       let e : length (take p xs) + (i - p) ≡ i = omega (arith, front-long) in
       rw (← e, getD-append-add, getD-replicate {A = ℕ} (n - length (take p xs)) (i - p) 0 0 (omega (arith, front-long)))
-
-  pub front-each : (P : ℕ → Type 0) → All P (take p xs) → (i : ℕ) → i < p → P (getD xs i 0)
-  front-each P h i l = rw (getD-take p xs i 0 l) at (all-below P (take p xs) h i 0 (omega (arith, front-long)))
 
   -- written over zeros
   pub front-over-zeros : (new : List ℕ) → new ≡ take 0 (replicate n 0) ++ take p xs ++ drop (0 + p) (replicate n 0)

@@ -10,9 +10,10 @@ use lib.ListN.{length, getD, take, drop, set, length-set}
 use lib.Seq.{ext-getD, getD-set-same, getD-set-other, set-split, split-at}
 use Rattle.model.specs.Limits.{maxObjectives, maxVariables, maxPoints}
 use Rattle.model.specs.Frontiers.{Point, point}
+use Rattle.model.proofs.Numbers.{equal-or}
 use Rattle.rows.specs.Rows.{pointIn, listIn, RowWritten}
 use Rattle.rows.proofs.RowParts.{rows-length, rows-more}
-use Rattle.rows.proofs.RowPlaces.{equal-or, rows-at, same-point}
+use Rattle.rows.proofs.RowPlaces.{rows-at, same-point}
 
 -- where the other points stand
 pub list-split : (p n : ℕ) (work : List ℕ) (i c : ℕ) → i < c

@@ -1,4 +1,4 @@
--- A row by its numbers: how many costs and values it has, a front of them, and what they are at most.
+-- A row by its numbers: how many costs and values it has, and a front of them.
 -- Rows that have the same numbers are the same point, so that what stands outside a row does not matter.
 use mathlib.Core.Path.{_≡_, ap₂}
 use mathlib.Core.List.{List}
@@ -6,12 +6,10 @@ use Prim.Native.Nat.{ℕ, _+_, _*_, _/_, _≤_, _<_}
 use native.Mathlib.Omega.{arith}
 use native.Mathlib.Nat.{add-assoc}
 use lib.ListN.{length, getD, take}
-use Rattle.model.specs.Basics.{All}
 use Rattle.model.specs.Limits.{wordEnd}
-use Rattle.model.specs.Encoding.{Byte}
 use Rattle.model.proofs.Points.{point-eq}
 use Rattle.rows.specs.Rows.{rowAt, costAt, valueAt, costsIn, valuesIn, pointIn}
-use Rattle.rows.proofs.Tabulated.{tabulated-length, tabulated-take, tabulated-all, tabulated-same}
+use Rattle.rows.proofs.Tabulated.{tabulated-length, tabulated-take, tabulated-same}
 
 module _ (work : List ℕ) (i : ℕ) where
   pub costs-long : (p : ℕ) → length (costsIn p work i) ≡ p
@@ -30,18 +28,6 @@ module _ (work : List ℕ) (i : ℕ) where
   pub values-front : (n m : ℕ) → n ≤ m → take n (valuesIn m work i) ≡ valuesIn n work i
   unfolding valuesIn
   values-front n m l = tabulated-take (valueAt work (rowAt i + 8)) n 0 m l
-
-  -- every value is a byte, by its form
-  pub values-bytes : (n : ℕ) → All Byte (valuesIn n work i)
-  unfolding valuesIn valueAt
-  values-bytes n = tabulated-all (valueAt work (rowAt i + 8)) Byte (λ v. omega arith) 0 n
-
-  -- every cost fits 64 bits
-  pub costs-fit : ((k : ℕ) → getD work k 0 < wordEnd) → (p : ℕ) → All (λ c. c < wordEnd * wordEnd) (costsIn p work i)
-  unfolding costsIn costAt
-  costs-fit words p =
-      tabulated-all (λ j. costAt work (rowAt i + 2 * j)) (λ c. c < wordEnd * wordEnd)
-      (λ j. omega (arith, words (rowAt i + 2 * j), words (rowAt i + 2 * j + 1))) 0 p
 
 -- the first m numbers of row i of x are those of row j of y
 module _ (x y : List ℕ) (i j m : ℕ) (same : (k : ℕ) → k < m → getD x (rowAt i + k) 0 ≡ getD y (rowAt j + k) 0) where

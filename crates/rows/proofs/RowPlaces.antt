@@ -1,30 +1,17 @@
 -- The listed points by their rows: which row a point stands in, and the part of a row that is a point.
 use mathlib.Core.Path.{_≡_, sym, ap, _∙_}
-use mathlib.Core.Logic.{_⊎_, inl, inr, ⊎-elim}
 use mathlib.Core.List.{List, [], List·Memᴰ as In}
 use Prim.Native.Nat.{ℕ, zero, suc, _+_, _≤_, _<_}
 use native.Mathlib.Omega.{arith}
-use native.Mathlib.Nat.{add-zero, zero-add, eq-or-lt-of-le}
-use lib.Dec.{eqb, ltb}
+use native.Mathlib.Nat.{add-zero, zero-add}
 use lib.ListN.{getD, take}
-use borrow.Author.Tests.{eqb-true, eqb-false, ltb-true, ltb-false}
 use Rattle.model.specs.Limits.{maxObjectives, maxVariables}
 use Rattle.model.specs.Frontiers.{Point, point}
-use Rattle.model.proofs.Bits.{test}
 use Rattle.model.proofs.Elements.{at-in, in-at}
 use Rattle.model.proofs.Points.{point-eq}
 use Rattle.rows.specs.Rows.{costsIn, pointIn, listIn, rowIn}
 use Rattle.rows.proofs.RowParts.{rows-length}
 use Rattle.rows.proofs.RowNumbers.{costs-front, values-front}
-
--- two rows are the same or one comes first
-pub equal-or : (a b : ℕ) → (a ≡ b) ⊎ (a ≡ b → ⊥)
-equal-or a b = ⊎-elim (λ t. inl (eqb-true a b t)) (λ t. inr (eqb-false a b t)) (test (eqb a b))
-
-pub one-first : (a b : ℕ) → (a ≡ b → ⊥) → (a < b) ⊎ (b < a)
-one-first a b n =
-    ⊎-elim (λ t. inl (ltb-true a b t))
-    (λ t. ⊎-elim (λ e. absurd (n (sym e))) (λ l. inr l) (eq-or-lt-of-le (ltb-false a b t))) (test (ltb a b))
 
 module _ (p n : ℕ) (work : List ℕ) where
   pub rows-at : (i k j : ℕ) (none : Point) → j < k → getD (listIn p n work i k) j none ≡ pointIn p n work (i + j)

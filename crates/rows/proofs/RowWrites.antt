@@ -9,6 +9,7 @@ use lib.Seq.{length-take-le, getD-take, getD-drop}
 use Rattle.model.specs.Limits.{maxObjectives, maxVariables, maxPoints, wordEnd}
 use Rattle.model.specs.Frontiers.{Point, point}
 use Rattle.model.specs.Calls.{padded}
+use Rattle.model.proofs.Lists.{getD-later}
 use Rattle.model.proofs.Points.{point-eq}
 use Rattle.problem.proofs.Filled.{take-padded}
 use Rattle.layout.specs.Layout.{listEnd, rowWidth}
@@ -83,12 +84,8 @@ module _ (work work′ : List ℕ) (j k : ℕ) (l : j ≤ maxPoints) (few : k �
     where
       behind : (m : ℕ) → rowAt k + rowWidth ≤ m → getD work′ m 0 ≡ getD work m 0
       behind m h =
-          let rest : drop m work′ ≡ drop m work =
-          rw is (over-behind work (rowAt k) numbers (rowAt k + rowWidth) ends inside m h) in
-          sym (first work′ m) ∙ ap (λ (xs : List ℕ). getD xs 0 0) rest ∙ first work m
-        where
-          first : (xs : List ℕ) (i : ℕ) → getD (drop i xs) 0 0 ≡ getD xs i 0
-          first xs i = getD-drop i xs 0 0 ∙ ap (λ (m : ℕ). getD xs m 0) (omega arith)
+          getD-later 0 m m work′ work (omega arith)
+          (rw is (over-behind work (rowAt k) numbers (rowAt k + rowWidth) ends inside m h))
 
   pub row-copied : RowWritten work k (rowIn work j) work′
   row-copied =

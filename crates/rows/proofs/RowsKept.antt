@@ -1,31 +1,26 @@
 -- Rows and numbers that stay where memory is the same from a place on, before the list, or in a part that was copied.
 use mathlib.Core.Path.{_≡_, refl, sym, ap, ap₂, _∙_}
 use mathlib.Core.List.{List, _∷_}
-use Prim.Native.Nat.{ℕ, zero, suc, _+_, _-_, _*_, _/_, _≤_, _<_}
+use Prim.Native.Nat.{ℕ, zero, suc, _+_, _*_, _/_, _≤_, _<_}
 use native.Mathlib.Omega.{arith}
 use lib.ListN.{getD, take, drop}
 use lib.Seq.{getD-take, getD-drop, take-take}
 use Rattle.model.specs.Limits.{maxObjectives, maxVariables}
+use Rattle.model.proofs.Lists.{take-drop, getD-later}
 use Rattle.layout.specs.Layout.{listAt, rowWidth}
-use Rattle.groups.proofs.Overwritten.{take-drop}
 use Rattle.rows.specs.Rows.{rowAt, costsIn, pointIn, listIn, Framed}
 use Rattle.rows.proofs.RowNumbers.{equal-costs, equal-points}
 
 -- the same from a place on
 module _ (at : ℕ) (x y : List ℕ) (behind : drop at x ≡ drop at y) where
-  behind-number : (k : ℕ) → at ≤ k → getD x k 0 ≡ getD y k 0
-  behind-number k l =
-      let e : at + (k - at) ≡ k = omega arith in
-      rw e at
-      (sym (getD-drop at x (k - at) 0) ∙ ap (λ (u : List ℕ). getD u (k - at) 0) behind ∙ getD-drop at y (k - at) 0)
-
   pub behind-costs : (p i : ℕ) → at ≤ rowAt i → costsIn p x i ≡ costsIn p y i
-  behind-costs p i l = equal-costs x y i i (2 * p) (λ k h. behind-number (rowAt i + k) (omega arith)) p (omega arith)
+  behind-costs p i l =
+      equal-costs x y i i (2 * p) (λ k h. getD-later 0 at (rowAt i + k) x y (omega arith) behind) p (omega arith)
 
   behind-point : (p n i : ℕ) → at ≤ rowAt i → pointIn p n x i ≡ pointIn p n y i
   behind-point p n i l =
       let m = 2 * p + (8 + (n + 3) / 4) in
-      equal-points x y i i m (λ k h. behind-number (rowAt i + k) (omega arith)) p n (omega arith) (omega arith)
+      equal-points x y i i m (λ k h. getD-later 0 at (rowAt i + k) x y (omega arith) behind) p n (omega arith) (omega arith)
 
   pub behind-rows : (p n i k : ℕ) → at ≤ rowAt i → listIn p n x i k ≡ listIn p n y i k
   unfolding listIn

@@ -3,11 +3,11 @@ use mathlib.Core.Path.{_≡_, refl, sym, ap, _∙_}
 use mathlib.Core.List.{List, [], _++_, append-assoc, append-nil}
 use Prim.Native.Nat.{ℕ, zero, suc, _+_, _*_, _≤_, _<_}
 use native.Mathlib.Omega.{arith}
-use native.Mathlib.Nat.{suc-mul, zero-mul, zero-add, add-zero, mul-le-mul-right}
+use native.Mathlib.Nat.{suc-mul, zero-mul, zero-add, add-zero}
 use native.Mathlib.Numerals.{add-one}
 use lib.ListN.{length, take, drop, length-append, length-drop}
 use Rattle.model.specs.Calls.{over}
-use Rattle.rows.proofs.Copied.{written-behind}
+use Rattle.model.proofs.Lists.{written-behind}
 
 -- the parts of k rows, from row i on
 unfoldable pub joined : (ℕ → List ℕ) → ℕ → ℕ → List ℕ
@@ -20,10 +20,6 @@ joined-next part i zero = rw (add-zero, append-nil)
 joined-next part i (suc k) =
     let e : i + 1 + k ≡ i + suc k = omega arith in
     ap (_++_ (part i)) (joined-next part (i + 1) k) ∙ rw (append-assoc, e)
-
--- where the rows below k have room, row `row` has
-pub row-room : (b k row all : ℕ) → k * b ≤ all → row < k → row * b + b ≤ all
-row-room b k row all r h = omega (arith, r, mul-le-mul-right b h, suc-mul row b)
 
 -- `row` of them are written
 pub record Out (part : ℕ → List ℕ) (b : ℕ) (old new : List ℕ) (row : ℕ) : Type 0 where

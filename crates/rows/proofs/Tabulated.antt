@@ -7,7 +7,6 @@ use native.Mathlib.Omega.{arith}
 use native.Mathlib.Nat.{add-zero, zero-add}
 use lib.ListN.{length, getD, take}
 use lib.Seq.{ext-getD}
-use Rattle.model.specs.Basics.{All}
 use Rattle.rows.specs.Rows.{tabulated}
 
 module _ (f : ℕ → ℕ) where
@@ -29,11 +28,6 @@ module _ (f : ℕ → ℕ) where
   tabulated-take zero i k l = refl
   tabulated-take (suc p) i zero l = absurd (omega arith)
   tabulated-take (suc p) i (suc k) l = ap (_∷_ (f i)) (tabulated-take p (i + 1) k (omega arith))
-
-  pub tabulated-all : (P : ℕ → Type 0) → ((j : ℕ) → P (f j)) → (i k : ℕ) → All P (tabulated f i k)
-  unfolding tabulated
-  tabulated-all P h i zero = tt
-  tabulated-all P h i (suc k) = (h i, tabulated-all P h (i + 1) k)
 
 -- equal number by number, to another list and to what another function gives
 pub tabulated-is : (f : ℕ → ℕ) (xs : List ℕ) (k : ℕ) → length xs ≡ k → ((j : ℕ) → j < k → f j ≡ getD xs j 0)

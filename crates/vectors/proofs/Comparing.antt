@@ -7,8 +7,8 @@ use native.Mathlib.Omega.{arith}
 use lib.ListN.{length, getD, take, drop}
 use borrow.Author.Tests.{lt-ltb, le-ltb, eq-eqb, ne-eqb}
 use Rattle.model.specs.Vectors.{earlier}
+use Rattle.model.proofs.Lists.{front-cons, front-end}
 use Rattle.vectors.specs.Fronts.{frontEarlier}
-use Rattle.vectors.proofs.Fronts.{front-cons, front-end}
 
 -- the first i numbers are equal
 pub record Comparing (p : ℕ) (a b : List ℕ) (i : ℕ) : Type 0 where
@@ -23,15 +23,15 @@ module _ {p : ℕ} {a b : List ℕ} {i : ℕ} (u : Comparing p a b i) (la : p �
     pub comparing-less : getD a i 0 < getD b i 0 → true ≡ frontEarlier p a b
     unfolding earlier
     comparing-less l =
-        sym (u .left ∙ rw (front-cons p a la i h, front-cons p b lb i h, lt-ltb (getD a i 0) (getD b i 0) l))
+        sym (u .left ∙ rw (front-cons 0 p a la i h, front-cons 0 p b lb i h, lt-ltb (getD a i 0) (getD b i 0) l))
 
     pub comparing-more : getD b i 0 < getD a i 0 → false ≡ frontEarlier p a b
     unfolding earlier
     comparing-more l =
         sym (u .left
         ∙ rw (
-          front-cons p a la i h,
-          front-cons p b lb i h,
+          front-cons 0 p a la i h,
+          front-cons 0 p b lb i h,
           le-ltb (getD a i 0) (getD b i 0) (omega arith),
           ne-eqb (getD a i 0) (getD b i 0) (λ e. omega arith),
         ))
@@ -43,8 +43,8 @@ module _ {p : ℕ} {a b : List ℕ} {i : ℕ} (u : Comparing p a b i) (la : p �
       left =
           u .left
           ∙ rw (
-            front-cons p a la i h,
-            front-cons p b lb i h,
+            front-cons 0 p a la i h,
+            front-cons 0 p b lb i h,
             le-ltb (getD a i 0) (getD b i 0) (omega arith),
             eq-eqb (getD a i 0) (getD b i 0) e,
           );

@@ -3,9 +3,8 @@ use mathlib.Core.Path.{_≡_, refl, sym, ap, _∙_}
 use mathlib.Core.List.{List, [], _∷_}
 use Prim.Native.Nat.{ℕ, zero, suc, _+_, _≤_, _<_}
 use native.Mathlib.Omega.{arith}
-use native.Mathlib.Nat.{add-zero}
 use lib.ListN.{length, getD, take, drop, length-drop}
-use lib.Seq.{take-all, getD-take, getD-drop}
+use lib.Seq.{take-all, getD-drop}
 use Rattle.model.specs.Basics.{All}
 use Rattle.model.specs.Limits.{maxObjectives, wordEnd}
 use Rattle.model.specs.Vectors.{added}
@@ -14,7 +13,7 @@ use Rattle.vectors.specs.Fronts.{Half}
 abbrev pub listed : (ℕ → ℕ) → List ℕ
 listed f = f 0 ∷ f 1 ∷ f 2 ∷ f 3 ∷ []
 
--- four numbers of a list, at its start and from a place on
+-- four numbers of a list
 pub four-listed : (xs : List ℕ) → maxObjectives ≤ length xs → take maxObjectives xs ≡ listed (λ i. getD xs i 0)
 four-listed [] h = absurd (omega arith)
 four-listed (a ∷ []) h = absurd (omega arith)
@@ -24,14 +23,6 @@ four-listed (a ∷ b ∷ c ∷ d ∷ xs) h = refl
 
 pub four-all : (xs : List ℕ) → length xs ≡ maxObjectives → listed (λ i. getD xs i 0) ≡ xs
 four-all xs e = sym (four-listed xs (omega arith)) ∙ take-all maxObjectives xs (omega arith)
-
-pub four-from : (xs : List ℕ) (at : ℕ) → at + maxObjectives ≤ length xs
-    → getD xs at 0 ∷ getD xs (at + 1) 0 ∷ getD xs (at + 2) 0 ∷ getD xs (at + 3) 0 ∷ [] ≡ take maxObjectives (drop at xs)
-four-from xs at h = sym (four-listed (drop at xs) (omega (arith, length-drop at xs)) ∙ simp (getD-drop, add-zero))
-
-pub four-at : (xs : List ℕ) (at : ℕ) (c : List ℕ) → c ≡ take maxObjectives (drop at xs) → (o : ℕ) → o < maxObjectives
-    → getD c o 0 ≡ getD xs (at + o) 0
-four-at xs at c e o l = rw (e, getD-take maxObjectives (drop at xs) o 0 l, getD-drop at xs o 0)
 
 -- four words from a place on are of half the range
 pub four-half : (xs : List ℕ) (at : ℕ) → at + maxObjectives ≤ length xs → ((i : ℕ) → getD xs i 0 < wordEnd)
@@ -47,14 +38,7 @@ at-listed f (suc (suc zero)) l = refl
 at-listed f (suc (suc (suc zero))) l = refl
 at-listed f (suc (suc (suc (suc o)))) l = absurd (omega arith)
 
--- sums of two vectors: the first p, and of four numbers one by one
-pub take-added : (p : ℕ) (xs ys : List ℕ) → take p (added xs ys) ≡ added (take p xs) (take p ys)
-unfolding added
-take-added zero xs ys = refl
-take-added (suc p) [] ys = refl
-take-added (suc p) (x ∷ xs) [] = refl
-take-added (suc p) (x ∷ xs) (y ∷ ys) = ap (_∷_ (x + y)) (take-added p xs ys)
-
+-- sums of two vectors, of four numbers one by one
 pub added-listed : (xs ys : List ℕ) → length xs ≡ maxObjectives → length ys ≡ maxObjectives
     → listed (λ o. getD xs o 0 + getD ys o 0) ≡ added xs ys
 unfolding added

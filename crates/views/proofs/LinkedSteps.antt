@@ -1,7 +1,7 @@
 -- The search for a record that has both sides, one record at a time.
 use mathlib.Core.Path.{_≡_, refl, sym, _∙_}
-use mathlib.Core.Logic.{_⊎_, inl, inr}
-use mathlib.Core.Bool.{Bool, true, false, _&&_, false≢true}
+use mathlib.Core.Logic.{_⊎_}
+use mathlib.Core.Bool.{Bool, true, false, _&&_}
 use mathlib.Core.List.{List}
 use Prim.Native.Nat.{ℕ, zero, suc, _+_, _-_, _<_}
 use native.Mathlib.Omega.{arith}
@@ -10,6 +10,7 @@ use Rattle.model.specs.Basics.{pick}
 use Rattle.model.specs.Refusals.{Verdict, verdict, linked, accepted}
 use Rattle.model.specs.Reading.{tableScope, tableLength, tableOf, tablesAt, placesAt}
 use Rattle.model.specs.Cuts.{hasSide, crosses, linkedVerdict}
+use Rattle.model.proofs.Bits.{and-false}
 use Rattle.problem.specs.Records.{Whole, AllWhole}
 use Rattle.costs.proofs.RecordSteps.{whole-next}
 
@@ -19,11 +20,6 @@ linkedFrom ds s ss r at = linkedVerdict ss (tablesAt r ds s at) (placesAt r ds s
 
 abbrev both : List ℕ → List ℕ → ℕ → Bool
 both s ss at = hasSide 0 ss (tableScope (drop at s)) && hasSide 1 ss (tableScope (drop at s))
-
-not-both : (a b : Bool) → (a ≡ false) ⊎ (b ≡ false) → (a && b) ≡ false
-not-both true b (inl e) = absurd (false≢true (sym e))
-not-both true b (inr e) = e
-not-both false b e = refl
 
 linked-next : (ds s ss : List ℕ) (r at : ℕ) → 0 < r
     → linkedFrom ds s ss r at
@@ -61,5 +57,5 @@ module _ {ds s ss : List ℕ} {r at here left : ℕ} (u : Linking ds s ss r at h
     linking-next e width wide =
         record {
           whole = rw wide (whole-next left ds s here more (u .whole) .1);
-          rest = rw (linked-next ds s ss left here more, not-both _ _ e, ← wide) at (u .rest);
+          rest = rw (linked-next ds s ss left here more, and-false _ _ e, ← wide) at (u .rest);
         }

@@ -1,6 +1,6 @@
 -- The sides of a scope's variables and of a side list, one at a time, and a scope that lies on a side.
-use mathlib.Core.Path.{_≡_, refl}
-use mathlib.Core.Bool.{Bool, true, false, _&&_}
+use mathlib.Core.Path.{_≡_}
+use mathlib.Core.Bool.{_&&_, and-true}
 use mathlib.Core.List.{List, [], _∷_}
 use Prim.Native.Nat.{ℕ, _+_, _≤_, _<_}
 use native.Mathlib.Omega.{arith}
@@ -12,6 +12,7 @@ use Rattle.model.specs.Problems.{InRange}
 use Rattle.model.specs.Reading.{tableArity, tableScope}
 use Rattle.model.specs.Cuts.{allSides, inHalf}
 use Rattle.model.specs.Views.{allOn, within}
+use Rattle.model.proofs.Bits.{and-again}
 use Rattle.model.proofs.Elements.{all-drop}
 use Rattle.problem.specs.Records.{Whole}
 use Rattle.problem.proofs.Scopes.{arity-inside, scope-next, whole-inside}
@@ -31,19 +32,11 @@ pub whole-sides : {ds s : List ℕ} {at : ℕ} (ss : List ℕ) → length ss ≡
 whole-sides {ds} {s} {at} ss e w = (whole-inside ds s at w, rw e (w .range))
 
 -- a scope without variables lies on side 0
-and-true : (b : Bool) → (b && true) ≡ b
-and-true true = refl
-and-true false = refl
-
 pub within-none : (k : ℕ) (ss : List ℕ) → within k ss [] ≡ eqb k 0
 unfolding inHalf allOn
 within-none k ss = and-true (eqb k 0)
 
 -- another lies where all its variables do
-and-again : (a b : Bool) → (a && (a && b)) ≡ (a && b)
-and-again true b = refl
-and-again false b = refl
-
 pub within-some : (k : ℕ) (ss : List ℕ) (v : ℕ) (vs : List ℕ) → within k ss (v ∷ vs) ≡ allOn k ss (v ∷ vs)
 unfolding inHalf allOn
 within-some k ss v vs = and-again (eqb (getD ss v 0) k) (allOn k ss vs)

@@ -2,8 +2,9 @@
 use Prim.Native.Nat.{_+_, _*_, _<_}
 use native.Mathlib.Omega.{arith}
 use denote.Ref.{now}
-use Rattle.branch_buckets.proofs.Runs.{byte-times, start-small, message-start-is}
+use Rattle.branch_buckets.proofs.Runs.{start-small, message-start-is}
 use borrow.Author.Needs.{needs}
+use Rattle.model.proofs.Numbers.{byte-times}
 use Rattle.branch_buckets.proofs.message_start.Statement.{statement}
 use Rattle.branch_buckets.proofs.message_start.Tie as tie
 

@@ -5,7 +5,7 @@ use Prim.Native.Nat.{_-_, _*_, _≤_}
 use native.Mathlib.Omega.{arith}
 use lib.ListN.{getD, take, drop}
 use Rattle.branch_directions.specs.Directions.{directionsOf}
-use Rattle.branch_buckets.proofs.DirectedRows.{weights-sixteen}
+use Rattle.branch_directions.proofs.Widths.{weights-long}
 use Rattle.branch_buckets.proofs.RowSteps.{RowsFilled, rows-start, rows-next}
 use Rattle.branch_buckets.proofs.put_rows.Statement.{statement}
 use Rattle.branch_buckets.proofs.put_rows.Tie as tie
@@ -24,7 +24,7 @@ abbrev μ-loop : tie.MeasureT-loop
 slice-aggregate-put-directions : tie.Need-slice-aggregate-put-directions Inv-loop μ-loop
 slice-aggregate-put-directions c =
     let s = c .before .before .before .before .before .before in
-    sym (weights-sixteen (s .args .d) _ (s .good .1 .1 .0))
+    sym (weights-long (s .args .d) _ (s .good .1 .1 .0))
 
 put-directions-requires : tie.Need-put-directions-requires Inv-loop μ-loop
 put-directions-requires c κs =
@@ -35,7 +35,7 @@ put-directions-requires c κs =
       λ o l. q .3 (w .a) o (omega arith) l,
       q .0 .few,
       q .0 .few-sums,
-      omega (arith, weights-sixteen (s .args .d) _ (s .good .1 .1 .0)),
+      omega (arith, weights-long (s .args .d) _ (s .good .1 .1 .0)),
       q .0 .small,
       omega (arith, w .inv .1 .long, q .4, q .1),
       λ i h. w .inv .1 .rest i h ∙ q .5 i,

@@ -1,8 +1,9 @@
 -- `branch_buckets::term_of` meets its contract, by the laws of `Runs`.
 use native.Mathlib.Omega.{arith}
 use denote.Ref.{now}
-use Rattle.branch_buckets.proofs.Runs.{byte-times, own-term, other-term}
+use Rattle.branch_buckets.proofs.Runs.{own-term, other-term}
 use borrow.Author.Needs.{needs}
+use Rattle.model.proofs.Numbers.{byte-times}
 use Rattle.branch_buckets.proofs.term_of.Statement.{statement}
 use Rattle.branch_buckets.proofs.term_of.Tie as tie
 

@@ -3,14 +3,14 @@ use native.Mathlib.Omega.{arith}
 use Prim.Native.Nat.{_*_}
 use mir.Syntax.{w64}
 use Rattle.rows.proofs.Arrays.{array-length}
-use Rattle.branch_directions.proofs.TableRows.{row-read}
 use borrow.Author.Needs.{needs}
+use Rattle.model.proofs.Lists.{four-read}
 use Rattle.branch_directions.proofs.row_of.Statement.{statement}
 use Rattle.branch_directions.proofs.row_of.Tie as tie
 
 returns : tie.Need-returns
 returns c =
-    row-read (c .args .t1) (4 * c .args .i) (omega (arith, c .pre, array-length w64 16 (c .args .t1) _ (c .good .0)))
+    four-read 0 (c .args .t1) (4 * c .args .i) (omega (arith, c .pre, array-length w64 16 (c .args .t1) _ (c .good .0)))
 
 pub row-of-spec : {M : Type 1} → statement M
 row-of-spec =

@@ -5,10 +5,10 @@ use native.Mathlib.Omega.{arith}
 use lib.ListN.{getD}
 use mir.Syntax.{w64}
 use Rattle.model.specs.Limits.{maxObjectives}
-use Rattle.model.proofs.Elements.{all-at}
+use Rattle.model.proofs.Numbers.{four-each}
+use Rattle.model.proofs.Elements.{all-at, front-map}
 use Rattle.rows.proofs.Arrays.{array-length}
 use Rattle.branch_directions.specs.Shares.{maxShare}
-use Rattle.branch_directions.proofs.TableRows.{ones-kept, four-each}
 use borrow.Author.Needs.{needs}
 use Rattle.branch_directions.proofs.sum_weights.Statement.{statement}
 use Rattle.branch_directions.proofs.sum_weights.Tie as tie
@@ -44,7 +44,7 @@ returns c =
         ),
       ),
       λ p.
-          ones-kept p shares weights (omega (arith, long)) (λ j l.
+          front-map (λ x. 1 ≤ x) (λ x. 1 ≤ x) 0 p shares weights (omega (arith, long)) (λ j l.
           four-each (λ k. 1 ≤ getD shares k 0 → 1 ≤ getD weights k 0)
           (λ h. at .weight-of .ensures .1 (rates .before .before .before .rate-of .ensures h))
           (λ h. c .before .before .weight-of2 .ensures .1 (rates .before .before .rate-of2 .ensures h))

@@ -9,11 +9,12 @@ use borrow.Author.Needs.{needs}
 use denote.Ref.{now}
 use Rattle.model.specs.Core.{coreFrontier}
 use Rattle.groups.proofs.Tasks.{ceilings-long}
+use Rattle.branch_directions.proofs.Widths.{weights-long}
 use Rattle.branch_search.specs.declared.Explored as DE
 use Rattle.branch_search.specs.States.{problemOf, taskProblem, Ready, Still, Between, ExploredSays}
 use Rattle.branch_search.proofs.Memory.{still-refl, still-trans, ready-still}
 use Rattle.branch_search.proofs.Passes.{first-between, passed-between, passed-full, passed-list, between-still}
-use Rattle.branch_search.proofs.Passes.{between-later, explored-still, weights-long, undecided}
+use Rattle.branch_search.proofs.Passes.{between-later, explored-still, undecided}
 use Rattle.branch_search.proofs.explore.Statement.{statement}
 use Rattle.branch_search.proofs.explore.Tie as tie
 

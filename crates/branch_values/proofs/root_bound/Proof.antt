@@ -11,7 +11,7 @@ use Rattle.model.proofs.Elements.{all-below}
 use Rattle.branch_directions.specs.Directions.{maxDirections}
 use Rattle.branch_buckets.specs.Bounds.{baseAt}
 use Rattle.branch_directions.proofs.Widths.{width-few}
-use Rattle.model.proofs.Zeros.{front-zeros, zeros-at, zeros-set, zeros-choice}
+use Rattle.model.proofs.Zeros.{zeros-at, zeros-set, zeros-choice, front-same}
 use borrow.Author.Needs.{needs}
 use Rattle.branch_values.proofs.root_bound.Statement.{statement}
 use Rattle.branch_values.proofs.root_bound.Tie as tie
@@ -20,7 +20,7 @@ module _ (s : tie.Start) where
   zeros :
       take {A = ℕ} (length (now (s .args .sizes))) (replicate maxVariables 0)
       ≡ replicate (length (now (s .args .sizes))) 0
-  zeros = front-zeros (length (now (s .args .sizes))) maxVariables (s .pre .0 .variables)
+  zeros = front-same (length (now (s .args .sizes))) maxVariables 0 (s .pre .0 .variables)
 
   first-value : 0 < getD (now (s .args .sizes)) 0 0
   first-value = all-below DomainSize (now (s .args .sizes)) (s .pre .0 .small) 0 0 (s .pre .3) .0

@@ -8,9 +8,9 @@ use mir.Syntax.{w64}
 use Rattle.model.specs.Limits.{maxObjectives}
 use Rattle.model.specs.Core.{coreSumEnd}
 use Rattle.model.specs.Calls.{padded}
+use Rattle.model.proofs.Elements.{front-each}
 use Rattle.problem.proofs.Filled.{padded-step, take-padded}
 use Rattle.rows.proofs.Arrays.{array-length}
-use Rattle.rows.proofs.PaddedParts.{front-each}
 use Rattle.cut_sums.proofs.Adding.{frontsAdded, sums-long, sums-more}
 use borrow.Author.Needs.{needs}
 use Rattle.cut_sums.proofs.costs_sum.Statement.{statement}
@@ -45,8 +45,8 @@ add-sum c =
     let s = c .before .before in
     let a = s .args in
     let small : ℕ → Type 0 = λ c. c < coreSumEnd in
-    let x = front-each maxObjectives (a .p) (a .t1) (s .pre .0) (wide-x s) small (s .pre .1) (w .i) (omega arith) in
-    let y = front-each maxObjectives (a .p) (a .t2) (s .pre .0) (wide-y s) small (s .pre .2) (w .i) (omega arith) in
+    let x = front-each small 0 (a .p) (a .t1) (long-x s) (s .pre .1) (w .i) (omega arith) in
+    let y = front-each small 0 (a .p) (a .t2) (long-y s) (s .pre .2) (w .i) (omega arith) in
     omega (arith, x, y)
 
 loop-again : tie.Need-loop-again Inv-loop μ-loop

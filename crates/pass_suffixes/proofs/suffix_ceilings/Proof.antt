@@ -7,7 +7,7 @@ use native.Mathlib.Numerals.{add-one}
 use lib.ListN.{length, replicate}
 use lib.Seq.{take-suc-set}
 use Rattle.model.specs.Limits.{maxObjectives}
-use Rattle.pass_suffixes.proofs.SideLists.{front-same}
+use Rattle.model.proofs.Zeros.{front-same}
 use borrow.Author.Needs.{needs}
 use Rattle.pass_suffixes.proofs.suffix_ceilings.Statement.{statement}
 use Rattle.pass_suffixes.proofs.suffix_ceilings.Tie as tie

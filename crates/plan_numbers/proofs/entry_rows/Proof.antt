@@ -3,9 +3,9 @@
 use mathlib.Core.Path.{_≡_}
 use Prim.Native.Nat.{_≤_, _-_}
 use native.Mathlib.Omega.{arith}
-use Rattle.plan_memory.proofs.Products.{product-small}
 use lib.ListN.{length}
 use borrow.Author.Needs.{needs}
+use Rattle.model.proofs.Numbers.{product-small}
 use Rattle.plan_numbers.proofs.entry_rows.Statement.{statement}
 use Rattle.plan_numbers.proofs.entry_rows.Tie as tie
 

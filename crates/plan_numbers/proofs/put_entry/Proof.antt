@@ -2,11 +2,11 @@
 use mathlib.Core.Path.{_≡_}
 use Prim.Native.Nat.{_≤_, _-_}
 use native.Mathlib.Omega.{arith}
-use Rattle.plan_memory.proofs.Products.{product-small}
 use lib.ListN.{length}
 use Rattle.plan_memory.specs.Arranged.{Loose}
 use Rattle.plan_memory.proofs.Arranging.{loose-refl, loose-trans}
 use borrow.Author.Needs.{needs}
+use Rattle.model.proofs.Numbers.{product-small}
 use Rattle.plan_numbers.proofs.put_entry.Statement.{statement}
 use Rattle.plan_numbers.proofs.put_entry.Tie as tie
 

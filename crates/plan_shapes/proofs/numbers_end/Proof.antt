@@ -1,7 +1,7 @@
 -- `plan_shapes::numbers_end` meets its contract.
 use native.Mathlib.Omega.{arith}
-use Rattle.plan_memory.proofs.Products.{product-small}
 use borrow.Author.Needs.{needs}
+use Rattle.model.proofs.Numbers.{product-small}
 use Rattle.plan_shapes.proofs.numbers_end.Statement.{statement}
 use Rattle.plan_shapes.proofs.numbers_end.Tie as tie
 

@@ -1,8 +1,8 @@
 -- `plan_shapes::pair_shape` meets its contract. Products of three numbers up to 8 fit.
 use Prim.Native.Nat.{_*_, _≤_}
 use native.Mathlib.Omega.{arith}
-use Rattle.plan_memory.proofs.Products.{product-small}
 use borrow.Author.Needs.{needs}
+use Rattle.model.proofs.Numbers.{product-small}
 use Rattle.plan_shapes.proofs.pair_shape.Statement.{statement}
 use Rattle.plan_shapes.proofs.pair_shape.Tie as tie
 

@@ -1,8 +1,8 @@
 -- `plan_shapes::room_for` meets its contract.
 use Prim.Native.Nat.{_+_}
 use native.Mathlib.Omega.{arith}
-use Rattle.plan_memory.proofs.Products.{product-small}
 use borrow.Author.Needs.{needs}
+use Rattle.model.proofs.Numbers.{product-small}
 use Rattle.plan_shapes.proofs.room_for.Statement.{statement}
 use Rattle.plan_shapes.proofs.room_for.Tie as tie
 

@@ -1,7 +1,7 @@
 -- `plan_shapes::shape_of` meets its contract.
 use native.Mathlib.Omega.{arith}
-use Rattle.plan_memory.proofs.Products.{product-small}
 use borrow.Author.Needs.{needs}
+use Rattle.model.proofs.Numbers.{product-small}
 use Rattle.plan_shapes.proofs.shape_of.Statement.{statement}
 use Rattle.plan_shapes.proofs.shape_of.Tie as tie
 

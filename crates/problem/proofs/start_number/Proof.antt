@@ -5,7 +5,7 @@ use borrow.Author.Needs.{needs}
 use borrow.Author.Tests.{lt-ltb, le-ltb, eq-eqb, ne-eqb}
 use Rattle.model.specs.Basics.{firstOf}
 use Rattle.model.specs.Reading.{startNumber}
-use Rattle.problem.proofs.Behind.{getD-first}
+use Rattle.model.proofs.Lists.{getD-first}
 use Rattle.problem.proofs.start_number.Statement.{statement}
 use Rattle.problem.proofs.start_number.Tie as tie
 

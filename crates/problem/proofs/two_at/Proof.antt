@@ -3,7 +3,7 @@ use Prim.Native.Nat.{_+_}
 use native.Mathlib.Omega.{arith}
 use lib.Seq.{getD-drop}
 use Rattle.model.specs.Reading.{word2}
-use Rattle.problem.proofs.Behind.{getD-first}
+use Rattle.model.proofs.Lists.{getD-first}
 use borrow.Author.Needs.{needs}
 use Rattle.problem.proofs.two_at.Statement.{statement}
 use Rattle.problem.proofs.two_at.Tie as tie

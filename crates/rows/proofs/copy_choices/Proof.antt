@@ -5,8 +5,9 @@ use native.Mathlib.Omega.{arith}
 use lib.ListN.{length, take}
 use denote.Ref.{now}
 use Rattle.model.specs.Limits.{maxVariables}
+use Rattle.model.proofs.Numbers.{row-room}
 use Rattle.rows.specs.Rows.{valuesIn}
-use Rattle.rows.proofs.RowsOut.{Out, row-room, out-start, out-length, out-next}
+use Rattle.rows.proofs.RowsOut.{Out, out-start, out-length, out-next}
 use Rattle.rows.proofs.RowParts.{flat-choices}
 use Rattle.rows.proofs.RowNumbers.{values-long, values-front}
 use Rattle.rows.proofs.copy_choices.Statement.{statement}

@@ -6,8 +6,9 @@ use native.Mathlib.Nat.{zero-add}
 use lib.ListN.{length, take}
 use denote.Ref.{now}
 use Rattle.model.specs.Limits.{maxObjectives}
+use Rattle.model.proofs.Numbers.{row-room}
 use Rattle.rows.specs.Rows.{costsIn, WordCosts}
-use Rattle.rows.proofs.RowsOut.{Out, row-room, out-start, out-length, out-next}
+use Rattle.rows.proofs.RowsOut.{Out, out-start, out-length, out-next}
 use Rattle.rows.proofs.RowParts.{flat-costs, row-has}
 use Rattle.rows.proofs.RowNumbers.{costs-long, costs-front}
 use Rattle.rows.proofs.copy_costs.Statement.{statement}

@@ -7,9 +7,9 @@ use mir.Syntax.{w64}
 use denote.Ref.{now}
 use Rattle.model.specs.Limits.{maxObjectives}
 use Rattle.model.specs.Problems.{Word}
+use Rattle.model.proofs.Elements.{front-each}
 use Rattle.rows.proofs.Arrays.{array-length}
 use Rattle.rows.proofs.Copied.{Copied, copied-start, copied-length, copied-next, copied-end}
-use Rattle.rows.proofs.PaddedParts.{front-each}
 use Rattle.rows.proofs.put_costs.Statement.{statement}
 use Rattle.rows.proofs.put_costs.Tie as tie
 
@@ -32,7 +32,7 @@ cast-costs c =
     let s = c .before .before in
     omega (
       arith,
-      front-each maxObjectives (s .args .count) (s .args .t1) (s .pre .0) (long-row s) Word (s .pre .2)
+      front-each Word 0 (s .args .count) (s .args .t1) (omega (arith, s .pre .0, long-row s)) (s .pre .2)
           (c .before .loop .i) (omega arith),
     )
 

@@ -9,8 +9,9 @@ use borrow.Author.Tests.{le-leb, lt-leb}
 use mir.Syntax.{w64}
 use Rattle.model.specs.Limits.{maxObjectives}
 use Rattle.model.specs.Vectors.{atMost}
+use Rattle.model.proofs.Lists.{front-cons, front-end}
 use Rattle.vectors.specs.Fronts.{frontAtMost}
-use Rattle.vectors.proofs.Fronts.{array-front, front-cons, front-end}
+use Rattle.vectors.proofs.Fronts.{array-front}
 use Rattle.vectors.proofs.is_at_most.Statement.{statement}
 use Rattle.vectors.proofs.is_at_most.Tie as tie
 
@@ -25,13 +26,13 @@ module _ (s : tie.Start Inv-loop μ-loop) (i : ℕ) (h : i < s .args .p) where
   left-a :
       drop i (take (s .args .p) (s .args .t1)) ≡ getD (s .args .t1) i 0 ∷ drop (i + 1) (take (s .args .p) (s .args .t1))
   left-a =
-      front-cons (s .args .p) (s .args .t1)
+      front-cons 0 (s .args .p) (s .args .t1)
       (array-front w64 maxObjectives (s .args .t1) _ (s .good .0) (s .args .p) (s .pre)) i h
 
   left-b :
       drop i (take (s .args .p) (s .args .t2)) ≡ getD (s .args .t2) i 0 ∷ drop (i + 1) (take (s .args .p) (s .args .t2))
   left-b =
-      front-cons (s .args .p) (s .args .t2)
+      front-cons 0 (s .args .p) (s .args .t2)
       (array-front w64 maxObjectives (s .args .t2) _ (s .good .1 .0) (s .args .p) (s .pre)) i h
 
 returns : tie.Need-returns Inv-loop μ-loop

@@ -2,7 +2,7 @@
 use Prim.Native.Nat.{_+_}
 use native.Mathlib.Omega.{arith}
 use denote.Ref.{now}
-use Rattle.vectors.proofs.Fours.{four-from}
+use Rattle.model.proofs.Lists.{four-read}
 use borrow.Author.Needs.{needs}
 use Rattle.vectors.proofs.numbers_at.Statement.{statement}
 use Rattle.vectors.proofs.numbers_at.Tie as tie
@@ -22,7 +22,7 @@ cast-t21 c = omega (arith, c .shared-slice-known4 .given (c .before .before .bef
 returns : tie.Need-returns
 returns c =
     let s = c .before .before .before .before in
-    four-from (now (s .args .work)) (s .args .at) (s .pre)
+    four-read 0 (now (s .args .work)) (s .args .at) (s .pre)
 
 pub numbers-at-spec : {M : Type 1} → statement M
 numbers-at-spec =
