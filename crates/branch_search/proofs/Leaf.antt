@@ -156,7 +156,7 @@ module _
     taken = listIn (d .objectives) (length ds) work′ 0 (t .points)
 
     abbrev run-after : ℕ → DP.Progress
-    run-after m = record { points = t .points; zones = m; limit = t .limit }
+    run-after m = record { points = t .points; zones = m; limit = t .limit; left = run .left }
 
     same-point : point (take (d .objectives) v) x ≡ point costs x
     same-point = point-eq front refl
@@ -185,7 +185,7 @@ module _
 
     pub leaf-kept :
         OpenedFrom d task ds s (leaf ds values acc) work run work′
-        (record { points = t .points; zones = run .zones; limit = t .limit })
+        (record { points = t .points; zones = run .zones; limit = t .limit; left = run .left })
     leaf-kept =
         record {
           still = framed-still (takes .frame) task (h .ready .planned .few);
@@ -197,7 +197,8 @@ module _
             zoned = zoned;
           };
           follows = met .1;
-          covered = leaf-covers taken (t .limit) (λ m. met .2);
+          fewer = omega arith;
+          covered = λ some. leaf-covers taken (t .limit) (λ m. met .2);
         }
 
     -- and out of the zones
@@ -222,7 +223,7 @@ module _
 
       pub leaf-split :
           OpenedFrom d task ds s (leaf ds values acc) work run work″
-          (record { points = t .points; zones = m; limit = t .limit })
+          (record { points = t .points; zones = m; limit = t .limit; left = run .left })
       leaf-split =
           record {
             still =
@@ -236,5 +237,6 @@ module _
               zoned = rw same-list zoned-after;
             };
             follows = rw same-list (met .1);
-            covered = rw same-list (leaf-covers taken (t .limit) (λ m. met .2));
+            fewer = omega arith;
+            covered = λ some. rw same-list (leaf-covers taken (t .limit) (λ m. met .2));
           }

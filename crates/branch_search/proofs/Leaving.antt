@@ -48,15 +48,16 @@ module _
   abbrev acc : List ℕ
   acc = node .bound
 
-  -- nothing was done, and nothing had to be
+  -- nothing was done, and nothing had to be; or the pass is given up
   pub opened-same :
-      AllCovered problem d (Completes (planIn work) (length ds) node) archive (run .limit) →
+      (1 ≤ run .left → AllCovered problem d (Completes (planIn work) (length ds) node) archive (run .limit)) →
       OpenedFrom d task ds s node work run work run
   opened-same c =
       record {
         still = still-refl task work;
         running = h .running;
         follows = follows-refl (leadWeights d) archive (run .limit);
+        fewer = omega arith;
         covered = c;
       }
 

@@ -2,6 +2,7 @@
 pub mod Nodes
 pub mod Memory
 pub mod ArchivedWords
+pub mod Archives
 pub mod Completions
 pub mod Leaving
 pub mod Zoning

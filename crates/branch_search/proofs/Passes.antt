@@ -5,31 +5,28 @@ use mathlib.Core.Bool.{true, false}
 use mathlib.Core.List.{List}
 use Prim.Native.Nat.{ℕ, _*_, _≤_, _<_}
 use native.Mathlib.Omega.{arith}
-use native.Mathlib.Nat.{mul-le-mul-right}
 use lib.ListN.{length, getD, take, drop, replicate}
 use lib.Seq.{length-take-le}
 use borrow.Author.Tests.{lt-ltb, le-ltb}
 use Rattle.model.specs.Basics.{All}
-use Rattle.model.specs.Limits.{maxVariables, byteEnd, wordEnd}
+use Rattle.model.specs.Limits.{maxVariables, byteEnd}
 use Rattle.model.specs.Problems.{Problem, Word}
 use Rattle.model.specs.Frontiers.{Point, sorted}
 use Rattle.model.specs.Core.{WordCeiling, coreFrontier, CoreReached}
 use Rattle.model.specs.Archive.{weighted, Distinct}
 use Rattle.model.proofs.Bits.{true-false}
-use Rattle.model.proofs.Elements.{all-take, all-drop}
+use Rattle.model.proofs.Elements.{all-take}
 use Rattle.model.proofs.Frontier.{reached-width, reached-length}
 use Rattle.model.proofs.Core.{core-under, under-ceilings}
-use Rattle.model.proofs.Weighted.{weighted-limit}
-use Rattle.model.proofs.Archive.{archive-start, archived-wide}
+use Rattle.model.proofs.Archive.{archived-wide}
 use Rattle.model.proofs.ArchiveEnd.{archive-frontier, archive-full}
 use Rattle.model.proofs.Sorting.{AllSized}
 use Rattle.model.proofs.Distinct.{sorted-length}
 use Rattle.groups.specs.Groups.{tablesOver}
 use Rattle.groups.specs.Sources.{sourceIn}
 use Rattle.groups.specs.declared.Task as DT
-use Rattle.rows.specs.Rows.{listIn, Framed}
+use Rattle.rows.specs.Rows.{costsIn, listIn, Framed}
 use Rattle.rows.proofs.RowParts.{rows-length}
-use Rattle.branch_archive.specs.Changes.{maxWeight}
 use Rattle.branch_directions.specs.Directions.{widthOf, leadWeights, Sensible}
 use Rattle.branch_directions.specs.declared.Directions as DD
 use Rattle.branch_buckets.specs.Bounds.{baseAt, boundAt}
@@ -39,10 +36,12 @@ use Rattle.branch_search.specs.declared.Explored as DE
 use Rattle.branch_search.specs.declared.Node as DN
 use Rattle.branch_search.specs.States.{noLimit, planIn, archiveIn, problemOf, taskProblem}
 use Rattle.branch_search.specs.States.{Ready, Running, Partial, Still}
-use Rattle.branch_search.specs.States.{Standing, OpenedFrom, Between, Passed, ExploredSays}
+use Rattle.branch_search.specs.States.{Standing, OpenedFrom, Between, Passed, ExploredSays, unended, LeftOver}
 use Rattle.branch_search.specs.Passes.{ZonesWritten, ZonesHold}
 use Rattle.branch_search.proofs.Memory.{still-trans, problem-still, ready-still, framed-still, zones-still}
 use Rattle.branch_search.proofs.Memory.{zones-rows}
+use Rattle.branch_search.proofs.ArchivedWords.{words-below}
+use Rattle.branch_search.proofs.Archives.{archived-between, between-archived}
 use Rattle.model.proofs.Zeros.{zeros-at, zeros-choice, front-same}
 
 -- the empty choice with its bound
@@ -57,23 +56,26 @@ module _ {d : DD.Directions} {task : DT.Task} {ds s work : List ℕ} (h : Ready 
   sensible = h .planned .sensible
 
   -- what holds of the problem with the directions' objectives holds of the task's
-  of-task : (P : Problem → Type 0) → P problem → P (taskProblem task ds s work)
-  of-task P held =
-      let over : ℕ → Problem = λ p.
+  abbrev over : ℕ → Problem
+  over p =
       record {
         objectives = p;
         ceilings = take p (task .ceilings);
         domains = ds;
         tables = tablesOver ds s (sourceIn work (task .records));
-      } in
-      subst (λ (p : ℕ). P (over p)) (h .objectives) held
+      }
+
+  of-task : (P : Problem → Type 0) → P problem → P (taskProblem task ds s work)
+  of-task P held = subst (λ (p : ℕ). P (over p)) (h .objectives) held
 
   -- ## the start
 
-  -- nothing is archived before the first pass
-  pub first-between : Between problem d task (length ds) work 0
-  unfolding listIn
-  first-between = record { few = omega arith; archived = archive-start problem (leadWeights d) noLimit; distinct = tt }
+  -- an archive of the task's problem, with the directions' objectives
+  pub own-between :
+      {points : ℕ} → Between (taskProblem task ds s work) (task .room) work points →
+      Between (problemOf d task ds s work) (task .room) work points
+  own-between {points} b =
+      subst (λ (p : ℕ). Between (over p) (task .room) work points) (sym (h .objectives)) b
 
   root-partial :
       (bytes : (at : ℕ) → getD s at 0 < byteEnd) (b : List ℕ) →
@@ -96,10 +98,12 @@ module _ {d : DD.Directions} {task : DT.Task} {ds s work : List ℕ} (h : Ready 
 
   -- the zones are those that the archive leaves
   module _
-      {points : ℕ} (between : Between problem d task (length ds) work points) {work′ : List ℕ} {m : ℕ}
-      (written : ZonesWritten d work work′ m) (hold : ZonesHold d points (task .ceilings) work work′ m) where
+      {points limit : ℕ} (between : Between (taskProblem task ds s work) (task .room) work points)
+      (sums : (i : ℕ) → i < points → weighted (leadWeights d) (costsIn (d .objectives) work i) ≤ limit) (left : ℕ)
+      {work′ : List ℕ} {m : ℕ} (written : ZonesWritten d work work′ m)
+      (hold : ZonesHold d points (task .ceilings) work work′ m) where
     abbrev run : DP.Progress
-    run = record { points = points; zones = m; limit = noLimit }
+    run = record { points = points; zones = m; limit = limit; left = left }
 
     zones-kept : Still task work work′
     zones-kept = zones-still work work′ (written .long) (written .behind) task
@@ -111,17 +115,17 @@ module _ {d : DD.Directions} {task : DT.Task} {ds s work : List ℕ} (h : Ready 
     running =
         record {
           few = between .few;
-          archived = rw same-points (between .archived);
-          distinct = rw same-points (between .distinct);
+          archived = rw same-points (between-archived (own-between between) (leadWeights d) limit sums);
+          distinct = rw same-points (own-between between .distinct);
           measured = written .measured;
-          zoned = rw same-points (hold (length ds) noLimit (leadWeights d));
+          zoned = rw same-points (hold (length ds) limit (leadWeights d));
         }
 
     pub root-standing :
         ((at : ℕ) → getD s at 0 < byteEnd) → (b : List ℕ) →
         ((j : ℕ) → j < widthOf d →
         getD b j 0 ≡ baseAt d ds s (planIn work′) (task .records) (replicate (length ds) 0) j) →
-        Standing d task ds s work′ (record { points = points; zones = m; limit = noLimit }) (rootNode b)
+        Standing d task ds s work′ (record { points = points; zones = m; limit = limit; left = left }) (rootNode b)
     root-standing bytes b is =
         let zeros : take {A = ℕ} (length ds) (replicate maxVariables 0) ≡ replicate (length ds) 0 =
         front-same (length ds) maxVariables 0 (h .planned .variables) in
@@ -136,15 +140,16 @@ module _ {d : DD.Directions} {task : DT.Task} {ds s work : List ℕ} (h : Ready 
     -- every choice completes the empty one
     pub root-passed :
         (b work″ : List ℕ) (run″ : DP.Progress) →
-        OpenedFrom d task ds s (rootNode b) work′ (record { points = points; zones = m; limit = noLimit })
-        work″ run″ →
-        Passed (problemOf d task ds s work) d task (length ds) work work″ run″
+        OpenedFrom d task ds s (rootNode b) work′
+        (record { points = points; zones = m; limit = limit; left = left }) work″ run″ →
+        Passed (problemOf d task ds s work) d task (length ds) left work work″ run″
     root-passed b work″ run″ o =
         record {
           still = still-trans zones-kept (o .still);
           running = subst (λ (q : Problem). Running q d task (length ds) work″ run″) same-problem (o .running);
-          covered = λ y m′.
-              o .covered y (subst (λ (q : Problem). CoreReached q y) (sym same-problem) m′)
+          fewer = o .fewer;
+          covered = λ some y m′.
+              o .covered some y (subst (λ (q : Problem). CoreReached q y) (sym same-problem) m′)
               (λ v l p. absurd (omega arith));
         }
       where
@@ -163,15 +168,11 @@ module _ {d : DD.Directions} {task : DT.Task} {ds s work : List ℕ} (h : Ready 
         let limits = all-take WordCeiling p (task .ceilings) (h .limited) in
         let words : All Word (y .costs) =
         under-ceilings (y .costs) (take p (task .ceilings)) long (core-under problem y m) limits in
-        let small = all-drop (λ w. w ≤ maxWeight) (4 * 0) (d .weights) (sensible .small) in
-        let weights : All (λ w. w ≤ maxWeight) (leadWeights d) =
-        all-take (λ w. w ≤ maxWeight) p (drop (4 * 0) (d .weights)) small in
-        let limit = weighted-limit maxWeight wordEnd (leadWeights d) (y .costs) weights words in
-        omega (arith, limit, mul-le-mul-right (maxWeight * wordEnd) (sensible .few))
+        words-below d sensible (y .costs) wide words
 
     module _
-        {work′ : List ℕ} {run : DP.Progress}
-        (passed : Passed (problemOf d task ds s work) d task (length ds) work work′ run) where
+        {left : ℕ} {work′ : List ℕ} {run : DP.Progress}
+        (passed : Passed (problemOf d task ds s work) d task (length ds) left work work′ run) where
       abbrev archive : List Point
       archive = archiveIn d (length ds) work′ run
 
@@ -180,29 +181,21 @@ module _ {d : DD.Directions} {task : DT.Task} {ds s work : List ℕ} (h : Ready 
           let reached = passed .running .archived .reached a i in
           (archived-wide (passed .running .archived) a i, reached-length problem a reached)
 
-      pub passed-between : Between (problemOf d task ds s work) d task (length ds) work′ (run .points)
+      pub passed-between : Between (taskProblem task ds s work) (task .room) work′ (run .points)
       passed-between =
-          record {
-            few = passed .running .few;
-            archived =
-                record {
-                  reached = passed .running .archived .reached;
-                  apart = passed .running .archived .apart;
-                  within = λ a i. omega (arith, sum-below a (passed .running .archived .reached a i));
-                };
-            distinct = passed .running .distinct;
-          }
+          of-task (λ q. Between q (task .room) work′ (run .points))
+          (archived-between (passed .running .few) (passed .running .archived) (passed .running .distinct))
 
       -- more points than room
       pub passed-full :
-          length (d .weights) ≡ 16 → task .room < run .points →
+          1 ≤ run .left → length (d .weights) ≡ 16 → task .room < run .points →
           ExploredSays task (length ds) (coreFrontier (taskProblem task ds s work)) work work′
-          (record { decided = true; full = true; count = 0 })
-      passed-full weights more =
+          (record { decided = true; full = true; count = 0; left = run .left })
+      passed-full some weights more =
           let long : length (leadWeights d) ≡ d .objectives =
           length-take-le (d .objectives) (drop (4 * 0) (d .weights)) (omega (arith, sensible .few)) in
           let held =
-          archive-full (passed .running .archived) (passed .covered) (omega arith) (sensible .every)
+          archive-full (passed .running .archived) (passed .covered some) (omega arith) (sensible .every)
           (passed .running .distinct) in
           let rows = rows-length (d .objectives) (length ds) work′ 0 (run .points) in
           let longer : task .room < length (coreFrontier problem) = omega (arith, held, rows) in
@@ -215,16 +208,16 @@ module _ {d : DD.Directions} {task : DT.Task} {ds s work : List ℕ} (h : Ready 
 
       -- nothing was left out
       pub passed-list :
-          run .points ≤ task .room → run .limit ≡ noLimit → (work″ : List ℕ) → Framed work′ work″ →
+          1 ≤ run .left → run .points ≤ task .room → run .limit ≡ noLimit → (work″ : List ℕ) → Framed work′ work″ →
           (Distinct (listIn (d .objectives) (length ds) work′ 0 (run .points)) →
           listIn (d .objectives) (length ds) work″ 0 (run .points)
           ≡ sorted (listIn (d .objectives) (length ds) work′ 0 (run .points))) →
           ExploredSays task (length ds) (coreFrontier (taskProblem task ds s work)) work work″
-          (record { decided = true; full = false; count = run .points })
-      passed-list few none work″ framed order =
+          (record { decided = true; full = false; count = run .points; left = run .left })
+      passed-list some few none work″ framed order =
           let distinct = passed .running .distinct in
           let is : sorted archive ≡ coreFrontier problem =
-          archive-frontier (passed .running .archived) (passed .covered) (λ y m. rw none (sum-below y m)) in
+          archive-frontier (passed .running .archived) (passed .covered some) (λ y m. rw none (sum-below y m)) in
           let sorts = sorted-length (d .objectives) (length ds) archive sized distinct in
           let rows = rows-length (d .objectives) (length ds) work′ 0 (run .points) in
           let long : length (coreFrontier (taskProblem task ds s work)) ≡ run .points =
@@ -238,22 +231,7 @@ module _ {d : DD.Directions} {task : DT.Task} {ds s work : List ℕ} (h : Ready 
             still = still-trans (passed .still) (framed-still framed task (h .planned .few));
           }
 
--- of memory that is still what it was
-module _
-    {task : DT.Task} {work work′ : List ℕ} (k : Still task work work′) (d : DD.Directions) (ds s : List ℕ) where
-  pub between-still :
-      (q : List ℕ) (points : ℕ) → Between (problemOf d task ds s work′) d task (length ds) q points →
-      Between (problemOf d task ds s work) d task (length ds) q points
-  between-still q points h =
-      subst (λ (u : Problem). Between u d task (length ds) q points) (problem-still k d ds s) h
-
-  pub between-later :
-      (q : List ℕ) (points : ℕ) → Between (problemOf d task ds s work) d task (length ds) q points →
-      Between (problemOf d task ds s work′) d task (length ds) q points
-  between-later q points h =
-      subst (λ (u : Problem). Between u d task (length ds) q points) (sym (problem-still k d ds s)) h
-
--- and what is found in it is found in the memory before
+-- what is found in memory that is still what it was is found in the memory before
 pub explored-still :
     {task : DT.Task} {work work′ : List ℕ} → Still task work work′ →
     (ds s work″ : List ℕ) (e : DE.Explored) →
@@ -265,14 +243,24 @@ explored-still {task} {work} {work′} k ds s work″ e h =
     subst (λ (u : Problem). ExploredSays task (length ds) (coreFrontier u) work′ work″ e) same h in
     record { full = g .full; count = g .count; list = g .list; still = still-trans k (g .still) }
 
--- no pass ended it
+-- no pass ended it: what is left is an archive
 pub undecided :
-    (task : DT.Task) (n : ℕ) (fs : List Point) (work work′ : List ℕ) → Still task work work′ →
-    ExploredSays task n fs work work′ (record { decided = false; full = false; count = 0 })
-undecided task n fs work work′ k =
-    record {
-      full = λ e. absurd (true-false e refl);
-      count = λ e. absurd (true-false e refl);
-      list = λ e f. absurd (true-false e refl);
-      still = k;
-    }
+    (task : DT.Task) (n : ℕ) (fs : List Point) (q : Problem) (budget : ℕ) (work work′ : List ℕ) (points left : ℕ) →
+    Still task work work′ → Between q (task .room) work′ points → left ≤ budget →
+    ExploredSays task n fs work work′ (unended points left)
+    × LeftOver q (task .room) budget work′ (unended points left)
+undecided task n fs q budget work work′ points left k b less = (
+  record {
+    full = λ e. absurd (true-false e refl);
+    count = λ e. absurd (true-false e refl);
+    list = λ e f. absurd (true-false e refl);
+    still = k;
+  },
+  record { between = λ e. b; fewer = less },
+)
+
+-- an end: nothing is left to go on from
+pub ended-left :
+    (q : Problem) (room budget : ℕ) (work : List ℕ) (e : DE.Explored) → e .decided ≡ true → e .left ≤ budget →
+    LeftOver q room budget work e
+ended-left q room budget work e is less = record { between = λ no. absurd (true-false is no); fewer = less }

@@ -2,7 +2,7 @@
 use mathlib.Core.Path.{_≡_, sym, _∙_, subst}
 use mathlib.Core.Logic.{_⊎_, inl, inr, ⊎-elim}
 use mathlib.Core.List.{List, [], _∷_}
-use Prim.Native.Nat.{ℕ, zero, suc, _+_, _≤_, _<_}
+use Prim.Native.Nat.{ℕ, zero, suc, _+_, _-_, _≤_, _<_}
 use native.Mathlib.Omega.{arith}
 use lib.Dec.{ltb}
 use lib.ListN.{length, getD, set, length-set}
@@ -77,10 +77,45 @@ pub record Trying
   pub follows :
       Follows (leadWeights d) (archiveIn d (length ds) work run) (run .limit)
       (archiveIn d (length ds) work′ run′) (run′ .limit)
+  pub fewer : run′ .left ≤ run .left
   pub long : length leads ≡ maxDomain
   pub each :
-      (a : ℕ) → a < getD ds (orderIn (planIn work) (node .depth)) 0 →
+      1 ≤ run′ .left → (a : ℕ) → a < getD ds (orderIn (planIn work) (node .depth)) 0 →
       ValueCovered d task ds s work node a work′ run′ ⊎ (getD leads a 0 ≡ leadWith d task ds s (planIn work) node a)
+
+-- of the partial choices that may be opened this is one
+abbrev pub spent : DP.Progress → DP.Progress
+spent run = record { points = run .points; zones = run .zones; limit = run .limit; left = run .left - 1 }
+
+module _
+    {d : DD.Directions} {task : DT.Task} {ds s work : List ℕ} {run : DP.Progress} {node : DN.Node}
+    (h : Standing d task ds s work run node) where
+  pub spent-standing : Standing d task ds s work (spent run) node
+  spent-standing =
+      record {
+        ready = h .ready;
+        running =
+            record {
+              few = h .running .few;
+              archived = h .running .archived;
+              distinct = h .running .distinct;
+              measured = h .running .measured;
+              zoned = h .running .zoned;
+            };
+        partial = h .partial;
+      }
+
+  pub spent-opened :
+      {work′ : List ℕ} {run′ : DP.Progress} → OpenedFrom d task ds s node work (spent run) work′ run′ →
+      OpenedFrom d task ds s node work run work′ run′
+  spent-opened o =
+      record {
+        still = o .still;
+        running = o .running;
+        follows = o .follows;
+        fewer = omega (arith, o .fewer);
+        covered = o .covered;
+      }
 
 module _
     {d : DD.Directions} {task : DT.Task} {ds s work : List ℕ} {run : DP.Progress} {node : DN.Node}
@@ -104,8 +139,9 @@ module _
         still = still-refl task work;
         running = h .running;
         follows = follows-refl (leadWeights d) (archiveIn d (length ds) work run) (run .limit);
+        fewer = omega arith;
         long = long;
-        each = λ a l. inr (is a l);
+        each = λ some a l. inr (is a l);
       }
 
   module _
@@ -139,9 +175,12 @@ module _
               follows-trans (d .objectives) (archived-wide (h .running .archived))
               (archived-wide (t .running .archived)) (archived-wide (opened .running .archived))
               (t .follows) (opened .follows);
+          fewer = omega (arith, t .fewer, opened .fewer);
           long = length-set leads a noLimit ∙ t .long;
-          each = λ c l.
-              ⊎-elim (λ (i : c ≡ a). inl (rw i covered)) (λ (n : c ≡ a → ⊥). other c n (t .each c l)) (equal-or c a);
+          each = λ some c l.
+              let before : 1 ≤ run′ .left = omega (arith, opened .fewer) in
+              ⊎-elim (λ (i : c ≡ a). inl (rw i (covered some)))
+              (λ (n : c ≡ a → ⊥). other c n (t .each before c l)) (equal-or c a);
         }
       where
         opened : Opened problem d task (length ds) plan next work′ run′ work″ run″
@@ -150,8 +189,8 @@ module _
             (subst (λ (q : Problem). Opened q d task (length ds) (planIn work′) next work′ run′ work″ run″)
             (problem-still (t .still) d ds s) o)
 
-        covered : ValueCovered d task ds s work node a work″ run″
-        covered = rw (e .deeper, e .chosen) at (opened .covered)
+        covered : 1 ≤ run″ .left → ValueCovered d task ds s work node a work″ run″
+        covered some = rw (e .deeper, e .chosen) at (opened .covered some)
 
         other :
             (c : ℕ) → (c ≡ a → ⊥) →
@@ -164,17 +203,24 @@ module _
             (t .running .archived) (opened .running .archived) (opened .follows) f)
         other c n (inr is) = inr (getD-set-other leads a c noLimit 0 n ∙ is)
 
-    -- the least lead that is left is not below the limit: every completion is covered
+    -- the least lead that is left is not below the limit: every completion is covered, or the pass is given up
     pub trying-end :
         node .depth < length ds → (a : ℕ) →
         ((b : ℕ) → b < getD ds (orderIn (planIn work) (node .depth)) 0 → getD leads a 0 ≤ getD leads b 0) →
         run′ .limit ≤ getD leads a 0 → OpenedFrom d task ds s node work run work′ run′
     trying-end inside a least late =
-        record { still = t .still; running = t .running; follows = t .follows; covered = covers }
+        record {
+          still = t .still;
+          running = t .running;
+          follows = t .follows;
+          fewer = t .fewer;
+          covered = covers;
+        }
       where
         covers :
+            1 ≤ run′ .left →
             AllCovered problem d (Completes plan (length ds) node) (archiveIn d (length ds) work′ run′) (run′ .limit)
-        covers y m g =
+        covers some y m g =
             let sound = h .ready .sound in
             let b = getD (y .choice) variable 0 in
             let x = withNext plan (length ds) node b in
@@ -190,4 +236,4 @@ module _
             let local = bound-local (sound .tested) k short x (y .choice) choice (m .complete) agree (leadAt d) in
             let below = bound-below sound (y .choice) (m .complete) (leadAt d) lead k short in
             inl (omega (arith, e, least b l, local, below, lead-exact h y m)))
-            (t .each b l)
+            (t .each some b l)

@@ -2,18 +2,19 @@
 -- the archive, and the plan.
 use mathlib.Core.Path.{_≡_}
 use mathlib.Core.Bool.{true, false, not}
-use mathlib.Core.List.{List}
-use Prim.Native.Nat.{ℕ, _+_, _≤_, _<_}
+use mathlib.Core.List.{List, List·Memᴰ as In}
+use Prim.Native.Nat.{ℕ, _+_, _-_, _≤_, _<_}
 use lib.Dec.{ltb}
 use lib.ListN.{length, getD, take, drop, set}
 use Rattle.model.specs.Basics.{All, when}
 use Rattle.model.specs.Limits.{maxPoints}
 use Rattle.model.specs.Problems.{Problem}
+use Rattle.model.specs.Vectors.{atMost}
 use Rattle.model.specs.Costs.{isChoice}
 use Rattle.model.specs.Frontiers.{Point}
 use Rattle.model.specs.Core.{WordCeiling, CoreReached}
 use Rattle.model.specs.Archive.{Covered, Archived, Distinct, Follows, Zoned}
-use Rattle.layout.specs.Layout.{listEnd}
+use Rattle.layout.specs.Layout.{listAt, listEnd}
 use Rattle.rows.specs.Rows.{listIn}
 use Rattle.groups.specs.Groups.{tablesOver}
 use Rattle.groups.specs.Sources.{sourceIn, sourceProblem}
@@ -33,6 +34,10 @@ use Rattle.branch_search.specs.declared.Explored as DE
 -- the plan begins behind the archive
 abbrev pub planIn : List ℕ → List ℕ
 planIn work = drop listEnd work
+
+-- the numbers of the archive's rows
+abbrev pub rowsIn : List ℕ → List ℕ
+rowsIn work = take (listEnd - listAt) (drop listAt work)
 
 abbrev pub archiveIn : DD.Directions → ℕ → List ℕ → DP.Progress → List Point
 archiveIn d n work run = listIn (d .objectives) n work 0 (run .points)
@@ -107,14 +112,16 @@ abbrev pub AllCovered : Problem → DD.Directions → (List ℕ → Type 0) → 
 AllCovered q d among archive limit =
     (y : Point) → CoreReached q y → among (y .choice) → Covered (leadWeights d) archive limit y
 
--- what opening a partial choice ensures: the completions are covered, and what was covered stays so
+-- what opening a partial choice ensures: what was covered stays so, and the completions are covered where the pass was
+-- not given up
 pub record Opened
     (q : Problem) (d : DD.Directions) (task : DT.Task) (n : ℕ) (plan : List ℕ) (node : DN.Node)
     (work : List ℕ) (run : DP.Progress) (work′ : List ℕ) (run′ : DP.Progress) : Type 0 where
   pub still : Still task work work′
   pub running : Running q d task n work′ run′
   pub follows : Follows (leadWeights d) (archiveIn d n work run) (run .limit) (archiveIn d n work′ run′) (run′ .limit)
-  pub covered : AllCovered q d (Completes plan n node) (archiveIn d n work′ run′) (run′ .limit)
+  pub fewer : run′ .left ≤ run .left
+  pub covered : 1 ≤ run′ .left → AllCovered q d (Completes plan n node) (archiveIn d n work′ run′) (run′ .limit)
 
 -- what opening a partial choice relies on
 pub record Standing
@@ -130,21 +137,30 @@ abbrev pub OpenedFrom :
 OpenedFrom d task ds s node work run work′ run′ =
     Opened (problemOf d task ds s work) d task (length ds) (planIn work) node work run work′ run′
 
--- between passes: an archive of so many points; the limit that it had is of no more interest, so that it is stated with
--- none
-pub record Between
-    (q : Problem) (d : DD.Directions) (task : DT.Task) (n : ℕ) (work : List ℕ) (points : ℕ) : Type 0 where
-  pub few : points ≤ task .room + 1
-  pub archived : Archived q (leadWeights d) (listIn (d .objectives) n work 0 points) noLimit
-  pub distinct : Distinct (listIn (d .objectives) n work 0 points)
+-- so many rows, as points of a problem
+abbrev pub pointsIn : Problem → List ℕ → ℕ → List Point
+pointsIn q work points = listIn (q .objectives) (length (q .domains)) work 0 points
 
--- after a pass: every consistent choice is covered
+-- between passes, and between searches: an archive of so many points. No limit and no direction is in it, so that a
+-- search by another plan may go on from it
+pub record Between (q : Problem) (room : ℕ) (work : List ℕ) (points : ℕ) : Type 0 where
+  pub few : points ≤ room + 1
+  pub reached : (a : Point) → In a (pointsIn q work points) → CoreReached q a
+  pub apart :
+      (a b : Point) → In a (pointsIn q work points) → In b (pointsIn q work points) →
+      atMost (a .costs) (b .costs) ≡ true → a ≡ b
+  pub distinct : Distinct (pointsIn q work points)
+
+-- after a pass: every consistent choice is covered, where the pass was not given up
 pub record Passed
-    (q : Problem) (d : DD.Directions) (task : DT.Task) (n : ℕ) (work work′ : List ℕ) (run′ : DP.Progress)
+    (q : Problem) (d : DD.Directions) (task : DT.Task) (n : ℕ) (left : ℕ) (work work′ : List ℕ) (run′ : DP.Progress)
     : Type 0 where
   pub still : Still task work work′
   pub running : Running q d task n work′ run′
-  pub covered : (y : Point) → CoreReached q y → Covered (leadWeights d) (archiveIn d n work′ run′) (run′ .limit) y
+  pub fewer : run′ .left ≤ left
+  pub covered :
+      1 ≤ run′ .left → (y : Point) → CoreReached q y →
+      Covered (leadWeights d) (archiveIn d n work′ run′) (run′ .limit) y
 
 -- the list fs is in work memory, or it is longer than the room; or the search was given up
 pub record ExploredSays
@@ -153,3 +169,12 @@ pub record ExploredSays
   pub count : e .decided ≡ true → e .count ≡ when (not (e .full)) (length fs)
   pub list : e .decided ≡ true → e .full ≡ false → listIn (task .objectives) n work′ 0 (e .count) ≡ fs
   pub still : Still task work work′
+
+-- what is said of a search that was given up
+abbrev pub unended : ℕ → ℕ → DE.Explored
+unended points left = record { decided = false; full = false; count = points; left = left }
+
+-- what it leaves: an archive, from which the next one may go on, and what is left of the budget
+pub record LeftOver (q : Problem) (room budget : ℕ) (work′ : List ℕ) (e : DE.Explored) : Type 0 where
+  pub between : e .decided ≡ false → Between q room work′ (e .count)
+  pub fewer : e .left ≤ budget

@@ -7,13 +7,14 @@ ghost use Rattle.model.specs.Basics.{All};
 ghost use Rattle.model.specs.Limits.{maxVariables, maxDomain, maxPoints};
 ghost use Rattle.model.specs.Problems.{Word};
 ghost use Rattle.model.specs.Core.{WordCeiling, coreFrontier};
+ghost use Rattle.model.specs.Archive.{weighted};
 ghost use Rattle.layout.specs.Layout.{listEnd};
-ghost use Rattle.rows.specs.Rows.{EachCost};
-ghost use Rattle.branch_directions.specs.Directions.{Sensible};
+ghost use Rattle.rows.specs.Rows.{costsIn, EachCost};
+ghost use Rattle.branch_directions.specs.Directions.{leadWeights, Sensible};
 ghost use Rattle.branch_zones.specs.Zones.{Measured};
 ghost use Rattle.branch_pruning.specs.Tests.{zonesOf};
 ghost use Rattle.branch_search.specs.States.{problemOf, taskProblem, extended, leaf, Ready, Standing, OpenedFrom};
-ghost use Rattle.branch_search.specs.States.{Between, Passed, ExploredSays};
+ghost use Rattle.branch_search.specs.States.{unended, Between, Passed, ExploredSays, LeftOver};
 ghost use Rattle.branch_search.specs.Passes.{ZonesWritten, ZonesHold};
 
 // The limit while nothing is left out: no leading sum is as large. A value that was tried counts as having this one.
@@ -22,11 +23,19 @@ const NO_LIMIT: u64 = 18446744073709551615;
 // After so many passes the search is given up.
 const MAX_PASSES: usize = 66;
 
-// Whether the search came to an end, whether the list is longer than the room, and else how many points it has.
+// What a search goes on from: how many points are archived, and how many partial choices it may open.
+pub struct Resume {
+    pub points: usize,
+    pub budget: u64,
+}
+
+// Whether the search came to an end, whether the list is longer than the room, and else how many points it has; those
+// of the archive where it was given up. And how many partial choices may still be opened.
 pub struct Explored {
     pub decided: bool,
     pub full: bool,
     pub count: usize,
+    pub left: u64,
 }
 
 // A partial choice: values for the variables at the first `depth` positions, and its bound in every direction.
@@ -97,6 +106,7 @@ fn take_leaf(
             points: t.points,
             zones: run.zones,
             limit: t.limit,
+            left: run.left,
         };
     }
     let m = branch_zones::split_zones(costs, run.zones, d, &mut work[..layout::ZONES_END]);
@@ -104,6 +114,7 @@ fn take_leaf(
         points: t.points,
         zones: m,
         limit: t.limit,
+        left: run.left,
     }
 }
 
@@ -166,7 +177,7 @@ fn try_choice(
 }
 
 // Tries each value of the variable at the next position, by rising leading sums of the bound, as long as these are
-// below the limit. A complete choice is met.
+// below the limit. A complete choice is met. Nothing is done once the pass is given up.
 fn open_position(
     node: Node,
     run: branch_pruning::Progress,
@@ -180,6 +191,9 @@ fn open_position(
     ensures { λ t. ⌜ OpenedFrom d task (now (sizes .entry)) (now (s .entry)) node
         (now (work .entry)) run (now (work .exit)) t ⌝ }
 {
+    if run.left == 0 {
+        return run;
+    }
     let n = sizes.len();
     let k = node.depth;
     let x = node.choice;
@@ -201,7 +215,13 @@ fn open_position(
     );
     let mut leads = branch_values::leads_of(&rows, bound, away, size, d);
     let mut a = branch_values::least_value(&leads, size);
-    let mut t = run;
+    let left = run.left - 1;
+    let mut t = branch_pruning::Progress {
+        points: run.points,
+        zones: run.zones,
+        limit: run.limit,
+        left,
+    };
     while leads[a] < t.limit {
         let b = branch_values::row_of(&rows, a, bound, away, d.objectives + d.sums);
         let next = node.with(v, a, b);
@@ -212,9 +232,26 @@ fn open_position(
     t
 }
 
-// One pass: all choices, into the archive with which it starts. What its limit leaves out is for the next one.
+// The limit with which a pass starts: none while there is room, else the largest leading sum of the archive's points.
+// What beats one of them has a smaller sum, so that the pass still finds whether the list is longer than the room.
+fn start_limit(points: usize, room: usize, d: branch_directions::Directions, work: &[u32]) -> u64
+    requires { ⌜ Sensible d × (listEnd ≤ length (now work)) × (points ≤ maxPoints + 1)
+        × EachCost Word (d .objectives) (now work) points ⌝ }
+    ensures { λ limit. ⌜ ((i : ℕ) → i < points
+        → weighted (leadWeights d) (costsIn (d .objectives) (now (work .entry)) i) ≤ limit) ⌝ }
+{
+    if points <= room {
+        return NO_LIMIT;
+    }
+    let weights = branch_directions::lead_weights(d);
+    branch_archive::largest_sum(points, weights, d.objectives, work)
+}
+
+// One pass: all choices, into the archive with which it starts. What its limit leaves out is for the next one. It is
+// given up once `left` partial choices are opened.
 fn run_pass(
     points: usize,
+    left: u64,
     s: &[u8],
     sizes: &[u8],
     task: groups::Task,
@@ -222,12 +259,12 @@ fn run_pass(
     work: &mut [u32],
 ) -> branch_pruning::Progress
     requires { ⌜ Ready d task (now sizes) (now s) (now work)
-        × Between (problemOf d task (now sizes) (now s) (now work)) d task (length (now sizes))
-        (now work) points ⌝ }
+        × Between (taskProblem task (now sizes) (now s) (now work)) (task .room) (now work) points ⌝ }
     ensures { λ t. ⌜ Passed (problemOf d task (now (sizes .entry)) (now (s .entry)) (now (work .entry)))
-        d task (length (now (sizes .entry))) (now (work .entry)) (now (work .exit)) t ⌝ }
+        d task (length (now (sizes .entry))) left (now (work .entry)) (now (work .exit)) t ⌝ }
 {
     let ceilings = task.ceilings;
+    let limit = start_limit(points, task.room, d, work);
     let m = start_zones(points, ceilings, d, work);
     let bound = branch_values::root_bound(s, sizes, task.records, d, &work[layout::PLAN_AT..]);
     let node = Node {
@@ -238,33 +275,56 @@ fn run_pass(
     let run = branch_pruning::Progress {
         points,
         zones: m,
-        limit: NO_LIMIT,
+        limit,
+        left,
     };
     try_choice(node, run, s, sizes, task, d, work)
 }
 
-// The frontier list of the problem whose records stand in the plan, in the archive's rows.
+// What is said of a search that was given up.
+fn given_up(points: usize, left: u64) -> Explored
+    ensures { λ e. ⌜ e ≡ unended points left ⌝ }
+{
+    Explored {
+        decided: false,
+        full: false,
+        count: points,
+        left,
+    }
+}
+
+// The frontier list of the problem whose records stand in the plan, in the archive's rows; or, where the budget or the
+// passes are over before it is found, an archive from which another search may go on.
 pub fn explore(
+    from: Resume,
     s: &[u8],
     sizes: &[u8],
     task: groups::Task,
     d: branch_directions::Directions,
     work: &mut [u32],
 ) -> Explored
-    requires { ⌜ Ready d task (now sizes) (now s) (now work) ⌝ }
+    requires { ⌜ Ready d task (now sizes) (now s) (now work)
+        × Between (taskProblem task (now sizes) (now s) (now work)) (task .room) (now work) (from .points) ⌝ }
     ensures { λ e. ⌜ ExploredSays task (length (now (sizes .entry)))
         (coreFrontier (taskProblem task (now (sizes .entry)) (now (s .entry)) (now (work .entry))))
-        (now (work .entry)) (now (work .exit)) e ⌝ }
+        (now (work .entry)) (now (work .exit)) e
+        × LeftOver (taskProblem task (now (sizes .entry)) (now (s .entry)) (now (work .entry)))
+        (task .room) (from .budget) (now (work .exit)) e ⌝ }
 {
-    let mut points: usize = 0;
+    let mut points = from.points;
+    let mut left = from.budget;
     let mut pass: usize = 0;
     while pass < MAX_PASSES {
-        let t = run_pass(points, s, sizes, task, d, work);
+        let t = run_pass(points, left, s, sizes, task, d, work);
+        if t.left == 0 {
+            return given_up(t.points, t.left);
+        }
         if t.points > task.room {
             return Explored {
                 decided: true,
                 full: true,
                 count: 0,
+                left: t.left,
             };
         }
         if t.limit == NO_LIMIT {
@@ -273,14 +333,12 @@ pub fn explore(
                 decided: true,
                 full: false,
                 count: t.points,
+                left: t.left,
             };
         }
         points = t.points;
+        left = t.left;
         pass += 1;
     }
-    Explored {
-        decided: false,
-        full: false,
-        count: 0,
-    }
+    given_up(points, left)
 }

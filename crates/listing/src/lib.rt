@@ -13,6 +13,9 @@ ghost use Rattle.pass_list.specs.Says.{FoundSays, FoundFor};
 ghost use Rattle.branch_directions.specs.Directions.{Sensible};
 ghost use Rattle.listing.specs.Says.{Searchable, Plannable, Kept, PlanSays, foundOf};
 
+// How many partial choices the second form may open: more than it ever will.
+const BUDGET: u64 = 9223372036854775808;
+
 // The core's ceiling, which a cost stays below, in eight bytes as the sums are.
 fn wide(ceiling: u32) -> u64
     ensures { λ w. ⌜ w ≡ coreCeiling ceiling ⌝ }
@@ -70,6 +73,7 @@ fn given_up() -> branch_search::Explored
         decided: false,
         full: false,
         count: 0,
+        left: 0,
     }
 }
 
@@ -111,7 +115,11 @@ fn explore_source(
         ceilings,
         room,
     };
-    branch_search::explore(s, sizes, task, d, work)
+    let from = branch_search::Resume {
+        points: 0,
+        budget: BUDGET,
+    };
+    branch_search::explore(from, s, sizes, task, d, work)
 }
 
 // The frontier list of `r` records whose places stand in work memory where a problem's records are: by the second form,

@@ -20,7 +20,7 @@ use Rattle.branch_buckets.specs.Sound.{Tested}
 use Rattle.branch_buckets.proofs.ContentRows.{planned-fewer}
 use Rattle.branch_buckets.proofs.Ends.{bucket-ranged}
 use Rattle.branch_buckets.proofs.Bounds.{records-inside}
-use Rattle.branch_search.specs.States.{planIn, Partial}
+use Rattle.branch_search.specs.States.{planIn, Partial, Standing}
 use Rattle.branch_values.specs.Rows.{Holding, nextBound, Bucket, Away}
 use Rattle.branch_directions.proofs.Widths.{lead-inside, width-few}
 use Rattle.branch_search.proofs.Nodes.{choice-long, bound-long, withNext, Extends, extends, is-leaf}
@@ -32,6 +32,7 @@ use Rattle.branch_search.proofs.Leaf.{leaf-standing}
 use Rattle.branch_search.proofs.Opening.{variable-inside, next-holding, next-exact, next-partial}
 use Rattle.branch_search.proofs.Trying.{leadWith, Trying, untried, tried-fewer}
 use Rattle.branch_search.proofs.Trying.{trying-start, trying-standing, trying-next, trying-end}
+use Rattle.branch_search.proofs.Trying.{spent, spent-standing, spent-opened}
 use borrow.Fn.Kinds.{In}
 use borrow.Fn.PlainCycle.{Measures, is, falls, and}
 use Rattle.branch_search.proofs.open_position.Reads as open-position
@@ -105,12 +106,12 @@ try-calls t = (is-alive-reads.Asked, is-alive-reads.Learnt, open-position-below 
 
 -- the value that is next has the least lead
 abbrev Inv-loop : open-lts.InvT-loop
-Inv-loop node s sizes task d work₀ n k bound v size rows away leads₀ a₀ t₀ work leads a t =
+Inv-loop node s sizes task d work₀ n k bound v size rows away leads₀ a₀ left t₀ work leads a t =
     (a < size) × ((b : ℕ) → b < size → getD leads a 0 ≤ getD leads b 0)
     × Trying d task sizes s work₀ t₀ node work t leads
 
 abbrev μ-loop : open-lts.MeasureT-loop
-μ-loop node s sizes task d work₀ n k bound v size rows away leads₀ a₀ t₀ work leads a t = untried leads
+μ-loop node s sizes task d work₀ n k bound v size rows away leads₀ a₀ left t₀ work leads a t = untried leads
 
 module _ (t : ℕ) where
   -- ## the places of open_position, each with a name
@@ -123,9 +124,13 @@ module _ (t : ℕ) where
   abbrev Known : Type 0
   Known = open-lts.After-slice-known (open-calls t) (open-position-at t) open-position.Post Inv-loop μ-loop
 
+  -- the pass is not given up
+  abbrev Going : Type 0
+  Going = open-lts.Else1 (open-calls t) (open-position-at t) open-position.Post Inv-loop μ-loop
+
   -- the choice is not complete
   abbrev Inner : Type 0
-  Inner = open-lts.Else1 (open-calls t) (open-position-at t) open-position.Post Inv-loop μ-loop
+  Inner = open-lts.Else2 (open-calls t) (open-position-at t) open-position.Post Inv-loop μ-loop
 
   -- its next variable is known
   abbrev Named : Type 0
@@ -153,7 +158,7 @@ module _ (t : ℕ) where
 
   -- a value is tried
   abbrev Trial : Type 0
-  Trial = open-lts.Then2 (open-calls t) (open-position-at t) open-position.Post Inv-loop μ-loop
+  Trial = open-lts.Then3 (open-calls t) (open-position-at t) open-position.Post Inv-loop μ-loop
 
   -- its bound is known
   abbrev Bounded : Type 0
@@ -172,8 +177,11 @@ module _ (t : ℕ) where
   abbrev start : Known → Begun
   start c = c .before .before .before
 
-  abbrev known : Inner → Known
-  known c = c .before .before .before
+  abbrev going : Inner → Going
+  going c = c .before .before .before
+
+  abbrev known : Going → Known
+  known c = c .before .before
 
   abbrev inner : Named → Inner
   inner c = c .before .before .before
@@ -191,7 +199,7 @@ module _ (t : ℕ) where
   sent c = c .before .before
 
   abbrev led : Looping → Led
-  led c = c .before .before .before
+  led c = c .before .before .before .before
 
   abbrev looping : Trial → Looping
   looping c = c .before .before
@@ -206,8 +214,11 @@ module _ (t : ℕ) where
   grown c = c .before .before
 
   -- the longer ways
+  abbrev opening : Inner → Begun
+  opening c = start (known (going c))
+
   abbrev begun : Named → Begun
-  begun c = start (known (inner c))
+  begun c = opening (inner c)
 
   abbrev naming : Sent → Named
   naming c = named (sized (filled c))
@@ -257,8 +268,8 @@ module _ (t : ℕ) where
     lent-choice : length ds ≡ length choice
     lent-choice = sym (length-take-le (length ds) (b .args .node .choice) long-choice)
 
-  inside : (c : Inner) → start (known c) .args .node .depth < length (ds (start (known c)))
-  inside c = omega (arith, start (known c) .pre .1 .partial .short, c .if1 .left)
+  inside : (c : Inner) → opening c .args .node .depth < length (ds (opening c))
+  inside c = omega (arith, opening c .pre .1 .partial .short, c .if2 .left)
 
   module _ (c : Named) where
     abbrev v : ℕ
@@ -338,7 +349,7 @@ module _ (t : ℕ) where
         let h = origin .pre .1 in
         let a = turn c .loop .a in
         let w = sending (turn c) in
-        let byte = known (inner (naming w)) .before .before .shared-slice-known .given in
+        let byte = known (going (inner (naming w))) .before .before .shared-slice-known .given in
         let bytes : (at : ℕ) → getD (now (origin .args .s)) at 0 < byteEnd = λ at. omega (arith, byte at) in
         let below = value-below w a (turn c .loop .inv .0) in
         next-partial (h .ready .sound) (h .partial) (inside (inner (naming w))) (rows w) (away w) (bucket w) (sends w)
@@ -354,32 +365,38 @@ module _ (t : ℕ) where
 
   -- ## open_position
 
+  open-position-returns :
+      open-lts.Need-returns (open-calls t) (open-position-at t) open-position.Post Inv-loop μ-loop
+  open-position-returns c =
+      let b = start (c .before .before) in
+      opened-same (b .pre .1) (λ some. absurd (omega (arith, c .if1 .taken)))
+
   open-position-take-leaf-requires :
       open-lts.Need-take-leaf-requires (open-calls t) (open-position-at t) open-position.Post Inv-loop μ-loop
   open-position-take-leaf-requires c κs =
       let whole = c .before in
-      let b = start (whole .before .before .before) in
-      leaf-standing (b .pre .1) (whole .if1 .taken)
+      let b = start (known (whole .before .before .before)) in
+      leaf-standing (b .pre .1) (whole .if2 .taken)
 
   open-position-same-length :
       open-lts.Need-same-length (open-calls t) (open-position-at t) open-position.Post Inv-loop μ-loop
   open-position-same-length c = c .before .before .take-leaf .ensures .still .long
 
-  open-position-returns :
-      open-lts.Need-returns (open-calls t) (open-position-at t) open-position.Post Inv-loop μ-loop
-  open-position-returns c =
+  open-position-returns-2 :
+      open-lts.Need-returns-2 (open-calls t) (open-position-at t) open-position.Post Inv-loop μ-loop
+  open-position-returns-2 c =
       let called = c .before .before in
       let whole = called .before .before in
-      let b = start (whole .before .before .before) in
-      rw (is-leaf (ds b) (b .args .node) (whole .if1 .taken)) (called .take-leaf .ensures)
+      let b = start (known (whole .before .before .before)) in
+      rw (is-leaf (ds b) (b .args .node) (whole .if2 .taken)) (called .take-leaf .ensures)
 
   open-position-sub-variable-at :
       open-lts.Need-sub-variable-at (open-calls t) (open-position-at t) open-position.Post Inv-loop μ-loop
-  open-position-sub-variable-at c = memory (start (known c))
+  open-position-sub-variable-at c = memory (opening c)
 
   open-position-part-variable-at-start :
       open-lts.Need-part-variable-at-start (open-calls t) (open-position-at t) open-position.Post Inv-loop μ-loop
-  open-position-part-variable-at-start c = memory (start (known (c .before)))
+  open-position-part-variable-at-start c = memory (opening (c .before))
 
   open-position-part-variable-at-end :
       open-lts.Need-part-variable-at-end (open-calls t) (open-position-at t) open-position.Post Inv-loop μ-loop
@@ -389,7 +406,7 @@ module _ (t : ℕ) where
       open-lts.Need-variable-at-requires (open-calls t) (open-position-at t) open-position.Post Inv-loop μ-loop
   open-position-variable-at-requires c κs =
       let i = c .before .before in
-      let b = start (known i) in
+      let b = opening i in
       omega (arith, inside i, b .pre .1 .ready .planned .variables)
 
   open-position-shared-slice-read-size :
@@ -472,23 +489,36 @@ module _ (t : ℕ) where
       open-lts.Need-least-value-requires (open-calls t) (open-position-at t) open-position.Post Inv-loop μ-loop
   open-position-least-value-requires c κs = size (naming (sent (c .before)))
 
+  -- one partial choice less may be opened, and this is it
+  some-left : (c : Named) → 1 ≤ begun c .args .run .left
+  some-left c = omega (arith, going (inner c) .if1 .left)
+
+  open-position-sub-left :
+      open-lts.Need-sub-left (open-calls t) (open-position-at t) open-position.Post Inv-loop μ-loop
+  open-position-sub-left c = some-left (naming (sent (c .before .before .before)))
+
+  -- the search of the values starts with what is left then
+  starts : (b : Begun) → Standing (b .args .d) (b .args .task) (ds b) (now (b .args .s)) (now (b .args .work))
+      (spent (b .args .run)) (b .args .node)
+  starts b = spent-standing (b .pre .1)
+
   open-position-loop-holds :
       open-lts.Need-loop-holds (open-calls t) (open-position-at t) open-position.Post Inv-loop μ-loop
   open-position-loop-holds c =
-      let leads = c .before .before in
+      let leads = c .before .before .before in
       let w = sent leads in
       let read = leads .leads-of .ensures in
-      let least = c .least-value .ensures in
-      let all = trying-start (entry w .pre .1) (leads .leads-of .result) (read .0) in
+      let least = c .before .least-value .ensures in
+      let all = trying-start (starts (entry w)) (leads .leads-of .result) (read .0) in
       (least .0, least .1, all (λ a l. read .1 a (rw (← is-variable (naming w)) at l) ∙ lead-is w a l))
 
-  open-position-mul-if2 :
-      open-lts.Need-mul-if2 (open-calls t) (open-position-at t) open-position.Post Inv-loop μ-loop
-  open-position-mul-if2 c = omega (arith, value-few c)
+  open-position-mul-if3 :
+      open-lts.Need-mul-if3 (open-calls t) (open-position-at t) open-position.Post Inv-loop μ-loop
+  open-position-mul-if3 c = omega (arith, value-few c)
 
-  open-position-array-read-if2 :
-      open-lts.Need-array-read-if2 (open-calls t) (open-position-at t) open-position.Post Inv-loop μ-loop
-  open-position-array-read-if2 c = omega (arith, value-few c)
+  open-position-array-read-if3 :
+      open-lts.Need-array-read-if3 (open-calls t) (open-position-at t) open-position.Post Inv-loop μ-loop
+  open-position-array-read-if3 c = omega (arith, value-few c)
 
   open-position-add-row-of :
       open-lts.Need-add-row-of (open-calls t) (open-position-at t) open-position.Post Inv-loop μ-loop
@@ -519,7 +549,7 @@ module _ (t : ℕ) where
       let w = turn r .loop in
       let b = origin r in
       let e = next-extends g in
-      let next = trying-standing (b .pre .1) (w .inv .2) (w .a) (r .row-of .result) (g .with .result) e (next-is r) in
+      let next = trying-standing (starts b) (w .inv .2) (w .a) (r .row-of .result) (g .with .result) e (next-is r) in
       (omega (arith, e .deeper, inside (inner (naming (sending (turn r)))), b .pre .0), next)
 
   open-position-mul-leads :
@@ -542,7 +572,7 @@ module _ (t : ℕ) where
       let x = trial (bounded (grown (c .before .before .before .before))) in
       let w = looping x in
       let below : w .loop .a < length (w .loop .leads) = omega (arith, value-few w, w .loop .inv .2 .long) in
-      tried-fewer (w .loop .leads) (w .loop .a) below (omega (arith, x .if2 .taken, x .before .struct-known .given))
+      tried-fewer (w .loop .leads) (w .loop .a) below (omega (arith, x .if3 .taken, x .before .struct-known3 .given))
 
   open-position-loop-again :
       open-lts.Need-loop-again (open-calls t) (open-position-at t) open-position.Post Inv-loop μ-loop
@@ -553,20 +583,22 @@ module _ (t : ℕ) where
       let w = turn r .loop in
       let called = tried .try-choice in
       let least = c .least-value2 .ensures in
-      let next = trying-next (origin r .pre .1) (w .inv .2) (w .a) (r .row-of .result) (g .with .result) in
+      let next = trying-next (starts (origin r)) (w .inv .2) (w .a) (r .row-of .result) (g .with .result) in
       (least .0, least .1, next (next-extends g) _ (called .result) (called .ensures))
 
   open-position-same-length-2 :
       open-lts.Need-same-length-2 (open-calls t) (open-position-at t) open-position.Post Inv-loop μ-loop
   open-position-same-length-2 c = c .before .before .loop .inv .2 .still .long
 
-  open-position-returns-2 :
-      open-lts.Need-returns-2 (open-calls t) (open-position-at t) open-position.Post Inv-loop μ-loop
-  open-position-returns-2 c =
+  open-position-returns-3 :
+      open-lts.Need-returns-3 (open-calls t) (open-position-at t) open-position.Post Inv-loop μ-loop
+  open-position-returns-3 c =
       let w = c .before .before in
       let n = naming (sending w) in
-      trying-end (begun n .pre .1) (w .loop .inv .2) (inside (inner n)) (w .loop .a)
-      (λ u l. w .loop .inv .1 u (rw (← is-variable n) at l)) (c .if2 .left)
+      let b = begun n in
+      spent-opened (b .pre .1)
+      (trying-end (starts b) (w .loop .inv .2) (inside (inner n)) (w .loop .a)
+      (λ u l. w .loop .inv .1 u (rw (← is-variable n) at l)) (c .if3 .left))
 
   -- ## try_choice
 
@@ -592,7 +624,7 @@ module _ (t : ℕ) where
       omega (arith, four, h .ready .planned .sensible .few) in
       let small =
       archived-small (a .d) (a .task) (now (a .sizes)) (now (a .s)) (now (a .work)) wide (h .ready .limited)
-      (length (now (a .sizes))) (a .run .points) (a .run .limit) (now (a .work)) (h .running .archived) in (
+      (length (now (a .sizes))) (a .run .points) (now (a .work)) (h .running .archived .reached) in (
         h .ready .planned .sensible,
         omega (arith, h .ready .long),
         h .running .measured,
@@ -624,7 +656,7 @@ module _ (t : ℕ) where
   try-choice-returns-2 c =
       let b = entered (c .before .before) in
       let dead = c .before .is-alive .ensures (c .if1 .left) in
-      opened-same (b .pre .1) (dead-covers (b .pre .1) (bound-long (b .args .node) _ (b .good .0)) dead)
+      opened-same (b .pre .1) (λ some. dead-covers (b .pre .1) (bound-long (b .args .node) _ (b .good .0)) dead)
 
 pub +open-position+try-choice-spec : {M : Type 1} → statement M
 +open-position+try-choice-spec =
@@ -637,9 +669,10 @@ pub +open-position+try-choice-spec : {M : Type 1} → statement M
     open-position.Post
     Inv-loop
     μ-loop
+    (open-position-returns t)
     (open-position-take-leaf-requires t)
     (open-position-same-length t)
-    (open-position-returns t)
+    (open-position-returns-2 t)
     (open-position-sub-variable-at t)
     (open-position-part-variable-at-start t)
     (open-position-part-variable-at-end t)
@@ -660,9 +693,10 @@ pub +open-position+try-choice-spec : {M : Type 1} → statement M
     (open-position-away-at-requires t)
     (open-position-leads-of-requires t)
     (open-position-least-value-requires t)
+    (open-position-sub-left t)
     (open-position-loop-holds t)
-    (open-position-mul-if2 t)
-    (open-position-array-read-if2 t)
+    (open-position-mul-if3 t)
+    (open-position-array-read-if3 t)
     (open-position-add-row-of t)
     (open-position-row-of-requires t)
     (open-position-with-requires t)
@@ -673,7 +707,7 @@ pub +open-position+try-choice-spec : {M : Type 1} → statement M
     (open-position-loop-less t)
     (open-position-loop-again t)
     (open-position-same-length-2 t)
-    (open-position-returns-2 t))
+    (open-position-returns-3 t))
     λ t. try-lts.spec
     (try-calls t)
     (try-choice-at t)

@@ -1,6 +1,6 @@
 -- `branch_search::explore` meets its contract. The invariant: between passes there is an archive; after a pass it is
--- the list, or more than that, or the next pass follows.
-use mathlib.Core.Path.{_∙_}
+-- the list, or more than that, or the next pass follows, or the search is given up and the archive stays.
+use mathlib.Core.Path.{refl, sym, _∙_}
 use mathlib.Core.List.{List}
 use Prim.Native.Nat.{ℕ, _≤_, _-_}
 use native.Mathlib.Omega.{arith}
@@ -11,19 +11,21 @@ use Rattle.model.specs.Core.{coreFrontier}
 use Rattle.groups.proofs.Tasks.{ceilings-long}
 use Rattle.branch_directions.proofs.Widths.{weights-long}
 use Rattle.branch_search.specs.declared.Explored as DE
-use Rattle.branch_search.specs.States.{problemOf, taskProblem, Ready, Still, Between, ExploredSays}
+use Rattle.branch_search.specs.States.{taskProblem, Ready, Still, Between, ExploredSays}
 use Rattle.branch_search.proofs.Memory.{still-refl, still-trans, ready-still}
-use Rattle.branch_search.proofs.Passes.{first-between, passed-between, passed-full, passed-list, between-still}
-use Rattle.branch_search.proofs.Passes.{between-later, explored-still, undecided}
+use Rattle.branch_search.proofs.Archives.{between-source}
+use Rattle.branch_search.proofs.Passes.{passed-between, passed-full, passed-list, explored-still}
+use Rattle.branch_search.proofs.Passes.{undecided, ended-left}
 use Rattle.branch_search.proofs.explore.Statement.{statement}
 use Rattle.branch_search.proofs.explore.Tie as tie
 
 abbrev Inv-loop : tie.InvT-loop
-Inv-loop s sizes task d work₀ points₀ pass₀ work points pass =
-    (pass ≤ 66) × Still task work₀ work × Between (problemOf d task sizes s work₀) d task (length sizes) work points
+Inv-loop s sizes task d work₀ points₀ left₀ pass₀ work points left pass =
+    (pass ≤ 66) × Still task work₀ work × Between (taskProblem task sizes s work₀) (task .room) work points
+    × (left ≤ left₀)
 
 abbrev μ-loop : tie.MeasureT-loop
-μ-loop s sizes task d work₀ points₀ pass₀ work points pass = 66 - pass
+μ-loop s sizes task d work₀ points₀ left₀ pass₀ work points left pass = 66 - pass
 
 -- ## the places, each with a name
 
@@ -47,13 +49,17 @@ Ran = tie.After-run-pass Inv-loop μ-loop
 abbrev Left : Type 0
 Left = tie.After-slice-known2 Inv-loop μ-loop
 
--- which left no more points than there is room for
+-- which was not given up
+abbrev Whole : Type 0
+Whole = tie.Else1 Inv-loop μ-loop
+
+-- left no more points than there is room for
 abbrev Held : Type 0
-Held = tie.Else1 Inv-loop μ-loop
+Held = tie.Else2 Inv-loop μ-loop
 
 -- and left nothing out
 abbrev Ended : Type 0
-Ended = tie.Then2 Inv-loop μ-loop
+Ended = tie.Then3 Inv-loop μ-loop
 
 -- the list is in order
 abbrev Ordered : Type 0
@@ -73,8 +79,11 @@ looping c = c .before .before .before
 abbrev ran : Left → Ran
 ran c = c .before .before
 
-abbrev left : Held → Left
-left c = c .before .before .before
+abbrev left : Whole → Left
+left c = c .before .before
+
+abbrev whole : Held → Whole
+whole c = c .before .before .before
 
 abbrev held : Ended → Held
 held c = c .before .before
@@ -83,7 +92,7 @@ abbrev ended : Ordered → Ended
 ended c = c .before .before
 
 abbrev passed : Held → Ran
-passed c = ran (left c)
+passed c = ran (left (whole c))
 
 -- ## what is known after a pass
 
@@ -101,16 +110,16 @@ module _ (c : Ran) where
   before-pass = looping c .loop .work
 
   abbrev after-pass : List ℕ
-  after-pass = c .run-pass .last .1 .1 .1 .1 .1 .0
+  after-pass = c .run-pass .last .1 .1 .1 .1 .1 .1 .0
 
   kept : Still (begun .args .task) (now (begun .args .work)) before-pass
   kept = looping c .loop .inv .1
 
   ready : Ready (begun .args .d) (begun .args .task) ds bytes before-pass
-  ready = ready-still kept (begun .args .d) ds bytes (begun .pre)
+  ready = ready-still kept (begun .args .d) ds bytes (begun .pre .0)
 
   four : begun .args .d .objectives ≤ length (begun .args .task .ceilings)
-  four = omega (arith, ready .planned .sensible .few, ceilings-long (begun .args .task) _ (begun .good .1 .1 .0))
+  four = omega (arith, ready .planned .sensible .few, ceilings-long (begun .args .task) _ (begun .good .1 .1 .1 .0))
 
   -- what an answer says of the memory before this pass, it says of the memory at the start
   from-start :
@@ -122,10 +131,24 @@ module _ (c : Ran) where
       e
   from-start = explored-still kept ds bytes
 
+  -- the archive that it leaves
+  next : Between (taskProblem (begun .args .task) ds bytes (now (begun .args .work))) (begun .args .task .room)
+      after-pass (c .run-pass .result .points)
+  next =
+      between-source (begun .args .task) ds bytes before-pass (now (begun .args .work)) (sym (kept .source)) after-pass
+      (c .run-pass .result .points) (passed-between ready four (c .run-pass .ensures))
+
+  fewer : c .run-pass .result .left ≤ begun .args .from .budget
+  fewer = omega (arith, c .run-pass .ensures .fewer, looping c .loop .inv .3)
+
+-- it was not given up
+some-left : (c : Whole) → 1 ≤ ran (left c) .run-pass .result .left
+some-left c = omega (arith, c .if1 .left)
+
 loop-holds : tie.Need-loop-holds Inv-loop μ-loop
 loop-holds c =
     let b = start c in
-    (omega arith, still-refl (b .args .task) (now (b .args .work)), first-between (b .pre))
+    (omega arith, still-refl (b .args .task) (now (b .args .work)), b .pre .1, omega arith)
 
 run-pass-requires : tie.Need-run-pass-requires Inv-loop μ-loop
 run-pass-requires c κs =
@@ -134,8 +157,9 @@ run-pass-requires c κs =
     let ds = now (b .args .sizes) in
     let bytes = now (b .args .s) in
     let kept = w .loop .inv .1 in (
-      ready-still kept (b .args .d) ds bytes (b .pre),
-      between-later kept (b .args .d) ds bytes (w .loop .work) (w .loop .points) (w .loop .inv .2),
+      ready-still kept (b .args .d) ds bytes (b .pre .0),
+      between-source (b .args .task) ds bytes (now (b .args .work)) (w .loop .work) (kept .source) (w .loop .work)
+          (w .loop .points) (w .loop .inv .2),
     )
 
 same-length : tie.Need-same-length Inv-loop μ-loop
@@ -146,9 +170,24 @@ same-length c =
 returns : tie.Need-returns Inv-loop μ-loop
 returns c =
     let p = ran (c .before .before .before) in
-    let weights = weights-long (begun p .args .d) _ (begun p .good .1 .1 .1 .0) in
-    let full = passed-full (ready p) (four p) (p .run-pass .ensures) weights (c .if1 .taken) in
-    from-start p (after-pass p) _ full
+    let a = begun p .args in
+    let still = still-trans (kept p) (p .run-pass .ensures .still) in
+    rw (c .given-up .ensures)
+    (undecided (a .task) (length (ds p)) _ _ (a .from .budget) (now (a .work)) (after-pass p) _ _ still (next p)
+    (fewer p))
+
+same-length-2 : tie.Need-same-length-2 Inv-loop μ-loop
+same-length-2 c =
+    let p = ran (left (c .before .before .before)) in
+    p .run-pass .ensures .still .long ∙ kept p .long
+
+returns-2 : tie.Need-returns-2 Inv-loop μ-loop
+returns-2 c =
+    let w : Whole = c .before .before .before in
+    let p = ran (left w) in
+    let weights = weights-long (begun p .args .d) _ (begun p .good .1 .1 .1 .1 .0) in
+    let full = passed-full (ready p) (four p) (p .run-pass .ensures) (some-left w) weights (c .if2 .taken) in
+    (from-start p (after-pass p) _ full, ended-left _ _ _ _ _ refl (fewer p))
 
 sort-points-requires : tie.Need-sort-points-requires Inv-loop μ-loop
 sort-points-requires c κs =
@@ -159,38 +198,36 @@ sort-points-requires c κs =
       ready p .planned .sensible .few,
     )
 
-same-length-2 : tie.Need-same-length-2 Inv-loop μ-loop
-same-length-2 c =
+same-length-3 : tie.Need-same-length-3 Inv-loop μ-loop
+same-length-3 c =
     let sorted : Ordered = c .before .before in
     let p = passed (held (ended sorted)) in
     sorted .sort-points .ensures .0 .long ∙ p .run-pass .ensures .still .long ∙ kept p .long
 
-returns-2 : tie.Need-returns-2 Inv-loop μ-loop
-returns-2 c =
+returns-3 : tie.Need-returns-3 Inv-loop μ-loop
+returns-3 c =
     let sorted : Ordered = c .before .before in
     let e = ended sorted in
     let few = held e in
     let p = passed few in
     let order = sorted .sort-points .ensures in
-    let listed = passed-list (ready p) (four p) (p .run-pass .ensures) (few .if1 .left) (e .if2 .taken) in
-    from-start p _ _ (listed _ (order .0) (order .1 (length (ds p)) (ready p .planned .variables)))
+    let some = some-left (whole few) in
+    let listed = passed-list (ready p) (four p) (p .run-pass .ensures) some (few .if2 .left) (e .if3 .taken) in
+    let list = listed _ (order .0) (order .1 (length (ds p)) (ready p .planned .variables)) in
+    (from-start p _ _ list, ended-left _ _ _ _ _ refl (fewer p))
 
 loop-again : tie.Need-loop-again Inv-loop μ-loop
 loop-again c =
     let p = passed (c .before .before) in
-    let d = begun p .args .d in
-    let r = p .run-pass in
-    let next = passed-between (ready p) (four p) (r .ensures) in (
-      omega arith,
-      still-trans (kept p) (r .ensures .still),
-      between-still (kept p) d (ds p) (bytes p) (after-pass p) (r .result .points) next,
-    )
+    (omega arith, still-trans (kept p) (p .run-pass .ensures .still), next p, fewer p)
 
-returns-3 : tie.Need-returns-3 Inv-loop μ-loop
-returns-3 c =
-    let w : Looping = c .before in
+returns-4 : tie.Need-returns-4 Inv-loop μ-loop
+returns-4 c =
+    let w : Looping = c .before .before in
     let a = start (known w) .args in
-    undecided (a .task) (length (now (a .sizes))) _ (now (a .work)) (w .loop .work) (w .loop .inv .1)
+    rw (c .given-up2 .ensures)
+    (undecided (a .task) (length (now (a .sizes))) _ _ (a .from .budget) (now (a .work)) (w .loop .work) _ _
+    (w .loop .inv .1) (w .loop .inv .2) (w .loop .inv .3))
 
 pub explore-spec : {M : Type 1} → statement M
 explore-spec =
@@ -200,13 +237,17 @@ explore-spec =
     μ-loop
     loop-holds
     run-pass-requires
+    (λ c κs. search needs)  -- given-up-requires
     same-length
     returns
-    sort-points-requires
     same-length-2
     returns-2
+    sort-points-requires
+    same-length-3
+    returns-3
     (λ c. search needs)  -- add-pass
     (λ c. search needs)  -- loop-less
     loop-again
-    (λ c. c .before .loop .inv .1 .long)  -- same-length-3
-    returns-3)
+    (λ c κs. search needs)  -- given-up-requires-2
+    (λ c. c .before .before .loop .inv .1 .long)  -- same-length-4
+    returns-4)

@@ -59,8 +59,7 @@ module _ (s : tie.Start) where
       let h = s .pre in
       let four = ceilings-long (a .task) _ (s .good .1 .1 .1 .1 .1 .0) in
       archived-small (a .d) (a .task) (now (a .sizes)) (now (a .s)) (now (a .work)) (omega (arith, few, four))
-      (h .ready .limited) (length (now (a .sizes))) (a .run .points) (a .run .limit) (now (a .work))
-      (h .running .archived)
+      (h .ready .limited) (length (now (a .sizes))) (a .run .points) (now (a .work)) (h .running .archived .reached)
 
 -- the costs, which are the first numbers of the bound, were held to the ceilings
 module _ (c : tie.After-is-under) where
@@ -125,12 +124,12 @@ returns : tie.Need-returns
 returns c =
     let t = c .before in
     let s = entry t in
-    opened-same (s .pre) (over-covers (s .pre) (wide s) (met t false (not-true _ (c .if1 .taken))))
+    opened-same (s .pre) (λ some. over-covers (s .pre) (wide s) (met t false (not-true _ (c .if1 .taken))))
 
 returns-2 : tie.Need-returns-2
 returns-2 c =
     let h = entry (c .before .before .before .before) .pre in
-    opened-same h (late-covers h (omega (arith, c .before .before .lead-of .ensures, c .if2 .taken)))
+    opened-same h (λ some. late-covers h (omega (arith, c .before .before .lead-of .ensures, c .if2 .taken)))
 
 take-point-requires : tie.Need-take-point-requires
 take-point-requires c κs =

@@ -5,6 +5,7 @@ use native.Mathlib.Omega.{arith}
 use borrow.Author.Needs.{needs}
 use borrow.Author.Tests.{not-false}
 use Rattle.model.proofs.Bits.{true-false}
+use Rattle.branch_search.proofs.Archives.{empty-between}
 use Rattle.listing.proofs.Forms.{source-plannable, spreads-asked, plan-ready, explored-says}
 use Rattle.listing.proofs.explore_source.Statement.{statement}
 use Rattle.listing.proofs.explore_source.Tie as tie
@@ -66,9 +67,11 @@ explore-requires c κs =
     let d = aimed p .choose-directions in
     let made = p .plan-source .ensures in
     let short : tie.Else3 = worth (aimed p) in
+    let ready =
     plan-ready (s .pre .0) (made .0) (d .result) (d .ensures .1) (s .args .room) (s .pre .1)
     (made .1 (not-false _ (sound .if4 .left))) (omega (arith, costly short .before .if1 .left))
-    (short .before .are-short .ensures (not-false _ (short .if3 .left)))
+    (short .before .are-short .ensures (not-false _ (short .if3 .left))) in
+    (ready, empty-between _ _ _)
 
 returns-5 : tie.Need-returns-5
 returns-5 c =
@@ -78,7 +81,7 @@ returns-5 c =
     let s = start p in
     let d = aimed p .choose-directions in
     explored-says (s .pre .0) (p .plan-source .ensures .0) (d .result) (d .ensures .1) (s .args .room) (s .pre .1)
-    _ (e .explore .result) (e .explore .ensures)
+    _ (e .explore .result) (e .explore .ensures .0)
 
 pub explore-source-spec : {M : Type 1} → statement M
 explore-source-spec =
