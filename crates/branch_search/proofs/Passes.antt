@@ -28,7 +28,7 @@ use Rattle.model.proofs.ArchiveEnd.{archive-frontier, archive-full}
 use Rattle.model.proofs.Sorting.{AllSized}
 use Rattle.model.proofs.Distinct.{sorted-length}
 use Rattle.groups.specs.Groups.{tablesOver}
-use Rattle.groups.specs.Sources.{sourceIn}
+use Rattle.groups.specs.Sources.{sourceIn, sourceProblem}
 use Rattle.groups.specs.declared.Task as DT
 use Rattle.rows.specs.Rows.{listIn, Framed}
 use Rattle.rows.proofs.RowParts.{rows-length}
@@ -41,7 +41,7 @@ use Rattle.branch_buckets.proofs.Bounds.{bound-limit}
 use Rattle.branch_pruning.specs.declared.Progress as DP
 use Rattle.branch_search.specs.declared.Explored as DE
 use Rattle.branch_search.specs.declared.Node as DN
-use Rattle.branch_search.specs.States.{noLimit, planIn, archiveIn, problemOf, taskProblem}
+use Rattle.branch_search.specs.States.{noLimit, planIn, archiveIn, problemOf}
 use Rattle.branch_search.specs.States.{Ready, Running, Partial, Still}
 use Rattle.branch_search.specs.States.{Standing, OpenedFrom, Between, Passed, ExploredSays}
 use Rattle.branch_search.specs.Passes.{ZonesWritten, ZonesHold}
@@ -61,7 +61,7 @@ module _ {d : DD.Directions} {task : DT.Task} {ds s work : List ℕ} (h : Ready 
   sensible = h .planned .sensible
 
   -- what holds of the problem with the directions' objectives holds of the task's
-  of-task : (P : Problem → Type 0) → P problem → P (taskProblem task ds s work)
+  of-task : (P : Problem → Type 0) → P problem → P (sourceProblem task ds s work)
   of-task P held =
       let over : ℕ → Problem = λ p.
       record {
@@ -200,7 +200,7 @@ module _ {d : DD.Directions} {task : DT.Task} {ds s work : List ℕ} (h : Ready 
       -- more points than room
       pub passed-full :
           length (d .weights) ≡ 16 → task .room < run .points →
-          ExploredSays task (length ds) (coreFrontier (taskProblem task ds s work)) work work′
+          ExploredSays task (length ds) (coreFrontier (sourceProblem task ds s work)) work work′
           (record { decided = true; full = true; count = 0 })
       passed-full weights more =
           let long : length (leadWeights d) ≡ d .objectives =
@@ -223,7 +223,7 @@ module _ {d : DD.Directions} {task : DT.Task} {ds s work : List ℕ} (h : Ready 
           (Distinct (listIn (d .objectives) (length ds) work′ 0 (run .points)) →
           listIn (d .objectives) (length ds) work″ 0 (run .points)
           ≡ sorted (listIn (d .objectives) (length ds) work′ 0 (run .points))) →
-          ExploredSays task (length ds) (coreFrontier (taskProblem task ds s work)) work work″
+          ExploredSays task (length ds) (coreFrontier (sourceProblem task ds s work)) work work″
           (record { decided = true; full = false; count = run .points })
       passed-list few none work″ framed order =
           let distinct = passed .running .distinct in
@@ -231,10 +231,10 @@ module _ {d : DD.Directions} {task : DT.Task} {ds s work : List ℕ} (h : Ready 
           archive-frontier (passed .running .archived) (passed .covered) (λ y m. rw none (sum-below y m)) in
           let sorts = sorted-length (d .objectives) (length ds) archive sized distinct in
           let rows = rows-length (d .objectives) (length ds) work′ 0 (run .points) in
-          let long : length (coreFrontier (taskProblem task ds s work)) ≡ run .points =
+          let long : length (coreFrontier (sourceProblem task ds s work)) ≡ run .points =
           of-task (λ q. length (coreFrontier q) ≡ run .points) (sym (ap length is) ∙ sorts ∙ rows) in
           record {
-            full = λ e. sym (le-ltb (task .room) (length (coreFrontier (taskProblem task ds s work))) (omega arith));
+            full = λ e. sym (le-ltb (task .room) (length (coreFrontier (sourceProblem task ds s work))) (omega arith));
             count = λ e. sym long;
             list = λ e f.
                 of-task (λ q. listIn (q .objectives) (length ds) work″ 0 (run .points) ≡ coreFrontier q)
@@ -261,10 +261,10 @@ module _
 pub explored-still :
     {task : DT.Task} {work work′ : List ℕ} → Still task work work′ →
     (ds s work″ : List ℕ) (e : DE.Explored) →
-    ExploredSays task (length ds) (coreFrontier (taskProblem task ds s work′)) work′ work″ e →
-    ExploredSays task (length ds) (coreFrontier (taskProblem task ds s work)) work work″ e
+    ExploredSays task (length ds) (coreFrontier (sourceProblem task ds s work′)) work′ work″ e →
+    ExploredSays task (length ds) (coreFrontier (sourceProblem task ds s work)) work work″ e
 explored-still {task} {work} {work′} k ds s work″ e h =
-    let same : taskProblem task ds s work′ ≡ taskProblem task ds s work = rw (k .source) in
+    let same : sourceProblem task ds s work′ ≡ sourceProblem task ds s work = rw (k .source) in
     let g =
     subst (λ (u : Problem). ExploredSays task (length ds) (coreFrontier u) work′ work″ e) same h in
     record { full = g .full; count = g .count; list = g .list; still = still-trans k (g .still) }

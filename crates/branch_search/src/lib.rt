@@ -8,11 +8,12 @@ ghost use Rattle.model.specs.Limits.{maxVariables, maxDomain, maxPoints};
 ghost use Rattle.model.specs.Problems.{Word};
 ghost use Rattle.model.specs.Core.{WordCeiling, coreFrontier};
 ghost use Rattle.layout.specs.Layout.{listEnd};
+ghost use Rattle.groups.specs.Sources.{sourceProblem};
 ghost use Rattle.rows.specs.Rows.{EachCost};
 ghost use Rattle.branch_directions.specs.Directions.{Sensible};
 ghost use Rattle.branch_zones.specs.Zones.{Measured};
 ghost use Rattle.branch_pruning.specs.Tests.{zonesOf};
-ghost use Rattle.branch_search.specs.States.{problemOf, taskProblem, extended, leaf, Ready, Standing, OpenedFrom};
+ghost use Rattle.branch_search.specs.States.{problemOf, extended, leaf, Ready, Standing, OpenedFrom};
 ghost use Rattle.branch_search.specs.States.{Between, Passed, ExploredSays};
 ghost use Rattle.branch_search.specs.Passes.{ZonesWritten, ZonesHold};
 
@@ -253,7 +254,7 @@ pub fn explore(
 ) -> Explored
     requires { ⌜ Ready d task (now sizes) (now s) (now work) ⌝ }
     ensures { λ e. ⌜ ExploredSays task (length (now (sizes .entry)))
-        (coreFrontier (taskProblem task (now (sizes .entry)) (now (s .entry)) (now (work .entry))))
+        (coreFrontier (sourceProblem task (now (sizes .entry)) (now (s .entry)) (now (work .entry))))
         (now (work .entry)) (now (work .exit)) e ⌝ }
 {
     let mut points: usize = 0;

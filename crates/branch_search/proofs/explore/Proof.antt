@@ -8,9 +8,10 @@ use lib.ListN.{length}
 use borrow.Author.Needs.{needs}
 use denote.Ref.{now}
 use Rattle.model.specs.Core.{coreFrontier}
+use Rattle.groups.specs.Sources.{sourceProblem}
 use Rattle.groups.proofs.Tasks.{ceilings-long}
 use Rattle.branch_search.specs.declared.Explored as DE
-use Rattle.branch_search.specs.States.{problemOf, taskProblem, Ready, Still, Between, ExploredSays}
+use Rattle.branch_search.specs.States.{problemOf, Ready, Still, Between, ExploredSays}
 use Rattle.branch_search.proofs.Memory.{still-refl, still-trans, ready-still}
 use Rattle.branch_search.proofs.Passes.{first-between, passed-between, passed-full, passed-list, between-still}
 use Rattle.branch_search.proofs.Passes.{between-later, explored-still, weights-long, undecided}
@@ -114,10 +115,10 @@ module _ (c : Ran) where
   -- what an answer says of the memory before this pass, it says of the memory at the start
   from-start :
       (work : List ℕ) (e : DE.Explored) →
-      ExploredSays (begun .args .task) (length ds) (coreFrontier (taskProblem (begun .args .task) ds bytes before-pass))
+      ExploredSays (begun .args .task) (length ds) (coreFrontier (sourceProblem (begun .args .task) ds bytes before-pass))
       before-pass work e →
       ExploredSays (begun .args .task) (length ds)
-      (coreFrontier (taskProblem (begun .args .task) ds bytes (now (begun .args .work)))) (now (begun .args .work)) work
+      (coreFrontier (sourceProblem (begun .args .task) ds bytes (now (begun .args .work)))) (now (begun .args .work)) work
       e
   from-start = explored-still kept ds bytes
 
