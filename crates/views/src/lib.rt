@@ -139,8 +139,7 @@ pub fn narrow(sizes: &[u8], sides: &[u8], side: u8) -> [u8; 24]
     sizes_of
 }
 
-// Of the records whose places stand in work memory from one place on, writes the places of a part's records from another
-// on. Answers how many.
+// Writes the places of the selected records to where they are asked for, in their order. Answers how many.
 pub fn keep_records(
     s: &[u8],
     sizes: &[u8],
