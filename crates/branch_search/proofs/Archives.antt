@@ -14,9 +14,9 @@ use Rattle.layout.specs.Layout.{listAt, rowWidth, listEnd}
 use Rattle.rows.specs.Rows.{costsIn, listIn}
 use Rattle.rows.proofs.RowPlaces.{listed-row}
 use Rattle.rows.proofs.RowsKept.{copied-rows}
-use Rattle.groups.specs.Sources.{sourceIn}
+use Rattle.groups.specs.Sources.{sourceIn, sourceProblem}
 use Rattle.groups.specs.declared.Task as DT
-use Rattle.branch_search.specs.States.{rowsIn, taskProblem, pointsIn, Between}
+use Rattle.branch_search.specs.States.{rowsIn, pointsIn, Between}
 
 -- nothing is archived
 pub empty-between : (q : Problem) (room : ℕ) (work : List ℕ) → Between q room work 0
@@ -74,18 +74,18 @@ between-moved {q} {work} {work′} {room} {points} few small enough rows b =
 -- memory with the same records: the problem is the same
 module _ (task : DT.Task) (ds s work work′ : List ℕ)
     (source : sourceIn work′ (task .records) ≡ sourceIn work (task .records)) where
-  same-task : taskProblem task ds s work′ ≡ taskProblem task ds s work
+  same-task : sourceProblem task ds s work′ ≡ sourceProblem task ds s work
   same-task = rw source
 
   pub between-source :
-      (rows : List ℕ) (points : ℕ) → Between (taskProblem task ds s work) (task .room) rows points →
-      Between (taskProblem task ds s work′) (task .room) rows points
+      (rows : List ℕ) (points : ℕ) → Between (sourceProblem task ds s work) (task .room) rows points →
+      Between (sourceProblem task ds s work′) (task .room) rows points
   between-source rows points b = subst (λ (q : Problem). Between q (task .room) rows points) (sym same-task) b
 
   -- the zones and the plan may be others
   pub between-framed :
       (points : ℕ) → task .objectives ≤ maxObjectives → length ds ≤ maxVariables → task .room ≤ maxPoints →
-      rowsIn work′ ≡ rowsIn work → Between (taskProblem task ds s work) (task .room) work points →
-      Between (taskProblem task ds s work′) (task .room) work′ points
+      rowsIn work′ ≡ rowsIn work → Between (sourceProblem task ds s work) (task .room) work points →
+      Between (sourceProblem task ds s work′) (task .room) work′ points
   between-framed points few small enough rows b =
       between-source work′ points (between-moved few small enough rows b)

@@ -23,7 +23,7 @@ use Rattle.model.proofs.ArchiveEnd.{archive-frontier, archive-full}
 use Rattle.model.proofs.Sorting.{AllSized}
 use Rattle.model.proofs.Distinct.{sorted-length}
 use Rattle.groups.specs.Groups.{tablesOver}
-use Rattle.groups.specs.Sources.{sourceIn}
+use Rattle.groups.specs.Sources.{sourceIn, sourceProblem}
 use Rattle.groups.specs.declared.Task as DT
 use Rattle.rows.specs.Rows.{costsIn, listIn, Framed}
 use Rattle.rows.proofs.RowParts.{rows-length}
@@ -34,7 +34,7 @@ use Rattle.branch_buckets.proofs.Bounds.{bound-limit}
 use Rattle.branch_pruning.specs.declared.Progress as DP
 use Rattle.branch_search.specs.declared.Explored as DE
 use Rattle.branch_search.specs.declared.Node as DN
-use Rattle.branch_search.specs.States.{noLimit, planIn, archiveIn, problemOf, taskProblem}
+use Rattle.branch_search.specs.States.{noLimit, planIn, archiveIn, problemOf}
 use Rattle.branch_search.specs.States.{Ready, Running, Partial, Still}
 use Rattle.branch_search.specs.States.{Standing, OpenedFrom, Between, Passed, ExploredSays, unended, LeftOver}
 use Rattle.branch_search.specs.Passes.{ZonesWritten, ZonesHold}
@@ -65,14 +65,14 @@ module _ {d : DD.Directions} {task : DT.Task} {ds s work : List ℕ} (h : Ready 
         tables = tablesOver ds s (sourceIn work (task .records));
       }
 
-  of-task : (P : Problem → Type 0) → P problem → P (taskProblem task ds s work)
+  of-task : (P : Problem → Type 0) → P problem → P (sourceProblem task ds s work)
   of-task P held = subst (λ (p : ℕ). P (over p)) (h .objectives) held
 
   -- ## the start
 
   -- an archive of the task's problem, with the directions' objectives
   pub own-between :
-      {points : ℕ} → Between (taskProblem task ds s work) (task .room) work points →
+      {points : ℕ} → Between (sourceProblem task ds s work) (task .room) work points →
       Between (problemOf d task ds s work) (task .room) work points
   own-between {points} b =
       subst (λ (p : ℕ). Between (over p) (task .room) work points) (sym (h .objectives)) b
@@ -98,7 +98,7 @@ module _ {d : DD.Directions} {task : DT.Task} {ds s work : List ℕ} (h : Ready 
 
   -- the zones are those that the archive leaves
   module _
-      {points limit : ℕ} (between : Between (taskProblem task ds s work) (task .room) work points)
+      {points limit : ℕ} (between : Between (sourceProblem task ds s work) (task .room) work points)
       (sums : (i : ℕ) → i < points → weighted (leadWeights d) (costsIn (d .objectives) work i) ≤ limit) (left : ℕ)
       {work′ : List ℕ} {m : ℕ} (written : ZonesWritten d work work′ m)
       (hold : ZonesHold d points (task .ceilings) work work′ m) where
@@ -181,7 +181,7 @@ module _ {d : DD.Directions} {task : DT.Task} {ds s work : List ℕ} (h : Ready 
           let reached = passed .running .archived .reached a i in
           (archived-wide (passed .running .archived) a i, reached-length problem a reached)
 
-      pub passed-between : Between (taskProblem task ds s work) (task .room) work′ (run .points)
+      pub passed-between : Between (sourceProblem task ds s work) (task .room) work′ (run .points)
       passed-between =
           of-task (λ q. Between q (task .room) work′ (run .points))
           (archived-between (passed .running .few) (passed .running .archived) (passed .running .distinct))
@@ -189,7 +189,7 @@ module _ {d : DD.Directions} {task : DT.Task} {ds s work : List ℕ} (h : Ready 
       -- more points than room
       pub passed-full :
           1 ≤ run .left → length (d .weights) ≡ 16 → task .room < run .points →
-          ExploredSays task (length ds) (coreFrontier (taskProblem task ds s work)) work work′
+          ExploredSays task (length ds) (coreFrontier (sourceProblem task ds s work)) work work′
           (record { decided = true; full = true; count = 0; left = run .left })
       passed-full some weights more =
           let long : length (leadWeights d) ≡ d .objectives =
@@ -212,7 +212,7 @@ module _ {d : DD.Directions} {task : DT.Task} {ds s work : List ℕ} (h : Ready 
           (Distinct (listIn (d .objectives) (length ds) work′ 0 (run .points)) →
           listIn (d .objectives) (length ds) work″ 0 (run .points)
           ≡ sorted (listIn (d .objectives) (length ds) work′ 0 (run .points))) →
-          ExploredSays task (length ds) (coreFrontier (taskProblem task ds s work)) work work″
+          ExploredSays task (length ds) (coreFrontier (sourceProblem task ds s work)) work work″
           (record { decided = true; full = false; count = run .points; left = run .left })
       passed-list some few none work″ framed order =
           let distinct = passed .running .distinct in
@@ -220,10 +220,10 @@ module _ {d : DD.Directions} {task : DT.Task} {ds s work : List ℕ} (h : Ready 
           archive-frontier (passed .running .archived) (passed .covered some) (λ y m. rw none (sum-below y m)) in
           let sorts = sorted-length (d .objectives) (length ds) archive sized distinct in
           let rows = rows-length (d .objectives) (length ds) work′ 0 (run .points) in
-          let long : length (coreFrontier (taskProblem task ds s work)) ≡ run .points =
+          let long : length (coreFrontier (sourceProblem task ds s work)) ≡ run .points =
           of-task (λ q. length (coreFrontier q) ≡ run .points) (sym (ap length is) ∙ sorts ∙ rows) in
           record {
-            full = λ e. sym (le-ltb (task .room) (length (coreFrontier (taskProblem task ds s work))) (omega arith));
+            full = λ e. sym (le-ltb (task .room) (length (coreFrontier (sourceProblem task ds s work))) (omega arith));
             count = λ e. sym long;
             list = λ e f.
                 of-task (λ q. listIn (q .objectives) (length ds) work″ 0 (run .points) ≡ coreFrontier q)
@@ -235,10 +235,10 @@ module _ {d : DD.Directions} {task : DT.Task} {ds s work : List ℕ} (h : Ready 
 pub explored-still :
     {task : DT.Task} {work work′ : List ℕ} → Still task work work′ →
     (ds s work″ : List ℕ) (e : DE.Explored) →
-    ExploredSays task (length ds) (coreFrontier (taskProblem task ds s work′)) work′ work″ e →
-    ExploredSays task (length ds) (coreFrontier (taskProblem task ds s work)) work work″ e
+    ExploredSays task (length ds) (coreFrontier (sourceProblem task ds s work′)) work′ work″ e →
+    ExploredSays task (length ds) (coreFrontier (sourceProblem task ds s work)) work work″ e
 explored-still {task} {work} {work′} k ds s work″ e h =
-    let same : taskProblem task ds s work′ ≡ taskProblem task ds s work = rw (k .source) in
+    let same : sourceProblem task ds s work′ ≡ sourceProblem task ds s work = rw (k .source) in
     let g =
     subst (λ (u : Problem). ExploredSays task (length ds) (coreFrontier u) work′ work″ e) same h in
     record { full = g .full; count = g .count; list = g .list; still = still-trans k (g .still) }

@@ -17,7 +17,7 @@ use Rattle.model.specs.Archive.{Covered, Archived, Distinct, Follows, Zoned}
 use Rattle.layout.specs.Layout.{listAt, listEnd}
 use Rattle.rows.specs.Rows.{listIn}
 use Rattle.groups.specs.Groups.{tablesOver}
-use Rattle.groups.specs.Sources.{sourceIn, sourceProblem}
+use Rattle.groups.specs.Sources.{sourceIn}
 use Rattle.groups.specs.declared.Task as DT
 use Rattle.branch_directions.specs.Directions.{directionEnd, widthOf, leadWeights}
 use Rattle.branch_directions.specs.declared.Directions as DD
@@ -51,10 +51,6 @@ problemOf d task ds s work =
       domains = ds;
       tables = tablesOver ds s (sourceIn work (task .records));
     }
-
--- and with the task's
-abbrev pub taskProblem : DT.Task → List ℕ → List ℕ → List ℕ → Problem
-taskProblem task ds s work = sourceProblem (task .objectives) (task .records) (task .ceilings) ds s work
 
 -- the limit while nothing is left out: no sum is as large
 abbrev pub noLimit : ℕ

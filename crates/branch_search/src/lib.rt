@@ -9,11 +9,12 @@ ghost use Rattle.model.specs.Problems.{Word};
 ghost use Rattle.model.specs.Core.{WordCeiling, coreFrontier};
 ghost use Rattle.model.specs.Archive.{weighted};
 ghost use Rattle.layout.specs.Layout.{listEnd};
+ghost use Rattle.groups.specs.Sources.{sourceProblem};
 ghost use Rattle.rows.specs.Rows.{costsIn, EachCost};
 ghost use Rattle.branch_directions.specs.Directions.{leadWeights, Sensible};
 ghost use Rattle.branch_zones.specs.Zones.{Measured};
 ghost use Rattle.branch_pruning.specs.Tests.{zonesOf};
-ghost use Rattle.branch_search.specs.States.{problemOf, taskProblem, extended, leaf, Ready, Standing, OpenedFrom};
+ghost use Rattle.branch_search.specs.States.{problemOf, extended, leaf, Ready, Standing, OpenedFrom};
 ghost use Rattle.branch_search.specs.States.{unended, Between, Passed, ExploredSays, LeftOver};
 ghost use Rattle.branch_search.specs.Passes.{ZonesWritten, ZonesHold};
 
@@ -259,7 +260,7 @@ fn run_pass(
     work: &mut [u32],
 ) -> branch_pruning::Progress
     requires { ⌜ Ready d task (now sizes) (now s) (now work)
-        × Between (taskProblem task (now sizes) (now s) (now work)) (task .room) (now work) points ⌝ }
+        × Between (sourceProblem task (now sizes) (now s) (now work)) (task .room) (now work) points ⌝ }
     ensures { λ t. ⌜ Passed (problemOf d task (now (sizes .entry)) (now (s .entry)) (now (work .entry)))
         d task (length (now (sizes .entry))) left (now (work .entry)) (now (work .exit)) t ⌝ }
 {
@@ -304,11 +305,11 @@ pub fn explore(
     work: &mut [u32],
 ) -> Explored
     requires { ⌜ Ready d task (now sizes) (now s) (now work)
-        × Between (taskProblem task (now sizes) (now s) (now work)) (task .room) (now work) (from .points) ⌝ }
+        × Between (sourceProblem task (now sizes) (now s) (now work)) (task .room) (now work) (from .points) ⌝ }
     ensures { λ e. ⌜ ExploredSays task (length (now (sizes .entry)))
-        (coreFrontier (taskProblem task (now (sizes .entry)) (now (s .entry)) (now (work .entry))))
+        (coreFrontier (sourceProblem task (now (sizes .entry)) (now (s .entry)) (now (work .entry))))
         (now (work .entry)) (now (work .exit)) e
-        × LeftOver (taskProblem task (now (sizes .entry)) (now (s .entry)) (now (work .entry)))
+        × LeftOver (sourceProblem task (now (sizes .entry)) (now (s .entry)) (now (work .entry)))
         (task .room) (from .budget) (now (work .exit)) e ⌝ }
 {
     let mut points = from.points;

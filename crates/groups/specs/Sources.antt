@@ -8,20 +8,26 @@ use Rattle.model.specs.Problems.{Problem, DomainSize}
 use Rattle.problem.specs.Records.{Whole}
 use Rattle.layout.specs.Layout.{sourceAt, searchEnd}
 use Rattle.groups.specs.Groups.{tablesOver}
+use Rattle.groups.specs.declared.Task as DT
 
--- the places of a problem's r records in work memory, and the problem that they make
+-- the places of a problem's r records in work memory, and the problem that a task makes of them
 abbrev pub sourceIn : List ℕ → ℕ → List ℕ
 sourceIn work r = take r (drop sourceAt work)
 
-abbrev pub sourceProblem : ℕ → ℕ → List ℕ → List ℕ → List ℕ → List ℕ → Problem
-sourceProblem p r ceilings ds s work =
-    record { objectives = p; ceilings = take p ceilings; domains = ds; tables = tablesOver ds s (sourceIn work r) }
+abbrev pub sourceProblem : DT.Task → List ℕ → List ℕ → List ℕ → Problem
+sourceProblem task ds s work =
+    record {
+      objectives = task .objectives;
+      ceilings = take (task .objectives) (task .ceilings);
+      domains = ds;
+      tables = tablesOver ds s (sourceIn work (task .records));
+    }
 
--- r accepted records in work memory, over the domain sizes ds
-pub record Source (p r : ℕ) (ceilings ds s work : List ℕ) : Type 0 where
-  pub whole : All (Whole ds s) (sourceIn work r)
-  pub few : r ≤ maxTables
+-- a task's accepted records in work memory, over the domain sizes ds
+pub record Source (task : DT.Task) (ds s work : List ℕ) : Type 0 where
+  pub whole : All (Whole ds s) (sourceIn work (task .records))
+  pub few : task .records ≤ maxTables
   pub small : All DomainSize ds
   pub variables : length ds ≤ maxVariables
-  pub objectives : p ≤ maxObjectives
+  pub objectives : task .objectives ≤ maxObjectives
   pub long : searchEnd ≤ length work

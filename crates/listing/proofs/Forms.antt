@@ -14,17 +14,20 @@ use Rattle.problem.specs.Records.{Whole}
 use Rattle.layout.specs.Layout.{sourceAt}
 use Rattle.groups.specs.Sources.{Source, sourceProblem}
 use Rattle.groups.specs.declared.Task as DT
-use Rattle.pass_list.specs.Says.{FoundSays}
+use Rattle.pass_list.specs.Says.{FoundSays, CoreFound}
 use Rattle.pass_list.specs.declared.Found as DF
 use Rattle.pass_list.proofs.Since.{says-since}
 use Rattle.branch_directions.specs.declared.Directions as DD
-use Rattle.branch_search.specs.States.{taskProblem, Ready, ExploredSays}
+use Rattle.branch_search.specs.States.{Ready, ExploredSays}
 use Rattle.branch_search.specs.declared.Explored as DE
 use Rattle.listing.specs.Says.{Plannable, Kept, PlanSays, foundOf}
 use Rattle.listing.proofs.PlacesKept.{behindAt}
 use Rattle.listing.proofs.PlanKept.{behind-all}
 
-module _ {p r : ℕ} {ceilings ds s work : List ℕ} (source : Source p r ceilings ds s work) where
+module _ {task : DT.Task} {ds s work : List ℕ} (source : Source task ds s work) where
+  abbrev r : ℕ
+  r = task .records
+
   pub source-plannable : Plannable r ds s work
   source-plannable = record {
     whole = source .whole;
@@ -50,7 +53,7 @@ module _ {p r : ℕ} {ceilings ds s work : List ℕ} (source : Source p r ceilin
 
   -- memory in which the records are kept
   module _ {work′ : List ℕ} (kept : Kept r work work′) where
-    pub source-kept : Source p r ceilings ds s work′
+    pub source-kept : Source task ds s work′
     source-kept =
         record {
           whole = rw (kept .source) (source .whole);
@@ -61,20 +64,17 @@ module _ {p r : ℕ} {ceilings ds s work : List ℕ} (source : Source p r ceilin
           long = omega (arith, kept .long, source .long);
         }
 
-    same-problem : sourceProblem p r ceilings ds s work′ ≡ sourceProblem p r ceilings ds s work
+    same-problem : sourceProblem task ds s work′ ≡ sourceProblem task ds s work
     same-problem = rw (kept .source)
 
-    pub first-after : (room : ℕ) (after : List ℕ) (f : DF.Found)
-        → FoundSays p (length ds) (coreFrontier (sourceProblem p r ceilings ds s work′)) room work′ after f
-        → FoundSays p (length ds) (coreFrontier (sourceProblem p r ceilings ds s work)) room work after f
-    first-after room after f = says-since (kept .long) (ap coreFrontier same-problem)
+    pub first-after : (after : List ℕ) (f : DF.Found)
+        → CoreFound (sourceProblem task ds s work′) (task .room) work′ after f
+        → CoreFound (sourceProblem task ds s work) (task .room) work after f
+    first-after after f = says-since (kept .long) (ap coreFrontier same-problem)
 
     -- a plan that passed its test
-    module _ (d : DD.Directions) (same : d .objectives ≡ p) (room : ℕ) (small : room ≤ maxPoints) where
-      abbrev task : DT.Task
-      task = record { records = r; objectives = p; ceilings = ceilings; room = room }
-
-      pub plan-ready : PlanSays d r ds s work work′ → 1 ≤ length ds → All WordCeiling ceilings
+    module _ (d : DD.Directions) (same : d .objectives ≡ task .objectives) (small : task .room ≤ maxPoints) where
+      pub plan-ready : PlanSays d r ds s work work′ → 1 ≤ length ds → All WordCeiling (task .ceilings)
           → Ready d task ds s work′
       plan-ready says some short =
           record {
@@ -88,13 +88,14 @@ module _ {p r : ℕ} {ceilings ds s work : List ℕ} (source : Source p r ceilin
           }
 
       pub explored-says : (after : List ℕ) (e : DE.Explored)
-          → ExploredSays task (length ds) (coreFrontier (taskProblem task ds s work′)) work′ after e
-          → Kept r work after × (e .decided ≡ true → FoundSays p (length ds)
-          (coreFrontier (sourceProblem p r ceilings ds s work)) room work after (foundOf e))
+          → ExploredSays task (length ds) (coreFrontier (sourceProblem task ds s work′)) work′ after e
+          → Kept r work after
+          × (e .decided ≡ true → CoreFound (sourceProblem task ds s work) (task .room) work after (foundOf e))
       explored-says after e says =
           let long : length after ≡ length work = says .still .long ∙ kept .long in (
             record { long = long; source = says .still .source ∙ kept .source },
-            λ t. subst (λ (fs : List Point). FoundSays p (length ds) fs room work after (foundOf e))
+            λ t. subst
+                (λ (fs : List Point). FoundSays (task .objectives) (length ds) fs (task .room) work after (foundOf e))
                 (ap coreFrontier same-problem)
                 (record { full = says .full t; count = says .count t; list = says .list t; long = long }),
           )

@@ -21,10 +21,11 @@ use Rattle.groups.proofs.Overwritten.{over, over-length, over-here}
 use Rattle.views.specs.Wanted.{wantedTable, keptPlaces}
 use Rattle.views.proofs.Narrowing.{narrowed-length, narrowed-small}
 use Rattle.views.proofs.KeptPlaces.{kept-count, kept-whole, kept-tables}
-use Rattle.views.proofs.KeptTables.{wanted-view}
+use Rattle.views.proofs.KeptTables.{sidePart, wanted-view}
 use Rattle.groups.specs.Sources.{sourceIn, sourceProblem, Source}
+use Rattle.groups.specs.declared.Task as DT
 use Rattle.listing.specs.Says.{problemAt, Accepted}
-use Rattle.pass_list.specs.Says.{FoundSays}
+use Rattle.pass_list.specs.Says.{FoundSays, CoreFound}
 use Rattle.pass_list.specs.declared.Found as DF
 use Rattle.pass_list.proofs.Since.{says-since}
 use Rattle.listing.proofs.PlacesKept.{places-tables, core-owners, behindAt, written}
@@ -32,7 +33,7 @@ use Rattle.listing.proofs.PlacesKept.{written-places, written-length}
 
 -- the side's records among some
 abbrev pub onSide : ℕ → List ℕ → List ℕ → List ℕ → List ℕ
-onSide side ss s places = keptPlaces 0 maxObjectives side ss s places
+onSide side ss s places = keptPlaces (sidePart side) ss s places
 
 module _
     (p r at side : ℕ) (ds ss s work : List ℕ) (a : Accepted p r at ds s work) (same : length ss ≡ length ds) where
@@ -40,8 +41,8 @@ module _
       ≡ kept (λ t. within side ss (t .scope)) (coreTables (tablesAt r ds s at))
   side-tables =
       let owners = core-owners (tablesAt r ds s at) (places-owners ds s r at (a .whole)) in
-      kept-tables 0 maxObjectives side ss s ds same (placesAt r ds s at)
-      ∙ ap (kept (wantedTable 0 maxObjectives side ss)) (places-tables ds s r at)
+      kept-tables (sidePart side) ss s ds same (placesAt r ds s at)
+      ∙ ap (kept (wantedTable (sidePart side) ss)) (places-tables ds s r at)
       ∙ wanted-view side ss (coreTables (tablesAt r ds s at)) owners
 
   -- all records are kept where the search looks
@@ -83,7 +84,7 @@ module _
       number = rw read at (keeps .0)
 
       few : count ≤ r
-      few = omega (arith, number, kept-count 0 maxObjectives side ss s (placesAt r ds s at), places-count ds s r at)
+      few = omega (arith, number, kept-count (sidePart side) ss s (placesAt r ds s at), places-count ds s r at)
 
       ends : sourceAt + count ≡ sourceAt + length places
       ends = omega (arith, number)
@@ -102,15 +103,18 @@ module _
 
       -- under ceilings of its own
       module _ (ceilings narrow : List ℕ) (sizes : narrow ≡ narrowed side ss ds) where
+        abbrev task : DT.Task
+        task = record { records = count; objectives = p; ceilings = ceilings; room = maxPoints }
+
         narrow-length : length narrow ≡ length ds
         narrow-length = rw sizes (narrowed-length side ss ds same)
 
-        pub side-source : Source p count ceilings narrow s after
+        pub side-source : Source task narrow s after
         side-source =
             let all-whole = places-whole ds s r at (a .whole) in
             record {
               whole = rw (after-places, sizes)
-                  (kept-whole 0 maxObjectives side ss s ds same (placesAt r ds s at) all-whole);
+                  (kept-whole (sidePart side) ss s ds same (placesAt r ds s at) all-whole);
               few = omega (arith, few, a .tables);
               small = rw sizes (narrowed-small side ss ds (a .small));
               variables = omega (arith, narrow-length, a .variables);
@@ -121,13 +125,12 @@ module _
         abbrev pub half : Problem
         half = view side (withCeilings (take p ceilings) (coreOf (problemAt p ceilings ds s at r))) ss
 
-        side-problem : sourceProblem p count ceilings narrow s after ≡ half
+        side-problem : sourceProblem task narrow s after ≡ half
         unfolding view
         side-problem = rw (sizes, after-places, side-tables)
 
         pub side-says : (work′ : List ℕ) (f : DF.Found)
-            → FoundSays p (length narrow) (coreFrontier (sourceProblem p count ceilings narrow s after)) maxPoints
-            after work′ f
+            → CoreFound (sourceProblem task narrow s after) maxPoints after work′ f
             → FoundSays p (length ds) (coreFrontier half) maxPoints work work′ f
         side-says work′ f h =
             subst (λ (n : ℕ). FoundSays p n (coreFrontier half) maxPoints work work′ f) narrow-length

@@ -18,8 +18,9 @@ use Rattle.layout.specs.Layout.{sourceAt}
 use Rattle.groups.specs.Groups.{tablesOver}
 use Rattle.groups.proofs.Overwritten.{over, over-length, over-here}
 use Rattle.groups.specs.Sources.{sourceProblem, Source}
+use Rattle.groups.specs.declared.Task as DT
 use Rattle.listing.specs.Says.{problemAt, Accepted}
-use Rattle.pass_list.specs.Says.{FoundSays}
+use Rattle.pass_list.specs.Says.{FoundSays, CoreFound}
 use Rattle.pass_list.specs.declared.Found as DF
 use Rattle.pass_list.proofs.Since.{says-since}
 
@@ -77,16 +78,19 @@ module _ (r at : ℕ) (ds s work : List ℕ) (from : ℕ) (inside : from + r ≤
 
 -- they are kept as the problem's records
 module _
-    (p r at : ℕ) (ceilings ds s work : List ℕ) (a : Accepted p r at ds s work) (kept : List ℕ)
+    (p r at room : ℕ) (ceilings ds s work : List ℕ) (a : Accepted p r at ds s work) (kept : List ℕ)
     (says : kept ≡ filled (placesAt r ds s at) (behindAt work sourceAt))
     (wide : List ℕ) (same : wide ≡ coreCeilings ceilings) where
+  abbrev task : DT.Task
+  task = record { records = r; objectives = p; ceilings = wide; room = room }
+
   inside : sourceAt + r ≤ length work
   inside = omega (arith, a .tables, a .memory)
 
   abbrev after : List ℕ
   after = written work sourceAt kept
 
-  pub kept-source : Source p r wide ds s after
+  pub kept-source : Source task ds s after
   kept-source =
       record {
         whole = rw (written-places r at ds s work sourceAt inside kept says) (places-whole ds s r at (a .whole));
@@ -97,11 +101,10 @@ module _
         long = omega (arith, written-length r at ds s work sourceAt inside kept says, a .memory);
       }
 
-  pub kept-says : (room : ℕ) (work′ : List ℕ) (f : DF.Found)
-      → FoundSays p (length ds) (coreFrontier (sourceProblem p r wide ds s after)) room after work′ f
+  pub kept-says : (work′ : List ℕ) (f : DF.Found) → CoreFound (sourceProblem task ds s after) room after work′ f
       → FoundSays p (length ds) (coreFrontier (coreOf (problemAt p ceilings ds s at r))) room work work′ f
-  kept-says room work′ f =
+  kept-says work′ f =
       let read = written-places r at ds s work sourceAt inside kept says in
-      let q : sourceProblem p r wide ds s after ≡ coreOf (problemAt p ceilings ds s at r) =
+      let q : sourceProblem task ds s after ≡ coreOf (problemAt p ceilings ds s at r) =
       rw (same, read, places-tables ds s r at, take-ceilings p ceilings) in
       says-since (written-length r at ds s work sourceAt inside kept says) (ap coreFrontier q)

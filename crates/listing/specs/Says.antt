@@ -20,7 +20,7 @@ use Rattle.branch_search.specs.States.{planIn}
 use Rattle.branch_search.specs.declared.Explored as DE
 
 -- the problem of r accepted records from `at` on
-abbrev pub problemAt : ℕ → List ℕ → List ℕ → List ℕ → ℕ → ℕ → Problem
+abbrev pub problemAt : (p : ℕ) (ceilings ds s : List ℕ) (at r : ℕ) → Problem
 problemAt p ceilings ds s at r =
     record { objectives = p; ceilings = take p ceilings; domains = ds; tables = tablesAt r ds s at }
 

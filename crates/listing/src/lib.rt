@@ -9,7 +9,7 @@ ghost use Rattle.model.specs.Reading.{problemOf};
 ghost use Rattle.model.specs.Core.{WordCeiling, coreCeiling, coreCeilings, coreOf, withCeilings, coreFrontier};
 ghost use Rattle.model.specs.Views.{view};
 ghost use Rattle.groups.specs.Sources.{Source, sourceProblem};
-ghost use Rattle.pass_list.specs.Says.{FoundSays, FoundFor};
+ghost use Rattle.pass_list.specs.Says.{FoundSays, CoreFound, FoundFor};
 ghost use Rattle.branch_directions.specs.Directions.{Sensible};
 ghost use Rattle.listing.specs.Says.{Searchable, Plannable, Kept, PlanSays, foundOf};
 
@@ -82,18 +82,18 @@ fn given_up() -> branch_search::Explored
 fn explore_source(
     s: &[u8],
     sizes: &[u8],
-    r: usize,
-    p: usize,
-    ceilings: [u64; 4],
-    room: usize,
+    task: groups::Task,
     work: &mut [u32],
 ) -> branch_search::Explored
-    requires { ⌜ Source p r ceilings (now sizes) (now s) (now work) × (room ≤ maxPoints) ⌝ }
-    ensures { λ e. ⌜ Kept r (now (work .entry)) (now (work .exit))
-        × (e .decided ≡ true → FoundSays p (length (now (sizes .entry)))
-        (coreFrontier (sourceProblem p r ceilings (now (sizes .entry)) (now (s .entry)) (now (work .entry))))
-        room (now (work .entry)) (now (work .exit)) (foundOf e)) ⌝ }
+    requires { ⌜ Source task (now sizes) (now s) (now work) × (task .room ≤ maxPoints) ⌝ }
+    ensures { λ e. ⌜ Kept (task .records) (now (work .entry)) (now (work .exit))
+        × (e .decided ≡ true → CoreFound
+        (sourceProblem task (now (sizes .entry)) (now (s .entry)) (now (work .entry)))
+        (task .room) (now (work .entry)) (now (work .exit)) (foundOf e)) ⌝ }
 {
+    let r = task.records;
+    let p = task.objectives;
+    let ceilings = task.ceilings;
     let n = sizes.len();
     if n == 0 {
         return given_up();
@@ -109,12 +109,6 @@ fn explore_source(
     if !plan_source(s, sizes, r, d, work) {
         return given_up();
     }
-    let task = groups::Task {
-        records: r,
-        objectives: p,
-        ceilings,
-        room,
-    };
     let from = branch_search::Resume {
         points: 0,
         budget: BUDGET,
@@ -122,34 +116,30 @@ fn explore_source(
     branch_search::explore(from, s, sizes, task, d, work)
 }
 
-// The frontier list of `r` records whose places stand in work memory where a problem's records are: by the second form,
-// and where that gives up by the first; or only by the first.
+// The frontier list of a task whose records' places stand in work memory where a problem's records are: by the second
+// form, and where that gives up by the first; or only by the first.
 pub fn find_source(
     s: &[u8],
     sizes: &[u8],
-    r: usize,
-    p: usize,
-    ceilings: [u64; 4],
-    room: usize,
+    task: groups::Task,
     by_passes: bool,
     work: &mut [u32],
 ) -> pass_list::Found
-    requires { ⌜ Source p r ceilings (now sizes) (now s) (now work) × (room ≤ maxPoints) ⌝ }
-    ensures { λ f. ⌜ FoundSays p (length (now (sizes .entry)))
-        (coreFrontier (sourceProblem p r ceilings (now (sizes .entry)) (now (s .entry)) (now (work .entry))))
-        room (now (work .entry)) (now (work .exit)) f ⌝ }
+    requires { ⌜ Source task (now sizes) (now s) (now work) × (task .room ≤ maxPoints) ⌝ }
+    ensures { λ f. ⌜ CoreFound (sourceProblem task (now (sizes .entry)) (now (s .entry)) (now (work .entry)))
+        (task .room) (now (work .entry)) (now (work .exit)) f ⌝ }
 {
     if by_passes {
-        return pass_list::find_source(s, sizes, r, p, ceilings, room, work);
+        return pass_list::find_source(s, sizes, task, work);
     }
-    let e = explore_source(s, sizes, r, p, ceilings, room, work);
+    let e = explore_source(s, sizes, task, work);
     if e.decided {
         return pass_list::Found {
             full: e.full,
             count: e.count,
         };
     }
-    pass_list::find_source(s, sizes, r, p, ceilings, room, work)
+    pass_list::find_source(s, sizes, task, work)
 }
 
 // The frontier list of a problem that was read, in work memory; only by the first form where that is asked for.
@@ -172,7 +162,13 @@ pub fn find_list(
     problem::keep_places(s, at, r, &sizes[..n], &mut work[layout::SOURCE_AT..]);
     let ceilings = head.ceilings;
     let wide = widened(ceilings);
-    find_source(s, &sizes[..n], r as usize, p, wide, room, by_passes, work)
+    let task = groups::Task {
+        records: r as usize,
+        objectives: p,
+        ceilings: wide,
+        room,
+    };
+    find_source(s, &sizes[..n], task, by_passes, work)
 }
 
 // The list of one half, in work memory: the records on the side, over the domain sizes that it leaves, under the half's
@@ -200,17 +196,23 @@ pub fn find_half(
     let at = problem::tables_start(head);
     problem::keep_places(s, at, r, &sizes[..n], &mut work[layout::RECORDS_AT..]);
     let narrow = views::narrow(&sizes[..n], sides, side);
-    let count = views::keep_records(
-        s,
-        &sizes[..n],
-        sides,
+    let part = views::Part {
         side,
-        0,
-        4,
-        r as usize,
-        layout::RECORDS_AT,
-        layout::SOURCE_AT,
-        work,
-    );
-    find_source(s, &narrow[..n], count, p, ceilings, 64, false, work)
+        low: 0,
+        high: 4,
+    };
+    let which = views::Selection {
+        part,
+        records: r as usize,
+        from: layout::RECORDS_AT,
+        to: layout::SOURCE_AT,
+    };
+    let count = views::keep_records(s, &sizes[..n], sides, which, work);
+    let task = groups::Task {
+        records: count,
+        objectives: p,
+        ceilings,
+        room: 64,
+    };
+    find_source(s, &narrow[..n], task, false, work)
 }

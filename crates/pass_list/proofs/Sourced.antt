@@ -17,19 +17,26 @@ use Rattle.groups.specs.Groups.{placesIn, Placed, Grouped}
 use Rattle.groups.proofs.Overwritten.{over, over-length, over-behind, over-here}
 use Rattle.pass_search.specs.States.{problemIn, gainsIn, Setting}
 use Rattle.groups.specs.Sources.{sourceIn, sourceProblem, Source}
+use Rattle.groups.specs.declared.Task as DT
 use Rattle.pass_suffixes.specs.Gained.{Left}
-use Rattle.pass_list.specs.Says.{FoundSays}
+use Rattle.pass_list.specs.Says.{CoreFound}
 use Rattle.pass_list.specs.declared.Found as DF
 use Rattle.pass_list.proofs.Since.{says-since}
 
 -- the gains of a problem's records are found
-pub record Gained (p r : ℕ) (ceilings ds s was work : List ℕ) : Type 0 where
-  pub source : Source p r ceilings ds s was
-  pub known : Gains (sourceProblem p r ceilings ds s was) (gainsIn p work)
+pub record Gained (task : DT.Task) (ds s was work : List ℕ) : Type 0 where
+  pub source : Source task ds s was
+  pub known : Gains (sourceProblem task ds s was) (gainsIn (task .objectives) work)
   pub none : gainsIn maxObjectives work (length ds) ≡ replicate maxObjectives 0
   pub left : Left was work
 
-module _ {p r : ℕ} {ceilings ds s was gained : List ℕ} (u : Gained p r ceilings ds s was gained) where
+module _ {task : DT.Task} {ds s was gained : List ℕ} (u : Gained task ds s was gained) where
+  abbrev p : ℕ
+  p = task .objectives
+
+  abbrev r : ℕ
+  r = task .records
+
   pub source-apart :
       (sourceAt + r ≤ length gained) × (recordsAt + r ≤ length gained)
       × ((sourceAt + r ≤ recordsAt) ⊎ (recordsAt + r ≤ sourceAt))
@@ -77,12 +84,12 @@ module _ {p r : ℕ} {ceilings ds s was gained : List ℕ} (u : Gained p r ceili
       same-gains : (w j : ℕ) → gainsIn w work j ≡ gainsIn w gained j
       same-gains w j = ap (take w) (behind (gainsAt + 4 * j) (omega (arith, u .source .few)))
 
-      same-problem : problemIn p r ceilings ds s work ≡ sourceProblem p r ceilings ds s was
+      same-problem : problemIn task ds s work ≡ sourceProblem task ds s was
       same-problem =
           let places : placesIn work r ≡ sourceIn was r = ap (take r) (after .1) ∙ copied-places in
           rw places
 
-      pub grouped-setting : Setting p r 0 ds s work
+      pub grouped-setting : Setting task 0 ds s work
       grouped-setting = record {
         grouped = after .0;
         objectives = u .source .objectives;
@@ -90,14 +97,14 @@ module _ {p r : ℕ} {ceilings ds s was gained : List ℕ} (u : Gained p r ceili
         last = same-gains maxObjectives (length ds) ∙ u .none;
       }
 
-      pub grouped-known : Gains (problemIn p r ceilings ds s work) (gainsIn p work)
+      pub grouped-known : Gains (problemIn task ds s work) (gainsIn p work)
       grouped-known =
           let e : _≡_ {A = ℕ → List ℕ} (gainsIn p gained) (gainsIn p work) = fun-ext (λ j. sym (same-gains p j)) in
           subst (λ (q : Problem). Gains q (gainsIn p work)) (sym same-problem)
-          (subst (λ (gs : ℕ → List ℕ). Gains (sourceProblem p r ceilings ds s was) gs) e (u .known))
+          (subst (λ (gs : ℕ → List ℕ). Gains (sourceProblem task ds s was) gs) e (u .known))
 
       pub grouped-says : (room : ℕ) (work′ : List ℕ) (f : DF.Found)
-          → FoundSays p (length ds) (coreFrontier (problemIn p r ceilings ds s work)) room work work′ f
-          → FoundSays p (length ds) (coreFrontier (sourceProblem p r ceilings ds s was)) room was work′ f
+          → CoreFound (problemIn task ds s work) room work work′ f
+          → CoreFound (sourceProblem task ds s was) room was work′ f
       grouped-says room work′ f =
           says-since (after .2 ∙ copied-length) (ap coreFrontier same-problem)

@@ -16,9 +16,11 @@ use Rattle.model.specs.Core.{coreSumEnd}
 use Rattle.model.specs.Costs.{total, totalsFrom}
 use Rattle.model.specs.Bounds.{prefixOk, leastOf}
 use Rattle.groups.specs.Groups.{groupOf, tablesOver, placesIn, Grouped}
-use Rattle.pass_search.specs.States.{tablesIn, prefixOf, Stands, untouched, Rest}
+use Rattle.pass_search.specs.States.{tablesIn, prefixOf, Stands, untouched, restOf, Branching}
 use Rattle.pass_search.specs.declared.Partial as DP
+use Rattle.pass_search.specs.declared.Branch as DC
 use Rattle.pass_search.proofs.Partial.{the-type}
+use Rattle.pass_search.proofs.Branch as branch
 use Rattle.vectors.proofs.Fours.{listed, at-listed}
 use Rattle.pass_search.proofs.FourTotals.{totals-listed}
 use Rattle.groups.proofs.SumLimits.{total-fits}
@@ -45,8 +47,13 @@ standing {x = x} g st vs h = record {
   four = bound-four x vs h;
 }
 
+-- that of a branch
+pub standing-branch : {r : ℕ} {ds s work : List ℕ} {b : DC.Branch} → Grouped ds s work r → Branching r ds s work b
+    → (vs : List Val) → Is (row branch.the-type) b vs → Standing r ds s work (b .partial)
+standing-branch g st vs h = standing g (st .stands) _ (h .1 .1 .0)
+
 -- what the tables that a variable v touches add to the bound of a prefix
-abbrev pub touchedBy : ℕ → ℕ → List ℕ → List ℕ → List ℕ → List ℕ → List ℕ
+abbrev pub touchedBy : (v r : ℕ) (ds s work pre : List ℕ) → List ℕ
 touchedBy v r ds s work pre =
     totalsFrom maxObjectives 0 (leastOf ds pre) (tablesOver ds s (groupOf s v (placesIn work r)))
 
@@ -92,7 +99,7 @@ module _ {r : ℕ} {ds s work : List ℕ} {x : DP.Partial} (a : Standing r ds s 
         rw (touched-is, bound-is, at-listed (own (prefixOf x)) o l, at-listed (whole (prefixOf x)) o l)
         (omega (arith, split o))
 
-    pub rest-left : Rest r ds s work x (listed (λ o. getD (x .bound) o 0 - getD touched o 0))
+    pub rest-left : listed (λ o. getD (x .bound) o 0 - getD touched o 0) ≡ restOf r ds s work x
     rest-left =
         let e : _≡_ {A = ℕ → ℕ} (λ o. whole (prefixOf x) o - own (prefixOf x) o) others =
         fun-ext (λ o. omega (arith, split o)) in
@@ -111,7 +118,7 @@ module _ {r : ℕ} {ds s work : List ℕ} {x : DP.Partial} (a : Standing r ds s 
     pub next-good : v < getD ds (x .len) 0 → prefixOk ds (next x v) ≡ true
     next-good low = rw next-prefix (prefix-more ds (prefixOf x) v (a .stands .good) (rw prefix-length low))
 
-    module _ (rest : List ℕ) (left : Rest r ds s work x rest) (touched : List ℕ)
+    module _ (rest : List ℕ) (left : rest ≡ restOf r ds s work x) (touched : List ℕ)
         (t : touched ≡ touchedBy (x .len) r ds s work (next x v)) where
       split-next : (o : ℕ) → whole (next x v) o ≡ others o + own (next x v) o
       split-next o = rw next-prefix (split-after ds s (prefixOf x) (placesIn work r) (x .len) o prefix-length v)

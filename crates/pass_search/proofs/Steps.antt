@@ -17,9 +17,9 @@ use Rattle.model.specs.Search.{Held, just, dead}
 use Rattle.model.specs.Suffixes.{sharper}
 use Rattle.model.proofs.Sums.{take-added}
 use Rattle.layout.specs.Layout.{gainsAt}
-use Rattle.rows.specs.Rows.{listIn}
-use Rattle.pass_search.specs.States.{heldOf, tablesIn, problemIn, prefixOf, deadIn, gainsIn, ruleOf, Setting}
-use Rattle.pass_search.specs.States.{opensFrom, triesFrom}
+use Rattle.groups.specs.declared.Task as DT
+use Rattle.pass_search.specs.States.{heldOf, tablesIn, problemIn, listedIn, prefixOf, deadUnder, gainsIn, ruleOf}
+use Rattle.pass_search.specs.States.{Setting, opensFrom, triesFrom}
 use Rattle.pass_search.specs.declared.Partial as DP
 use Rattle.pass_search.specs.declared.Best as DB
 use Rattle.model.proofs.Totals.{take-totals}
@@ -27,13 +27,16 @@ use Rattle.pass_search.proofs.FourTotals.{added-zero}
 use Rattle.pass_search.proofs.Partials.{Standing, prefix-length}
 use Rattle.pass_search.proofs.Opening.{Unchanged, opens-leaf, opens-tries, opens-dead, tries-end, tries-next}
 
-module _ {p r k : ℕ} {ds s work : List ℕ} {x : DP.Partial} (mem : Setting p r k ds s work) (a : Standing r ds s work x)
-    (ceilings : List ℕ) (best : DB.Best) where
+module _ {task : DT.Task} {k : ℕ} {ds s work : List ℕ} {x : DP.Partial} (mem : Setting task k ds s work)
+    (a : Standing (task .records) ds s work x) (best : DB.Best) where
+  abbrev p : ℕ
+  p = task .objectives
+
   abbrev q : Problem
-  q = problemIn p r ceilings ds s work
+  q = problemIn task ds s work
 
   abbrev ps : List Point
-  ps = listIn p (length ds) work 0 k
+  ps = listedIn task ds work k
 
   abbrev held : Held
   held = heldOf p (length ds) best
@@ -42,7 +45,7 @@ module _ {p r k : ℕ} {ds s work : List ℕ} {x : DP.Partial} (mem : Setting p 
   unfolding boundOf totals
   bound-front =
       rw (a .stands .exact)
-      (take-totals (leastOf ds (prefixOf x)) (tablesIn r ds s work) p maxObjectives 0 (mem .objectives))
+      (take-totals (leastOf ds (prefixOf x)) (tablesIn (task .records) ds s work) p maxObjectives 0 (mem .objectives))
 
   -- the bound with the gains of the variables without a value; a complete choice gains nothing
   abbrev sharp : List ℕ
@@ -65,10 +68,10 @@ module _ {p r k : ℕ} {ds s work : List ℕ} {x : DP.Partial} (mem : Setting p 
 
   -- a partial choice is opened
   module _ (bound : List ℕ) (b : bound ≡ sharp) (hopeless : Bool)
-      (d : hopeless ≡ deadIn p (length ds) k ceilings work best (take p bound)) where
+      (d : hopeless ≡ deadUnder (q .ceilings) ps held (take p bound)) where
     rule : hopeless ≡ ruleOf q work ps (prefixOf x) held
     unfolding dead
-    rule = d ∙ ap (deadIn p (length ds) k ceilings work best) (ap (take p) b ∙ sharp-front)
+    rule = d ∙ ap (deadUnder (q .ceilings) ps held) (ap (take p) b ∙ sharp-front)
 
     pub left-out : hopeless ≡ true → held ≡ opensFrom q work ps (prefixOf x) held
     left-out e = sym (opens-dead q work ps (prefixOf x) held (a .stands .good) unchanged (sym rule ∙ e))
@@ -86,10 +89,10 @@ module _ {p r k : ℕ} {ds s work : List ℕ} {x : DP.Partial} (mem : Setting p 
           rw (bound-front, all)
           (sym (leaf ∙ ap (λ b. pick b held (just (point (boundOf q (prefixOf x)) (prefixOf x)))) off))
 
-      pub begun : x .len < length ds → (after : DB.Best)
+      pub begins : x .len < length ds → (after : DB.Best)
           → heldOf p (length ds) after ≡ triesFrom q work ps (prefixOf x) 0 held
           → heldOf p (length ds) after ≡ opensFrom q work ps (prefixOf x) held
-      begun l after h =
+      begins l after h =
           h
           ∙ sym (opens-tries q work ps (prefixOf x) held (omega (arith, prefix-length a))
           ∙ ap (λ b. pick b held (triesFrom q work ps (prefixOf x) 0 held)) off)

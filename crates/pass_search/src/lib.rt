@@ -11,14 +11,22 @@ ghost use Rattle.model.specs.Search.{matched, pass};
 ghost use Rattle.layout.specs.Layout.{listEnd, searchEnd};
 ghost use Rattle.groups.specs.Groups.{Placed, Grouped};
 ghost use Rattle.rows.specs.Rows.{listIn};
-ghost use Rattle.pass_search.specs.States.{heldOf, problemIn, prefixOf, deadIn, gainsIn, ruleOf};
-ghost use Rattle.pass_search.specs.States.{Setting, Stands, Rest, opensFrom, triesFrom};
+ghost use Rattle.pass_search.specs.States.{heldOf, problemIn, listedIn, prefixOf, deadUnder, gainsIn, ruleOf};
+ghost use Rattle.pass_search.specs.States.{Setting, Stands, Branching, restOf, opensFrom, triesFrom};
 
 // A partial choice: values of the first `len` variables, and the bound of that prefix.
 pub struct Partial {
     pub len: usize,
     pub values: [u8; 24],
     pub bound: [u64; 4],
+}
+
+// The values of the next variable from `value` on are to be tried; `rest` is what the records that it does not touch
+// add to the bound.
+pub struct Branch {
+    pub partial: Partial,
+    pub rest: [u64; 4],
+    pub value: u8,
 }
 
 // The least point that a pass has met so far, if any.
@@ -50,13 +58,16 @@ fn is_dead(
     best: Best,
     n: usize,
     work: &[u32],
+    task: groups::Task,
     k: usize,
-    p: usize,
-    ceilings: [u64; 4],
 ) -> bool
-    requires { ⌜ (listEnd ≤ length (now work)) × (k ≤ maxPoints) × (p ≤ maxObjectives) ⌝ }
-    ensures { λ b. ⌜ b ≡ deadIn p n k ceilings (now (work .entry)) best (take p bound) ⌝ }
+    requires { ⌜ (listEnd ≤ length (now work)) × (k ≤ maxPoints) × (task .objectives ≤ maxObjectives) ⌝ }
+    ensures { λ b. ⌜ b ≡ deadUnder (take (task .objectives) (task .ceilings))
+        (listIn (task .objectives) n (now (work .entry)) 0 k) (heldOf (task .objectives) n best)
+        (take (task .objectives) bound) ⌝ }
 {
+    let p = task.objectives;
+    let ceilings = task.ceilings;
     if !vectors::is_under(bound, ceilings, p) {
         return true;
     }
@@ -85,7 +96,7 @@ fn sharper_bound(x: Partial, work: &[u32]) -> [u64; 4]
 fn rest_of(x: Partial, s: &[u8], sizes: &[u8], work: &[u32], r: usize) -> [u64; 4]
     requires { ⌜ Grouped (now sizes) (now s) (now work) r × Stands r (now sizes) (now s) (now work) x
         × (x .len < length (now sizes)) ⌝ }
-    ensures { λ rest. ⌜ Rest r (now (sizes .entry)) (now (s .entry)) (now (work .entry)) x rest ⌝ }
+    ensures { λ rest. ⌜ rest ≡ restOf r (now (sizes .entry)) (now (s .entry)) (now (work .entry)) x ⌝ }
 {
     let len = x.len;
     let values = x.values;
@@ -112,7 +123,7 @@ impl Partial {
     ) -> Partial
         requires { ⌜ Grouped (now sizes) (now s) (now work) r × Stands r (now sizes) (now s) (now work) self
             × (self .len < length (now sizes)) × (v < getD (now sizes) (self .len) 0)
-            × Rest r (now sizes) (now s) (now work) self rest ⌝ }
+            × (rest ≡ restOf r (now sizes) (now s) (now work) self) ⌝ }
         ensures { λ y. ⌜ Stands r (now (sizes .entry)) (now (s .entry)) (now (work .entry)) y × (y .len ≡ self .len + 1)
             × (prefixOf y ≡ prefixOf self ++ (v ∷ [])) ⌝ }
     {
@@ -141,21 +152,20 @@ pub fn open_variable(
     s: &[u8],
     sizes: &[u8],
     work: &[u32],
-    r: usize,
+    task: groups::Task,
     k: usize,
-    p: usize,
-    ceilings: [u64; 4],
 ) -> Best
-    requires { ⌜ Setting p r k (now sizes) (now s) (now work) × Stands r (now sizes) (now s) (now work) x ⌝ }
-    ensures { λ h. ⌜ heldOf p (length (now (sizes .entry))) h
-        ≡ opensFrom (problemIn p r ceilings (now (sizes .entry)) (now (s .entry)) (now (work .entry)))
-        (now (work .entry)) (listIn p (length (now (sizes .entry))) (now (work .entry)) 0 k) (prefixOf x)
-        (heldOf p (length (now (sizes .entry))) best) ⌝ }
+    requires { ⌜ Setting task k (now sizes) (now s) (now work)
+        × Stands (task .records) (now sizes) (now s) (now work) x ⌝ }
+    ensures { λ h. ⌜ heldOf (task .objectives) (length (now (sizes .entry))) h
+        ≡ opensFrom (problemIn task (now (sizes .entry)) (now (s .entry)) (now (work .entry)))
+        (now (work .entry)) (listedIn task (now (sizes .entry)) (now (work .entry)) k) (prefixOf x)
+        (heldOf (task .objectives) (length (now (sizes .entry))) best) ⌝ }
 {
     let bound = x.bound;
     let sharper = sharper_bound(x, work);
     let n = sizes.len();
-    if is_dead(sharper, best, n, work, k, p, ceilings) {
+    if is_dead(sharper, best, n, work, task, k) {
         return best;
     }
     if x.len == n {
@@ -166,39 +176,47 @@ pub fn open_variable(
             choice,
         };
     }
-    let rest = rest_of(x, s, sizes, work, r);
-    try_value(x, rest, 0, best, s, sizes, work, r, k, p, ceilings)
+    let rest = rest_of(x, s, sizes, work, task.records);
+    let branch = Branch {
+        partial: x,
+        rest,
+        value: 0,
+    };
+    try_value(branch, best, s, sizes, work, task, k)
 }
 
-// Tries the values of the next variable from `v` on.
+// Tries the values of the next variable from the branch's on.
 pub fn try_value(
-    x: Partial,
-    rest: [u64; 4],
-    v: u8,
+    branch: Branch,
     best: Best,
     s: &[u8],
     sizes: &[u8],
     work: &[u32],
-    r: usize,
+    task: groups::Task,
     k: usize,
-    p: usize,
-    ceilings: [u64; 4],
 ) -> Best
-    requires { ⌜ Setting p r k (now sizes) (now s) (now work) × Stands r (now sizes) (now s) (now work) x
-        × (x .len < length (now sizes)) × (v ≤ getD (now sizes) (x .len) 0)
-        × Rest r (now sizes) (now s) (now work) x rest ⌝ }
-    ensures { λ h. ⌜ heldOf p (length (now (sizes .entry))) h
-        ≡ triesFrom (problemIn p r ceilings (now (sizes .entry)) (now (s .entry)) (now (work .entry)))
-        (now (work .entry)) (listIn p (length (now (sizes .entry))) (now (work .entry)) 0 k) (prefixOf x) v
-        (heldOf p (length (now (sizes .entry))) best) ⌝ }
+    requires { ⌜ Setting task k (now sizes) (now s) (now work)
+        × Branching (task .records) (now sizes) (now s) (now work) branch ⌝ }
+    ensures { λ h. ⌜ heldOf (task .objectives) (length (now (sizes .entry))) h
+        ≡ triesFrom (problemIn task (now (sizes .entry)) (now (s .entry)) (now (work .entry)))
+        (now (work .entry)) (listedIn task (now (sizes .entry)) (now (work .entry)) k) (prefixOf (branch .partial))
+        (branch .value) (heldOf (task .objectives) (length (now (sizes .entry))) best) ⌝ }
 {
+    let x = branch.partial;
+    let rest = branch.rest;
+    let v = branch.value;
     let len = x.len;
     if v >= sizes[len] {
         return best;
     }
-    let child = x.with(v, rest, s, sizes, work, r);
-    let better = open_variable(child, best, s, sizes, work, r, k, p, ceilings);
-    try_value(x, rest, v + 1, better, s, sizes, work, r, k, p, ceilings)
+    let child = x.with(v, rest, s, sizes, work, task.records);
+    let better = open_variable(child, best, s, sizes, work, task, k);
+    let next = Branch {
+        partial: x,
+        rest,
+        value: v + 1,
+    };
+    try_value(next, better, s, sizes, work, task, k)
 }
 
 // The empty partial choice, with its bound over the `r` records that are searched.
@@ -227,22 +245,20 @@ pub fn next_point(
     s: &[u8],
     sizes: &[u8],
     work: &[u32],
-    r: usize,
+    task: groups::Task,
     k: usize,
-    p: usize,
-    ceilings: [u64; 4],
 ) -> Best
-    requires { ⌜ Setting p r k (now sizes) (now s) (now work) × Stands r (now sizes) (now s) (now work) root
-        × (root .len ≡ 0) ⌝ }
-    ensures { λ h. ⌜ heldOf p (length (now (sizes .entry))) h
-        ≡ pass (problemIn p r ceilings (now (sizes .entry)) (now (s .entry)) (now (work .entry)))
-        (ruleOf (problemIn p r ceilings (now (sizes .entry)) (now (s .entry)) (now (work .entry))) (now (work .entry)))
-        (listIn p (length (now (sizes .entry))) (now (work .entry)) 0 k) ⌝ }
+    requires { ⌜ Setting task k (now sizes) (now s) (now work)
+        × Stands (task .records) (now sizes) (now s) (now work) root × (root .len ≡ 0) ⌝ }
+    ensures { λ h. ⌜ heldOf (task .objectives) (length (now (sizes .entry))) h
+        ≡ pass (problemIn task (now (sizes .entry)) (now (s .entry)) (now (work .entry)))
+        (ruleOf (problemIn task (now (sizes .entry)) (now (s .entry)) (now (work .entry))) (now (work .entry)))
+        (listedIn task (now (sizes .entry)) (now (work .entry)) k) ⌝ }
 {
     let none = Best {
         found: false,
         costs: [0u64; 4],
         choice: [0u8; 24],
     };
-    open_variable(root, none, s, sizes, work, r, k, p, ceilings)
+    open_variable(root, none, s, sizes, work, task, k)
 }

@@ -13,6 +13,7 @@ use Rattle.layout.specs.Layout.{gainsAt, sourceAt, searchEnd}
 use Rattle.groups.proofs.Overwritten.{over}
 use Rattle.pass_search.specs.States.{gainsIn}
 use Rattle.groups.specs.Sources.{sourceProblem, Source}
+use Rattle.groups.specs.declared.Task as DT
 use Rattle.pass_suffixes.specs.Gained.{Found-from, Left}
 use Rattle.pass_suffixes.proofs.GainRows.{gainsCount, found-same, cleared-found, cleared-left}
 use Rattle.pass_suffixes.proofs.GainRows.{written-found, found-gains, found-last}
@@ -20,16 +21,19 @@ use Rattle.pass_suffixes.proofs.GainRows.{written-found, found-gains, f
 left-both : (was work then : List ℕ) → Left was work → Left work then → Left was then
 left-both was work then h k = (k .0 ∙ h .0, k .1 ∙ h .1)
 
-module _ {p r : ℕ} {ceilings ds s was : List ℕ} (source : Source p r ceilings ds s was) where
+module _ {task : DT.Task} {ds s was : List ℕ} (source : Source task ds s was) where
+  abbrev p : ℕ
+  p = task .objectives
+
   abbrev q : Problem
-  q = sourceProblem p r ceilings ds s was
+  q = sourceProblem task ds s was
 
   -- the records and the problem stay
   module _ (work : List ℕ) (left : Left was work) where
-    same-problem : sourceProblem p r ceilings ds s work ≡ q
+    same-problem : sourceProblem task ds s work ≡ q
     same-problem = rw (left .0)
 
-    same-source : Source p r ceilings ds s work
+    same-source : Source task ds s work
     same-source =
         record {
           whole = rw (left .0) (source .whole);
@@ -41,12 +45,12 @@ module _ {p r : ℕ} {ceilings ds s was : List ℕ} (source : Source p r ceiling
         }
 
     pub found-asks : (o k : ℕ) → Found-from q o k work
-        → Source p r ceilings ds s work × Found-from (sourceProblem p r ceilings ds s work) o k work
+        → Source task ds s work × Found-from (sourceProblem task ds s work) o k work
     found-asks o k u = (same-source, rw same-problem u)
 
     -- one search more, and its gain written
     pub search-next : (o k : ℕ) → o < p → k < length ds → 1 ≤ k → Found-from q o k work → (then : List ℕ) (g : ℕ)
-        → Gain (sourceProblem p r ceilings ds s work) o k g × (drop gainsAt then ≡ drop gainsAt work)
+        → Gain (sourceProblem task ds s work) o k g × (drop gainsAt then ≡ drop gainsAt work)
         × (length then ≡ length work)
         → Found-from q o (k - 1) (set then (gainsAt + 4 * k + o) g) × Left was (set then (gainsAt + 4 * k + o) g)
     search-next o k own more low u then g (gain, same, long) =
@@ -61,7 +65,7 @@ module _ {p r : ℕ} {ceilings ds s was : List ℕ} (source : Source p r ceiling
 
     -- one objective more
     pub objective-next : (o : ℕ) (then : List ℕ)
-        → Found-from (sourceProblem p r ceilings ds s work) o 0 then × Left work then
+        → Found-from (sourceProblem task ds s work) o 0 then × Left work then
         → Found-from q o 0 then × Left was then
     objective-next o then (u, h) = (rw same-problem at u, left-both was work then left h)
 

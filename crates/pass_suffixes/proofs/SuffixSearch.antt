@@ -25,7 +25,8 @@ use Rattle.layout.specs.Layout.{recordsAt, gainsAt, sourceAt, searchEnd}
 use Rattle.groups.specs.Groups.{tablesOver, placesIn, Placed, Grouped}
 use Rattle.groups.proofs.Overwritten.{over, over-length, over-behind, over-here}
 use Rattle.rows.specs.Rows.{listIn}
-use Rattle.pass_search.specs.States.{heldOf, problemIn, tablesIn, prefixOf, gainsIn, ruleOf, Setting, Stands}
+use Rattle.pass_search.specs.States.{heldOf, problemIn, listedIn, tablesIn, prefixOf, gainsIn, ruleOf}
+use Rattle.pass_search.specs.States.{Setting, Stands}
 use Rattle.pass_search.specs.declared.Partial as DP
 use Rattle.pass_search.specs.declared.Best as DB
 use Rattle.vectors.proofs.Fours.{at-listed}
@@ -33,31 +34,44 @@ use Rattle.pass_search.proofs.FourTotals.{totals-listed}
 use Rattle.views.specs.Wanted.{keptPlaces}
 use Rattle.views.proofs.Narrowing.{narrowed-length, narrowed-small}
 use Rattle.views.proofs.KeptPlaces.{kept-count, kept-whole, kept-tables}
-use Rattle.views.proofs.KeptTables.{wanted-suffix}
+use Rattle.views.proofs.KeptTables.{suffixPart, wanted-suffix}
 use Rattle.groups.specs.Sources.{sourceIn, sourceProblem, Source}
+use Rattle.groups.specs.declared.Task as DT
 use Rattle.pass_suffixes.specs.Gained.{Found-from}
 use Rattle.pass_suffixes.proofs.GainRows.{row-at, row-width, found-same, found-last}
 
+-- the task of objective o alone: so many records, under the ceilings cs, and one point
+abbrev pub alone : ℕ → ℕ → List ℕ → DT.Task
+alone count o cs = record { records = count; objectives = o + 1; ceilings = cs; room = 0 }
+
 -- the records of objective o over the variables from k on, by the side list ss, over the domain sizes that it leaves:
--- `count` of r, their places written
-pub record Suffix (p r : ℕ) (ceilings ds s was : List ℕ) (o k : ℕ) (ss sizes : List ℕ) (count : ℕ) (laid : List ℕ)
+-- `count` of a task's, their places written
+pub record Suffix (task : DT.Task) (ds s was : List ℕ) (o k : ℕ) (ss sizes : List ℕ) (count : ℕ) (laid : List ℕ)
     : Type 0 where
-  pub source : Source p r ceilings ds s was
-  pub known : Found-from (sourceProblem p r ceilings ds s was) o k was
-  pub own : o < p
+  pub source : Source task ds s was
+  pub known : Found-from (sourceProblem task ds s was) o k was
+  pub own : o < task .objectives
   pub more : k < length ds
   pub sides : ss ≡ suffixSides (length ds) k
   pub narrow : sizes ≡ narrowed 1 ss ds
-  pub counted : count ≡ length (keptPlaces o (o + 1) 1 ss s (sourceIn was r))
-  pub written : laid ≡ over was recordsAt (keptPlaces o (o + 1) 1 ss s (sourceIn was r)) (recordsAt + count)
+  pub counted : count ≡ length (keptPlaces (suffixPart o) ss s (sourceIn was (task .records)))
+  pub written : laid
+      ≡ over was recordsAt (keptPlaces (suffixPart o) ss s (sourceIn was (task .records))) (recordsAt + count)
 
-module _ {p r : ℕ} {ceilings ds s was : List ℕ} {o k : ℕ} {ss sizes : List ℕ} {count : ℕ} {laid : List ℕ}
-    (u : Suffix p r ceilings ds s was o k ss sizes count laid) where
+module _ {task : DT.Task} {ds s was : List ℕ} {o k : ℕ} {ss sizes : List ℕ} {count : ℕ} {laid : List ℕ}
+    (u : Suffix task ds s was o k ss sizes count laid) where
   abbrev q : Problem
-  q = sourceProblem p r ceilings ds s was
+  q = sourceProblem task ds s was
+
+  abbrev all : List ℕ
+  all = sourceIn was (task .records)
 
   abbrev places : List ℕ
-  places = keptPlaces o (o + 1) 1 ss s (sourceIn was r)
+  places = keptPlaces (suffixPart o) ss s all
+
+  -- the ceiling of the objective
+  abbrev top : ℕ
+  top = getD (task .ceilings) o 0
 
   side-each : length ss ≡ length ds
   side-each = rw (u .sides) (sym (sides-length (length ds) k (omega (arith, u .more))))
@@ -70,15 +84,16 @@ module _ {p r : ℕ} {ceilings ds s was : List ℕ} {o k : ℕ} {ss sizes : List
   domains = u .narrow ∙ rw (u .sides)
 
   tables : tablesOver sizes s places ≡ suffixOf q o k .tables
-  tables = rw (u .narrow, kept-tables o (o + 1) 1 ss s ds side-each (sourceIn was r), u .sides) (wanted-suffix q o k)
+  tables = rw (u .narrow, kept-tables (suffixPart o) ss s ds side-each all, u .sides) (wanted-suffix q o k)
 
   few : count ≤ maxTables
   few =
       omega (
         arith,
         u .counted,
-        kept-count o (o + 1) 1 ss s (sourceIn was r),
-        length-take-le r (drop sourceAt was) (omega (arith, u .source .few, u .source .long, length-drop sourceAt was)),
+        kept-count (suffixPart o) ss s all,
+        length-take-le (task .records) (drop sourceAt was)
+            (omega (arith, u .source .few, u .source .long, length-drop sourceAt was)),
         u .source .few,
       )
 
@@ -109,8 +124,7 @@ module _ {p r : ℕ} {ceilings ds s was : List ℕ} {o k : ℕ} {ss sizes : List
         variables = omega (arith, wide, u .source .variables);
         long = omega (arith, laid-long, u .source .long);
         whole =
-            rw laid-places
-            (rw (u .narrow) (kept-whole o (o + 1) 1 ss s ds side-each (sourceIn was r) (u .source .whole)));
+            rw laid-places (rw (u .narrow) (kept-whole (suffixPart o) ss s ds side-each all (u .source .whole)));
       }
 
   -- and grouped
@@ -129,8 +143,8 @@ module _ {p r : ℕ} {ceilings ds s was : List ℕ} {o k : ℕ} {ss sizes : List
     enough : searchEnd ≤ length work
     enough = omega (arith, same-long, u .source .long)
 
-    pub suffix-setting : Setting (o + 1) count 0 sizes s work
-    suffix-setting =
+    pub suffix-setting : (cs : List ℕ) → Setting (alone count o cs) 0 sizes s work
+    suffix-setting cs =
         record {
           grouped = group .0;
           objectives = omega (arith, u .source .objectives, u .own);
@@ -154,23 +168,23 @@ module _ {p r : ℕ} {ceilings ds s was : List ℕ} {o k : ℕ} {ss sizes : List
     suffix-sound = gains-sound (suffixOf q o k) (gainsIn (suc o) work) suffix-known
 
     -- the problem that the search speaks of
-    ceiling : getD (q .ceilings) o 0 ≡ getD ceilings o 0
-    ceiling = getD-take p ceilings o 0 (u .own)
+    ceiling : getD (q .ceilings) o 0 ≡ top
+    ceiling = getD-take (task .objectives) (task .ceilings) o 0 (u .own)
 
     suffix-tables : tablesIn count sizes s work ≡ suffixOf q o k .tables
     suffix-tables = ap (tablesOver sizes s) (ap (take count) (group .1) ∙ laid-places) ∙ tables
 
-    suffix-problem : (cs : List ℕ) → take (o + 1) cs ≡ replicate o 1 ++ (getD ceilings o 0 ∷ [])
-        → problemIn (o + 1) count cs sizes s work ≡ suffixOf q o k
+    suffix-problem : (cs : List ℕ) → take (o + 1) cs ≡ replicate o 1 ++ (top ∷ [])
+        → problemIn (alone count o cs) sizes s work ≡ suffixOf q o k
     unfolding suffixOf
     suffix-problem cs e = rw (e, suffix-tables, domains, ceiling, add-one) refl
 
     -- what it finds, from the empty choice `root` with its bound
-    module _ (cs : List ℕ) (limits : take (o + 1) cs ≡ replicate o 1 ++ (getD ceilings o 0 ∷ [])) (root : DP.Partial)
+    module _ (cs : List ℕ) (limits : take (o + 1) cs ≡ replicate o 1 ++ (top ∷ [])) (root : DP.Partial)
         (start : (root .len ≡ 0) × Stands count sizes s work root) (best : DB.Best)
         (gives : heldOf (o + 1) (length sizes) best
-        ≡ pass (problemIn (o + 1) count cs sizes s work) (ruleOf (problemIn (o + 1) count cs sizes s work) work)
-        (listIn (o + 1) (length sizes) work 0 0)) where
+        ≡ pass (problemIn (alone count o cs) sizes s work) (ruleOf (problemIn (alone count o cs) sizes s work) work)
+        (listedIn (alone count o cs) sizes work 0)) where
       abbrev result : Held
       result = pass (suffixOf q o k) (ruleOf (suffixOf q o k) work) []
 
@@ -207,12 +221,12 @@ module _ {p r : ℕ} {ceilings ds s was : List ℕ} {o k : ℕ} {ss sizes : List
           (omega (arith, u .source .objectives, u .own)))
 
       gain-is :
-          pick (best .found) (getD (best .costs) o 0) (getD ceilings o 0) - getD (root .bound) o 0 ≡ gainOf q o k result
+          pick (best .found) (getD (best .costs) o 0) top - getD (root .bound) o 0 ≡ gainOf q o k result
       unfolding gainOf
-      gain-is = rw (← held-is, ceiling, cost-is (getD ceilings o 0), least-is) refl
+      gain-is = rw (← held-is, ceiling, cost-is top, least-is) refl
 
       pub gain-holds : (g : ℕ)
-          → g ≤ pick (best .found) (getD (best .costs) o 0) (getD ceilings o 0) - getD (root .bound) o 0 → Gain q o k g
+          → g ≤ pick (best .found) (getD (best .costs) o 0) top - getD (root .bound) o 0 → Gain q o k g
       gain-holds g less =
           let most = gainOf q o k result in
           let small : g ≤ most = omega (arith, gain-is) in

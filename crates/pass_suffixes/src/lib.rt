@@ -62,90 +62,79 @@ fn gain_of(best: pass_search::Best, least: u64, o: usize, c: u64) -> u32
 pub fn suffix_gain(
     s: &[u8],
     sizes: &[u8],
-    r: usize,
-    p: usize,
-    ceilings: [u64; 4],
+    task: groups::Task,
     o: usize,
     k: usize,
     work: &mut [u32],
 ) -> u32
-    requires { ⌜ Source p r ceilings (now sizes) (now s) (now work)
-        × Found-from (sourceProblem p r ceilings (now sizes) (now s) (now work)) o k (now work) × (o < p)
+    requires { ⌜ Source task (now sizes) (now s) (now work)
+        × Found-from (sourceProblem task (now sizes) (now s) (now work)) o k (now work) × (o < task .objectives)
         × (k < length (now sizes)) ⌝ }
-    ensures { λ g. ⌜ Gain (sourceProblem p r ceilings (now (sizes .entry)) (now (s .entry)) (now (work .entry))) o k g
+    ensures { λ g. ⌜ Gain (sourceProblem task (now (sizes .entry)) (now (s .entry)) (now (work .entry))) o k g
         × (drop gainsAt (now (work .exit)) ≡ drop gainsAt (now (work .entry)))
         × (length (now (work .exit)) ≡ length (now (work .entry))) ⌝ }
 {
     let n = sizes.len();
     let sides = suffix_sides(k);
     let narrow = views::narrow(sizes, &sides[..n], 1);
-    let count = views::keep_records(
-        s,
-        sizes,
-        &sides[..n],
-        1,
-        o as u8,
-        (o as u8) + 1,
-        r,
-        layout::SOURCE_AT,
-        layout::RECORDS_AT,
-        work,
-    );
+    let part = views::Part {
+        side: 1,
+        low: o as u8,
+        high: (o as u8) + 1,
+    };
+    let which = views::Selection {
+        part,
+        records: task.records,
+        from: layout::SOURCE_AT,
+        to: layout::RECORDS_AT,
+    };
+    let count = views::keep_records(s, sizes, &sides[..n], which, work);
     groups::group_records(s, &narrow[..n], count, work);
     let root = pass_search::root_of(s, &narrow[..n], count, work);
     let bound = root.bound;
+    let ceilings = task.ceilings;
     let c = ceilings[o];
-    let best = pass_search::next_point(
-        root,
-        s,
-        &narrow[..n],
-        work,
-        count,
-        0,
-        o + 1,
-        suffix_ceilings(o, c),
-    );
+    let limits = suffix_ceilings(o, c);
+    let alone = groups::Task {
+        records: count,
+        objectives: o + 1,
+        ceilings: limits,
+        room: 0,
+    };
+    let best = pass_search::next_point(root, s, &narrow[..n], work, alone, 0);
     gain_of(best, bound[o], o, c)
 }
 
 // The gains of one objective, from the last variable to the second.
-fn objective_gains(
-    s: &[u8],
-    sizes: &[u8],
-    r: usize,
-    p: usize,
-    ceilings: [u64; 4],
-    o: usize,
-    work: &mut [u32],
-)
-    requires { ⌜ Source p r ceilings (now sizes) (now s) (now work)
-        × Found-from (sourceProblem p r ceilings (now sizes) (now s) (now work)) o (length (now sizes)) (now work)
-        × (o < p) ⌝ }
-    ensures { λ _. ⌜ Found-from (sourceProblem p r ceilings (now (sizes .entry)) (now (s .entry)) (now (work .entry)))
+fn objective_gains(s: &[u8], sizes: &[u8], task: groups::Task, o: usize, work: &mut [u32])
+    requires { ⌜ Source task (now sizes) (now s) (now work)
+        × Found-from (sourceProblem task (now sizes) (now s) (now work)) o (length (now sizes)) (now work)
+        × (o < task .objectives) ⌝ }
+    ensures { λ _. ⌜ Found-from (sourceProblem task (now (sizes .entry)) (now (s .entry)) (now (work .entry)))
         o 0 (now (work .exit))
         × Left (now (work .entry)) (now (work .exit)) ⌝ }
 {
     let mut k = sizes.len();
     while k > 1 {
         k -= 1;
-        let gain = suffix_gain(s, sizes, r, p, ceilings, o, k, work);
+        let gain = suffix_gain(s, sizes, task, o, k, work);
         work[layout::GAINS_AT + 4 * k + o] = gain;
     }
 }
 
 // The gains of all objectives, from the last to the first: a search in one objective needs those before it to be none.
-pub fn find_gains(s: &[u8], sizes: &[u8], r: usize, p: usize, ceilings: [u64; 4], work: &mut [u32])
-    requires { ⌜ Source p r ceilings (now sizes) (now s) (now work) ⌝ }
-    ensures { λ _. ⌜ Gains (sourceProblem p r ceilings (now (sizes .entry)) (now (s .entry)) (now (work .entry)))
-        (gainsIn p (now (work .exit)))
+pub fn find_gains(s: &[u8], sizes: &[u8], task: groups::Task, work: &mut [u32])
+    requires { ⌜ Source task (now sizes) (now s) (now work) ⌝ }
+    ensures { λ _. ⌜ Gains (sourceProblem task (now (sizes .entry)) (now (s .entry)) (now (work .entry)))
+        (gainsIn (task .objectives) (now (work .exit)))
         × (gainsIn maxObjectives (now (work .exit)) (length (now (sizes .entry))) ≡ replicate maxObjectives 0)
         × Left (now (work .entry)) (now (work .exit)) ⌝ }
 {
     clear_gains(work);
-    let mut o = p;
+    let mut o = task.objectives;
     while o > 0 {
         o -= 1;
-        objective_gains(s, sizes, r, p, ceilings, o, work);
+        objective_gains(s, sizes, task, o, work);
     }
 }
 

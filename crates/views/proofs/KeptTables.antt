@@ -14,6 +14,7 @@ use Rattle.model.specs.Views.{within, kept}
 use Rattle.model.specs.Suffixes.{suffixSides, inSuffix, suffixOf}
 use Rattle.model.proofs.Elements.{all-map}
 use Rattle.views.specs.Wanted.{wantedTable}
+use Rattle.views.specs.declared.Part as DP
 
 -- one objective
 only-one : (x o : ℕ) (b : Bool) → (leb o x && (ltb x (o + 1) && b)) ≡ (eqb x o && b)
@@ -27,8 +28,12 @@ only-one x o b = below (leb o x) refl
     below true e = above (ltb x (o + 1)) refl (leb-true o x e)
     below false e = rw (ne-eqb x o (λ k. omega (arith, leb-false o x e)))
 
+-- the records of objective o on side 1
+abbrev pub suffixPart : ℕ → DP.Part
+suffixPart o = record { side = 1; low = o; high = o + 1 }
+
 pub wanted-suffix : (q : Problem) (o k : ℕ)
-    → kept (wantedTable o (o + 1) 1 (suffixSides (length (q .domains)) k)) (q .tables) ≡ suffixOf q o k .tables
+    → kept (wantedTable (suffixPart o) (suffixSides (length (q .domains)) k)) (q .tables) ≡ suffixOf q o k .tables
 unfolding suffixOf
 wanted-suffix q o k =
     ap (λ (f : Table → Bool). kept f (q .tables))
@@ -40,9 +45,13 @@ unfolding kept
 kept-same f g [] h = refl
 kept-same f g (t ∷ ts) h = rw (h .0, kept-same f g ts (h .1))
 
+-- all records on a side
+abbrev pub sidePart : ℕ → DP.Part
+sidePart k = record { side = k; low = 0; high = maxObjectives }
+
 pub wanted-view : (k : ℕ) (ss : List ℕ) (ts : List Table) → All (λ t. t .objective < maxObjectives) ts
-    → kept (wantedTable 0 maxObjectives k ss) ts ≡ kept (λ t. within k ss (t .scope)) ts
+    → kept (wantedTable (sidePart k) ss) ts ≡ kept (λ t. within k ss (t .scope)) ts
 wanted-view k ss ts h =
-    kept-same (wantedTable 0 maxObjectives k ss) (λ t. within k ss (t .scope)) ts
-    (all-map (λ t. t .objective < maxObjectives) (λ t. wantedTable 0 maxObjectives k ss t ≡ within k ss (t .scope))
+    kept-same (wantedTable (sidePart k) ss) (λ t. within k ss (t .scope)) ts
+    (all-map (λ t. t .objective < maxObjectives) (λ t. wantedTable (sidePart k) ss t ≡ within k ss (t .scope))
     (λ t l. rw (le-leb 0 (t .objective) (omega arith), lt-ltb (t .objective) maxObjectives l)) ts h)

@@ -8,17 +8,17 @@ use Rattle.model.specs.Basics.{keepIf}
 use Rattle.model.specs.Problems.{Table}
 use Rattle.model.specs.Reading.{tableObjective, tableScope}
 use Rattle.model.specs.Views.{within}
+use Rattle.views.specs.declared.Part as DP
 
--- objectives from low on and below high, side k of the side list ss
-abbrev pub wanted : ℕ → ℕ → ℕ → List ℕ → ℕ → List ℕ → Bool
-wanted low high k ss o vs = leb low o && (ltb o high && within k ss vs)
+-- objectives from low on and below high, one side of the side list ss
+abbrev pub wanted : DP.Part → List ℕ → ℕ → List ℕ → Bool
+wanted part ss o vs = leb (part .low) o && (ltb o (part .high) && within (part .side) ss vs)
 
-abbrev pub wantedTable : ℕ → ℕ → ℕ → List ℕ → Table → Bool
-wantedTable low high k ss t = wanted low high k ss (t .objective) (t .scope)
+abbrev pub wantedTable : DP.Part → List ℕ → Table → Bool
+wantedTable part ss t = wanted part ss (t .objective) (t .scope)
 
 -- the places of such records
-unfoldable pub keptPlaces : ℕ → ℕ → ℕ → List ℕ → List ℕ → List ℕ → List ℕ
-keptPlaces low high k ss s [] = []
-keptPlaces low high k ss s (at ∷ places) =
-    keepIf (wanted low high k ss (tableObjective (drop at s)) (tableScope (drop at s)))
-    at (keptPlaces low high k ss s places)
+unfoldable pub keptPlaces : DP.Part → List ℕ → List ℕ → List ℕ → List ℕ
+keptPlaces part ss s [] = []
+keptPlaces part ss s (at ∷ places) =
+    keepIf (wanted part ss (tableObjective (drop at s)) (tableScope (drop at s))) at (keptPlaces part ss s places)

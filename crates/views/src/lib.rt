@@ -16,6 +16,22 @@ ghost use Rattle.problem.specs.Records.{Whole, AllWhole};
 ghost use Rattle.problem.specs.Says.{RefusalSays};
 ghost use Rattle.views.specs.Wanted.{wanted, keptPlaces};
 
+// Which records a part of a problem has: those of objectives `low` to below `high` whose scope lies on the side.
+pub struct Part {
+    pub side: u8,
+    pub low: u8,
+    pub high: u8,
+}
+
+// A part's records are selected of so many whose places stand in work memory from `from` on; theirs are written from
+// `to` on.
+pub struct Selection {
+    pub part: Part,
+    pub records: usize,
+    pub from: usize,
+    pub to: usize,
+}
+
 // Whether a side list gives each of `n` variables 0 or 1.
 pub fn sides_ok(sides: &[u8], n: usize) -> bool
     ensures { λ r. ⌜ r ≡ (eqb (length (now (sides .entry))) n && allSides (now (sides .entry))) ⌝ }
@@ -123,35 +139,35 @@ pub fn narrow(sizes: &[u8], sides: &[u8], side: u8) -> [u8; 24]
     sizes_of
 }
 
-// Of `r` records whose places stand in work memory from `from` on, writes the places of the wanted ones from `to` on:
-// those of objectives `low` to below `high` whose scope lies on the side. Answers how many.
+// Writes the places of the selected records to where they are asked for, in their order. Answers how many.
 pub fn keep_records(
     s: &[u8],
     sizes: &[u8],
     sides: &[u8],
-    side: u8,
-    low: u8,
-    high: u8,
-    r: usize,
-    from: usize,
-    to: usize,
+    which: Selection,
     work: &mut [u32],
 ) -> usize
-    requires { ⌜ All (Whole (now sizes) (now s)) (take r (drop from (now work)))
-        × (length (now sides) ≡ length (now sizes)) × (r ≤ maxTables) × (from + r ≤ length (now work))
-        × (to + r ≤ length (now work)) × ((from + r ≤ to) ⊎ (to + r ≤ from)) ⌝ }
-    ensures { λ c. ⌜ (c ≡ length
-        (keptPlaces low high side (now (sides .entry)) (now (s .entry)) (take r (drop from (now (work .entry))))))
+    requires { ⌜ All (Whole (now sizes) (now s)) (take (which .records) (drop (which .from) (now work)))
+        × (length (now sides) ≡ length (now sizes)) × (which .records ≤ maxTables)
+        × (which .from + which .records ≤ length (now work)) × (which .to + which .records ≤ length (now work))
+        × ((which .from + which .records ≤ which .to) ⊎ (which .to + which .records ≤ which .from)) ⌝ }
+    ensures { λ c. ⌜ (c ≡ length (keptPlaces (which .part) (now (sides .entry)) (now (s .entry))
+        (take (which .records) (drop (which .from) (now (work .entry))))))
         × (now (work .exit)
-        ≡ take to (now (work .entry))
-        ++ keptPlaces low high side (now (sides .entry)) (now (s .entry)) (take r (drop from (now (work .entry))))
-        ++ drop (to + c) (now (work .entry))) ⌝ }
+        ≡ take (which .to) (now (work .entry))
+        ++ keptPlaces (which .part) (now (sides .entry)) (now (s .entry))
+        (take (which .records) (drop (which .from) (now (work .entry))))
+        ++ drop (which .to + c) (now (work .entry))) ⌝ }
 {
+    let part = which.part;
+    let r = which.records;
+    let from = which.from;
+    let to = which.to;
     let mut count: usize = 0;
     let mut i: usize = 0;
     while i < r {
         let at = work[from + i];
-        if is_wanted(s, at as usize, sides, side, low, high) {
+        if is_wanted(s, at as usize, sides, part) {
             work[to + count] = at;
             count += 1;
         }
@@ -160,19 +176,19 @@ pub fn keep_records(
     count
 }
 
-// Whether the record at `at` belongs to an objective from `low` on and below `high`, and lies on the side.
-fn is_wanted(s: &[u8], at: usize, sides: &[u8], side: u8, low: u8, high: u8) -> bool
+// Whether the record at `at` is one of the part's.
+fn is_wanted(s: &[u8], at: usize, sides: &[u8], part: Part) -> bool
     requires { ⌜ (at + 4 + tableArity (drop at (now s)) ≤ length (now s))
         × InRange (length (now sides)) (tableScope (drop at (now s))) ⌝ }
-    ensures { λ r. ⌜ r ≡ wanted low high side (now (sides .entry)) (tableObjective (drop at (now (s .entry))))
+    ensures { λ r. ⌜ r ≡ wanted part (now (sides .entry)) (tableObjective (drop at (now (s .entry))))
         (tableScope (drop at (now (s .entry)))) ⌝ }
 {
     let o = s[at + 2];
-    if o < low {
+    if o < part.low {
         return false;
     }
-    if o >= high {
+    if o >= part.high {
         return false;
     }
-    lies_on(s, at, sides, side)
+    lies_on(s, at, sides, part.side)
 }

@@ -8,10 +8,11 @@ use lib.ListN.{length}
 use borrow.Author.Needs.{needs}
 use denote.Ref.{now}
 use Rattle.model.specs.Core.{coreFrontier}
+use Rattle.groups.specs.Sources.{sourceProblem}
 use Rattle.groups.proofs.Tasks.{ceilings-long}
 use Rattle.branch_directions.proofs.Widths.{weights-long}
 use Rattle.branch_search.specs.declared.Explored as DE
-use Rattle.branch_search.specs.States.{taskProblem, Ready, Still, Between, ExploredSays}
+use Rattle.branch_search.specs.States.{Ready, Still, Between, ExploredSays}
 use Rattle.branch_search.proofs.Memory.{still-refl, still-trans, ready-still}
 use Rattle.branch_search.proofs.Archives.{between-source}
 use Rattle.branch_search.proofs.Passes.{passed-between, passed-full, passed-list, explored-still}
@@ -21,7 +22,7 @@ use Rattle.branch_search.proofs.explore.Tie as tie
 
 abbrev Inv-loop : tie.InvT-loop
 Inv-loop s sizes task d work₀ points₀ left₀ pass₀ work points left pass =
-    (pass ≤ 66) × Still task work₀ work × Between (taskProblem task sizes s work₀) (task .room) work points
+    (pass ≤ 66) × Still task work₀ work × Between (sourceProblem task sizes s work₀) (task .room) work points
     × (left ≤ left₀)
 
 abbrev μ-loop : tie.MeasureT-loop
@@ -124,15 +125,15 @@ module _ (c : Ran) where
   -- what an answer says of the memory before this pass, it says of the memory at the start
   from-start :
       (work : List ℕ) (e : DE.Explored) →
-      ExploredSays (begun .args .task) (length ds) (coreFrontier (taskProblem (begun .args .task) ds bytes before-pass))
+      ExploredSays (begun .args .task) (length ds) (coreFrontier (sourceProblem (begun .args .task) ds bytes before-pass))
       before-pass work e →
       ExploredSays (begun .args .task) (length ds)
-      (coreFrontier (taskProblem (begun .args .task) ds bytes (now (begun .args .work)))) (now (begun .args .work)) work
+      (coreFrontier (sourceProblem (begun .args .task) ds bytes (now (begun .args .work)))) (now (begun .args .work)) work
       e
   from-start = explored-still kept ds bytes
 
   -- the archive that it leaves
-  next : Between (taskProblem (begun .args .task) ds bytes (now (begun .args .work))) (begun .args .task .room)
+  next : Between (sourceProblem (begun .args .task) ds bytes (now (begun .args .work))) (begun .args .task .room)
       after-pass (c .run-pass .result .points)
   next =
       between-source (begun .args .task) ds bytes before-pass (now (begun .args .work)) (sym (kept .source)) after-pass

@@ -14,7 +14,7 @@ use Rattle.listing.proofs.explore_source.Tie as tie
 
 abbrev begun : tie.Else1 → tie.Start
 begun c =
-    let known : tie.After-slice-known = c .before in
+    let known : tie.After-slice-known = c .before .before in
     known .before .before .before
 
 abbrev some : tie.After-spreads-of-arg → tie.Else3
@@ -68,7 +68,7 @@ explore-requires c κs =
     let made = p .plan-source .ensures in
     let short : tie.Else3 = worth (aimed p) in
     let ready =
-    plan-ready (s .pre .0) (made .0) (d .result) (d .ensures .1) (s .args .room) (s .pre .1)
+    plan-ready (s .pre .0) (made .0) (d .result) (d .ensures .1) (s .pre .1)
     (made .1 (not-false _ (sound .if4 .left))) (omega (arith, costly short .before .if1 .left))
     (short .before .are-short .ensures (not-false _ (short .if3 .left))) in
     (ready, empty-between _ _ _)
@@ -80,7 +80,7 @@ returns-5 c =
     let p = planned (sound .before) in
     let s = start p in
     let d = aimed p .choose-directions in
-    explored-says (s .pre .0) (p .plan-source .ensures .0) (d .result) (d .ensures .1) (s .args .room) (s .pre .1)
+    explored-says (s .pre .0) (p .plan-source .ensures .0) (d .result) (d .ensures .1) (s .pre .1)
     _ (e .explore .result) (e .explore .ensures .0)
 
 pub explore-source-spec : {M : Type 1} → statement M

@@ -165,9 +165,9 @@ find-half-spec =
     array-share-prefix-sizes-2
     slice-aggregate-narrow
     narrow-requires
+    (λ c. search needs)  -- cast-t22
     array-share-prefix-sizes-3
     slice-aggregate-keep-records
-    (λ c. search needs)  -- cast-keep-records
     keep-records-requires
     array-share-prefix-narrow
     slice-aggregate-find-source

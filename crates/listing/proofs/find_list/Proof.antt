@@ -68,7 +68,7 @@ find-source-requires c κs =
     let wide : tie.After-widened = c .before .before in
     let begun = started (kept wide) in
     let says = places-at _ _ _ _ (begun .tables-start .ensures) (kept wide .keep-places .ensures) in
-    let source = kept-source _ _ _ _ _ _ _ (records (headed begun)) _ says _ (wide .widened .ensures) in
+    let source = kept-source _ _ _ _ _ _ _ _ (records (headed begun)) _ says _ (wide .widened .ensures) in
     (source, start (headed begun) .pre .1)
 
 returns : tie.Need-returns
@@ -79,7 +79,7 @@ returns c =
     let says = places-at _ _ _ _ (begun .tables-start .ensures) (kept wide .keep-places .ensures) in
     let f = found .find-source in
     list-found _ _ (accepted (headed begun))
-    (kept-says _ _ _ _ _ _ _ (records (headed begun)) _ says _ (wide .widened .ensures) _ _ (f .result) (f .ensures))
+    (kept-says _ _ _ _ _ _ _ _ (records (headed begun)) _ says _ (wide .widened .ensures) _ (f .result) (f .ensures))
 
 pub find-list-spec : {M : Type 1} → statement M
 find-list-spec =
@@ -95,9 +95,9 @@ find-list-spec =
     (λ c. search needs)  -- part-keep-places-end
     keep-places-requires
     (λ c κs. search needs)  -- widened-requires
+    (λ c. search needs)  -- cast-t19
     array-share-prefix-sizes-2
     slice-aggregate-find-source
-    (λ c. search needs)  -- cast-find-source
     find-source-requires
     (λ c. search needs)  -- same-length
     returns)

@@ -5,6 +5,16 @@ use Rattle.listing.proofs.Forms.{source-kept, first-after}
 use Rattle.listing.proofs.find_source.Statement.{statement}
 use Rattle.listing.proofs.find_source.Tie as tie
 
+-- ## the places: what the second form left, and that it gave up
+
+abbrev begun : tie.After-explore-source → tie.Start
+begun c =
+    let known : tie.After-slice-known = c .before .before .before in
+    known .before .before .before
+
+abbrev explored : tie.Else2 → tie.After-explore-source
+explored c = c .before .before .before
+
 returns-2 : tie.Need-returns-2
 returns-2 c =
     let says = c .before .before .before .explore-source .ensures in
@@ -12,15 +22,16 @@ returns-2 c =
 
 find-source-requires-2 : tie.Need-find-source-requires-2
 find-source-requires-2 c κs =
-    let s = c .before .before .before .before .before .before .before .before .before .before in
-    (source-kept (s .pre .0) (c .before .before .before .before .explore-source .ensures .0), s .pre .1)
+    let e = explored (c .before) in
+    let s = begun e in
+    (source-kept (s .pre .0) (e .explore-source .ensures .0), s .pre .1)
 
 returns-3 : tie.Need-returns-3
 returns-3 c =
-    let s = c .before .before .before .before .before .before .before .before .before .before .before .before .before in
-    let f = c .before .before .find-source2 in
-    first-after (s .pre .0) (c .before .before .before .before .before .before .before .explore-source .ensures .0)
-    (s .args .room) _ (f .result) (f .ensures)
+    let found : tie.After-find-source2 = c .before .before in
+    let e = explored (found .before .before) in
+    let f = found .find-source2 in
+    first-after (begun e .pre .0) (e .explore-source .ensures .0) _ (f .result) (f .ensures)
 
 pub find-source-spec : {M : Type 1} → statement M
 find-source-spec =

@@ -5,6 +5,19 @@ use Rattle.listing.proofs.PlanKept.{copy-asked, plan-asked, plan-kept, 
 use Rattle.listing.proofs.plan_source.Statement.{statement}
 use Rattle.listing.proofs.plan_source.Tie as tie
 
+-- ## the places: the records copied, the plan made
+
+abbrev begun : tie.After-copy-numbers → tie.Start
+begun c =
+    let known : tie.After-slice-known = c .before .before in
+    known .before .before .before
+
+abbrev copying : tie.After-make-plan → tie.After-copy-numbers
+copying c = c .before .before .before .before
+
+abbrev making : tie.After-is-sound-arg → tie.After-make-plan
+making c = c .before .before .before .before
+
 copy-numbers-requires : tie.Need-copy-numbers-requires
 copy-numbers-requires c κs =
     let s = c .before .before .before .before in
@@ -12,24 +25,26 @@ copy-numbers-requires c κs =
 
 make-plan-requires : tie.Need-make-plan-requires
 make-plan-requires c κs =
-    let s = c .before .before .before .before .before .before .before .before in
-    plan-asked (s .pre .0) (s .args .d) (s .pre .1) _ (c .before .before .before .copy-numbers .ensures)
+    let copied : tie.After-copy-numbers = c .before .before .before in
+    let s = begun copied in
+    plan-asked (s .pre .0) (s .args .d) (s .pre .1) _ (copied .copy-numbers .ensures)
 
 is-sound-requires : tie.Need-is-sound-requires
 is-sound-requires c κs =
-    let s = c .before .before .before .before .before .before .before .before .before .before .before .before .before in
-    test-asked (s .pre .0) (s .args .d) (s .pre .1) _
-    (c .before .before .before .before .before .before .before .before .copy-numbers .ensures) _
-    (c .before .before .before .before .make-plan .ensures)
+    let made = making c in
+    let copied = copying made in
+    let s = begun copied in
+    test-asked (s .pre .0) (s .args .d) (s .pre .1) _ (copied .copy-numbers .ensures) _ (made .make-plan .ensures)
 
 returns : tie.Need-returns
 returns c =
-    let s = c .before .before .before .before .before .before .before .before .before .before .before .before .before
-    .before in
-    let copied = c .before .before .before .before .before .before .before .before .before .copy-numbers .ensures in
-    let made = c .before .before .before .before .before .make-plan .ensures in (
-      plan-kept (s .pre .0) (s .args .d) (s .pre .1) _ copied _ made,
-      λ ok. plan-says (s .pre .0) (s .args .d) (s .pre .1) _ copied _ made (c .is-sound .ensures ok),
+    let made = making (c .before) in
+    let copied = copying made in
+    let s = begun copied in
+    let copy = copied .copy-numbers .ensures in
+    let plan = made .make-plan .ensures in (
+      plan-kept (s .pre .0) (s .args .d) (s .pre .1) _ copy _ plan,
+      λ ok. plan-says (s .pre .0) (s .args .d) (s .pre .1) _ copy _ plan (c .is-sound .ensures ok),
     )
 
 pub plan-source-spec : {M : Type 1} → statement M

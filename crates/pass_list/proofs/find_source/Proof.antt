@@ -7,53 +7,62 @@ use Rattle.pass_list.proofs.Sourced.{grouped-says}
 use Rattle.pass_list.proofs.find_source.Statement.{statement}
 use Rattle.pass_list.proofs.find_source.Tie as tie
 
+-- ## the places: the gains found, the records copied and grouped, the empty choice, the list
+
+abbrev begun : tie.After-find-gains → tie.Start
+begun c =
+    let known : tie.After-slice-known = c .before .before in
+    known .before .before .before
+
+abbrev gaining : tie.After-copy-numbers → tie.After-find-gains
+gaining c = c .before .before .before .before
+
+abbrev copying : tie.After-group-records → tie.After-copy-numbers
+copying c = c .before .before .before .before
+
+abbrev grouping : tie.After-root-of → tie.After-group-records
+grouping c = c .before .before .before .before
+
 -- the gains are found
 gained : (c : tie.After-find-gains)
-    → let s = c .before .before .before .before .before in
-    let a = s .args in
-    Gained (a .p) (a .r) (a .ceilings) (now (a .sizes)) (now (a .s)) (now (a .work))
-    (c .find-gains .last .1 .1 .1 .1 .1 .0)
+    → let a = begun c .args in
+    Gained (a .task) (now (a .sizes)) (now (a .s)) (now (a .work)) (c .find-gains .last .1 .1 .1 .0)
 gained c =
-    let g = c .find-gains in
-    record {
-      source = c .before .before .before .before .before .pre .0;
-      known = g .ensures .0;
-      none = g .ensures .1;
-      left = g .ensures .2;
-    }
+    let g = c .find-gains .ensures in
+    record { source = begun c .pre .0; known = g .0; none = g .1; left = g .2 }
 
 copy-numbers-requires : tie.Need-copy-numbers-requires
 copy-numbers-requires c κs = source-apart (gained (c .before .before .before))
 
 group-records-requires : tie.Need-group-records-requires
 group-records-requires c κs =
-    copied-placed (gained (c .before .before .before .before .before .before .before)) _
-    (c .before .before .before .copy-numbers .ensures)
+    let copied : tie.After-copy-numbers = c .before .before .before in
+    copied-placed (gained (gaining copied)) _ (copied .copy-numbers .ensures)
 
 find-points-requires : tie.Need-find-points-requires
 find-points-requires c κs =
-    let s = c .before .before .before .before .before .before .before .before .before .before .before .before .before
-    .before .before .before .before .before in
-    let g = c .before .before .before .before .before .group-records in
-    let x = c .before .root-of in
-    let u = gained
-    (c .before .before .before .before .before .before .before .before .before .before .before .before .before) in
-    let copied = c .before .before .before .before .before .before .before .before .before .copy-numbers .ensures in
-    let known = grouped-known u _ copied _ (g .ensures) in
-    (grouped-setting u _ copied _ (g .ensures), x .ensures .1, x .ensures .0, s .pre .1, known)
+    let root : tie.After-root-of = c .before in
+    let grouped = grouping root in
+    let copied = copying grouped in
+    let u = gained (gaining copied) in
+    let copy = copied .copy-numbers .ensures in
+    let group = grouped .group-records .ensures in
+    let x = root .root-of .ensures in (
+      grouped-setting u _ copy _ group,
+      x .1,
+      x .0,
+      begun (gaining copied) .pre .1,
+      grouped-known u _ copy _ group,
+    )
 
 returns : tie.Need-returns
 returns c =
-    let s = c .before .before .before .before .before .before .before .before .before .before .before .before .before
-    .before .before .before .before .before .before .before .before in
-    let g = c .before .before .before .before .before .before .before .before .group-records in
-    let f = c .before .before .find-points in
-    grouped-says (gained (c .before .before .before .before .before .before .before .before .before .before .before
-    .before .before .before .before .before))
-    _
-    (c .before .before .before .before .before .before .before .before .before .before .before .before .copy-numbers
-    .ensures)
-    _ (g .ensures) (s .args .room) _ (f .result) (f .ensures)
+    let found : tie.After-find-points = c .before .before in
+    let grouped = grouping (found .before .before) in
+    let copied = copying grouped in
+    let f = found .find-points in
+    grouped-says (gained (gaining copied)) _ (copied .copy-numbers .ensures) _ (grouped .group-records .ensures)
+    (begun (gaining copied) .args .task .room) _ (f .result) (f .ensures)
 
 pub find-source-spec : {M : Type 1} → statement M
 find-source-spec =

@@ -15,29 +15,31 @@ place : (s : tie.Start)
     → Standing (s .args .r) (now (s .args .sizes)) (now (s .args .s)) (now (s .args .work)) (s .args .x)
 place s = standing (s .pre .0) (s .pre .1) _ (s .good .0)
 
-array-share-prefix-values : tie.Need-array-share-prefix-values
-array-share-prefix-values c = prefix-room (place (c .before .before .before .before .before))
+-- ## the places: the values and the bound are read, the next variable's tables are summed
+
+abbrev begun : tie.After-bound → tie.Start
+begun c =
+    let known : tie.After-shared-slice-known3 = c .before .before in
+    known .before .before .before
+
+abbrev summed : tie.After-group-bounds → tie.After-bound
+summed c = c .before .before
 
 slice-aggregate-group-bounds : tie.Need-slice-aggregate-group-bounds
-slice-aggregate-group-bounds c = sym (prefix-length (place (c .before .before .before .before .before .before)))
+slice-aggregate-group-bounds c = sym (prefix-length (place (begun (c .before))))
 
 less : (c : tie.After-group-bounds) (o : ℕ) → o < maxObjectives
-    → getD (c .group-bounds .result) o 0
-    ≤ getD (c .before .before .before .before .before .before .before .args .x .bound) o 0
-less c =
-    touched-less (place (c .before .before .before .before .before .before .before)) (c .group-bounds .result)
-    (c .group-bounds .ensures)
+    → getD (c .group-bounds .result) o 0 ≤ getD (begun (summed c) .args .x .bound) o 0
+less c = touched-less (place (begun (summed c))) (c .group-bounds .result) (c .group-bounds .ensures)
 
 returns : tie.Need-returns
-returns c =
-    rest-left (place (c .before .before .before .before .before .before .before)) (c .group-bounds .result)
-    (c .group-bounds .ensures)
+returns c = rest-left (place (begun (summed c))) (c .group-bounds .result) (c .group-bounds .ensures)
 
 pub rest-of-spec : {M : Type 1} → statement M
 rest-of-spec =
     tie.close
     (tie.spec
-    array-share-prefix-values
+    (λ c. prefix-room (place (begun c)))  -- array-share-prefix-values
     slice-aggregate-group-bounds
     (λ c κs. search needs)  -- group-bounds-requires
     (λ c. search needs)  -- array-read-t15

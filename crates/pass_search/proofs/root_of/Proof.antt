@@ -28,7 +28,8 @@ bounds-over-requires c κs =
 returns : tie.Need-returns
 unfolding prefixOk
 returns c =
-    let r = c .before .before .before .before .before .args .r in
+    let asked : tie.After-bounds-over-arg = c .before in
+    let r = asked .before .before .before .before .args .r in
     (refl, record { short = omega arith; good = refl; exact = rw (all r) at (c .bounds-over .ensures) })
 
 pub root-of-spec : {M : Type 1} → statement M

@@ -10,11 +10,11 @@ use Rattle.pass_suffixes.proofs.objective_gains.Statement.{statement}
 use Rattle.pass_suffixes.proofs.objective_gains.Tie as tie
 
 abbrev Inv-loop : tie.InvT-loop
-Inv-loop s sizes r p ceilings o work₀ k₀ work k =
-    (k ≤ length sizes) × Found-from (sourceProblem p r ceilings sizes s work₀) o (k - 1) work × Left work₀ work
+Inv-loop s sizes task o work₀ k₀ work k =
+    (k ≤ length sizes) × Found-from (sourceProblem task sizes s work₀) o (k - 1) work × Left work₀ work
 
 abbrev μ-loop : tie.MeasureT-loop
-μ-loop s sizes r p ceilings o work₀ k₀ work k = k
+μ-loop s sizes task o work₀ k₀ work k = k
 
 loop-holds : tie.Need-loop-holds Inv-loop μ-loop
 loop-holds c =
@@ -24,17 +24,27 @@ loop-holds c =
       (refl, refl),
     )
 
+-- ## the places: a turn of the loop, its start, a gain found
+
+abbrev begun : tie.At-loop Inv-loop μ-loop → tie.Start Inv-loop μ-loop
+begun c = c .before .before .before .before
+
+abbrev turn : tie.After-suffix-gain Inv-loop μ-loop → tie.At-loop Inv-loop μ-loop
+turn c = c .before .before .before
+
 suffix-gain-requires : tie.Need-suffix-gain-requires Inv-loop μ-loop
 suffix-gain-requires c κs =
-    let s = c .before .before .before .before .before .before in
-    let w = c .before .before .loop in
+    let at : tie.At-loop Inv-loop μ-loop = c .before .before in
+    let s = begun at in
+    let w = at .loop in
     let asks = found-asks (s .pre .0) (w .work) (w .inv .2) (s .args .o) (w .k - 1) (w .inv .1) in
     (asks .0, asks .1, s .pre .2, omega (arith, w .inv .0))
 
 slice-write-work : tie.Need-slice-write-work Inv-loop μ-loop
 slice-write-work c =
-    let s = c .before .before .before .before .before .before .before .before .before in
-    let w = c .before .before .before .before .before .loop in
+    let found : tie.After-suffix-gain Inv-loop μ-loop = c .before .before in
+    let s = begun (turn found) in
+    let w = turn found .loop in
     omega (
       arith,
       s .pre .0 .variables,
@@ -43,16 +53,17 @@ slice-write-work c =
       s .pre .2,
       w .inv .0,
       w .inv .2 .1,
-      c .before .before .suffix-gain .ensures .2,
+      found .suffix-gain .ensures .2,
     )
 
 loop-again : tie.Need-loop-again Inv-loop μ-loop
 loop-again c =
-    let s = c .before .before .before .before .before .before .before .before .before in
-    let w = c .before .before .before .before .before .loop in
-    let g = c .before .before .suffix-gain in
+    let found : tie.After-suffix-gain Inv-loop μ-loop = c .before .before in
+    let s = begun (turn found) in
+    let w = turn found .loop in
+    let g = found .suffix-gain in
     let next = search-next (s .pre .0) (w .work) (w .inv .2) (s .args .o) (w .k - 1) (s .pre .2)
-    (omega (arith, w .inv .0)) (omega arith) (w .inv .1) (g .last .1 .1 .1 .1 .1 .1 .1 .0) (g .result) (g .ensures) in
+    (omega (arith, w .inv .0)) (omega arith) (w .inv .1) (g .last .1 .1 .1 .1 .1 .0) (g .result) (g .ensures) in
     (omega (arith, w .inv .0), next .0, next .1)
 
 returns : tie.Need-returns Inv-loop μ-loop

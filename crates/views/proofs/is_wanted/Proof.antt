@@ -6,11 +6,12 @@ use Rattle.views.proofs.is_wanted.Statement.{statement}
 use Rattle.views.proofs.is_wanted.Tie as tie
 
 returns-2 : tie.Need-returns-2
-returns-2 c = rw (getD-drop, le-leb _ _ (c .before .if1 .left), le-ltb _ _ (c .if2 .taken))
+returns-2 c = rw (getD-drop, le-leb _ _ (c .before .before .if1 .left), le-ltb _ _ (c .if2 .taken))
 
 returns-3 : tie.Need-returns-3
 returns-3 c =
-    rw (getD-drop, le-leb _ _ (c .before .before .if1 .left), lt-ltb _ _ (c .before .if2 .left)) (c .lies-on .ensures)
+    let below : tie.Else2 = c .before in
+    rw (getD-drop, le-leb _ _ (below .before .before .if1 .left), lt-ltb _ _ (below .if2 .left)) (c .lies-on .ensures)
 
 pub is-wanted-spec : {M : Type 1} → statement M
 is-wanted-spec =

@@ -15,60 +15,66 @@ use Rattle.views.proofs.SideSteps.{whole-sides}
 use Rattle.views.proofs.KeptPlaces.{wantedAt, wanted-keeps}
 use Rattle.views.proofs.keep_records.Statement.{statement}
 use Rattle.views.proofs.keep_records.Tie as tie
-use Rattle.views.proofs.keep_records.Reads as reads
-use Rattle.views.proofs.keep_records.Lts as lts
-use Rattle.views.proofs.is_wanted.Reads as is-wanted-reads
 
 abbrev Inv-loop : tie.InvT-loop
-Inv-loop s sizes sides side low high r from to work₀ count₀ i₀ work count i =
-    Adding (wantedAt low high side sides s) (keptPlaces low high side sides s) work₀ r from to work (to + count) i
+Inv-loop s sizes sides work₀ part r from to count₀ i₀ work count i =
+    Adding (wantedAt part sides s) (keptPlaces part sides s) work₀ r from to work (to + count) i
 
 abbrev μ-loop : tie.MeasureT-loop
-μ-loop s sizes sides side low high r from to work₀ count₀ i₀ work count i = r - i
+μ-loop s sizes sides work₀ part r from to count₀ i₀ work count i = r - i
+
+-- ## the places: the start, a turn of the loop, a record tested
+
+abbrev begun : tie.After-part Inv-loop μ-loop → tie.Start Inv-loop μ-loop
+begun c =
+    let known : tie.After-slice-known Inv-loop μ-loop = c .before in
+    known .before .before .before .before
+
+abbrev turn : tie.After-slice-known2 Inv-loop μ-loop → tie.At-loop Inv-loop μ-loop
+turn c = c .before .before
+
+abbrev looked : tie.After-is-wanted Inv-loop μ-loop → tie.At-loop Inv-loop μ-loop
+looked c = turn (c .before)
 
 loop-holds : tie.Need-loop-holds Inv-loop μ-loop
 loop-holds c =
-    let a = c .before .before .before .before .args in
-    let q = c .before .before .before .before .pre in
-    let keeps = wanted-keeps (a .low) (a .high) (a .side) (now (a .sides)) (now (a .s)) in
-    rw add-zero (adding-start keeps (all-apart keeps (now (a .work)) (a .r) (a .from) (a .to) (q .3) (q .4) (q .5)))
+    let s = begun c in
+    let w = s .args .which in
+    let keeps = wanted-keeps (w .part) (now (s .args .sides)) (now (s .args .s)) in
+    let apart = all-apart keeps (now (s .args .work)) (w .records) (w .from) (w .to) (s .pre .3) (s .pre .4)
+    (s .pre .5) in
+    rw add-zero (adding-start keeps apart)
 
 slice-read-at : tie.Need-slice-read-at Inv-loop μ-loop
 slice-read-at c =
-    let u = c .before .before .loop .inv in
+    let u = turn c .loop .inv in
     omega (arith, u .parts .inside, adding-length u)
 
 cast-is-wanted : tie.Need-cast-is-wanted Inv-loop μ-loop
 cast-is-wanted c =
-    omega (
-      arith,
-      c .slice-known2 .given
-          (c .before .before .before .before .before .before .before .args .from + c .before .before .loop .i),
-    )
+    let at = turn c in
+    omega (arith, c .slice-known2 .given (begun (at .before) .args .which .from + at .loop .i))
 
 is-wanted-requires : tie.Need-is-wanted-requires Inv-loop μ-loop
 is-wanted-requires c κs =
-    let a = c .before .before .before .before .before .before .before .args in
-    let q = c .before .before .before .before .before .before .before .pre in
-    whole-sides (now (a .sides)) (q .1)
-    (adding-has (c .before .before .loop .inv) (omega arith) (Whole (now (a .sizes)) (now (a .s))) (q .0))
+    let at = turn c in
+    let s = begun (at .before) in
+    whole-sides (now (s .args .sides)) (s .pre .1)
+    (adding-has (at .loop .inv) (omega arith) (Whole (now (s .args .sizes)) (now (s .args .s))) (s .pre .0))
 
 -- a place that is kept has room
-room : (c : lts.Then1 (is-wanted-reads.Asked, is-wanted-reads.Learnt) reads.Pre reads.Post Inv-loop μ-loop)
-    → let a = c .before .before .before .before .before .before .before .before .before .args in
-    let w = c .before .before .before .before .loop in
-    (a .to + w .count < length (w .work)) × (length (w .work) ≡ length (now (a .work)))
+room : (c : tie.Then1 Inv-loop μ-loop)
+    → let at = looked (c .before) in
+    let a = begun (at .before) .args in
+    (a .which .to + at .loop .count < length (at .loop .work)) × (length (at .loop .work) ≡ length (now (a .work)))
 room c =
-    let u = c .before .before .before .before .loop .inv in
+    let u = looked (c .before) .loop .inv in
     let is = rw (c .before .is-wanted .ensures) at (c .if1 .taken) in
     (omega (arith, adding-below u (omega arith) is, u .parts .room, adding-length u), adding-length u)
 
-add-i : tie.Need-add-i Inv-loop μ-loop
-add-i c = omega (arith, c .before .before .before .before .loop .inv .parts .inside)
-
 loop-again : tie.Need-loop-again Inv-loop μ-loop
 loop-again c =
-    let u = c .before .before .before .before .loop .inv in
+    let u = looked (c .before) .loop .inv in
     let says = c .before .is-wanted .ensures in
     ⊎-elim
     (λ t. rw (t .1, t .2) (rw add-assoc at (adding-next u (omega arith) (rw says at (t .0 .taken)))))
@@ -96,7 +102,7 @@ keep-records-spec =
     (λ c. omega (arith, room c))  -- mul-work
     (λ c. omega (arith, room c))  -- slice-write-work
     (λ c. omega (arith, room c))  -- add-count
-    add-i
+    (λ c. omega (arith, looked (c .before) .loop .inv .parts .inside))  -- add-i
     (λ c. omega arith)  -- loop-less
     loop-again
     (λ c. adding-length (c .before .loop .inv))  -- same-length

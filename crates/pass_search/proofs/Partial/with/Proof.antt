@@ -24,14 +24,24 @@ place s = standing (s .pre .0) (s .pre .1) _ (s .good .0)
 good : (s : tie.Start) → prefixOk (now (s .args .sizes)) (next (s .args .self) (s .args .v)) ≡ true
 good s = next-good (place s) (s .pre .2) (s .args .v) (s .pre .3)
 
+-- ## the places: the values are read, the variable's tables are summed
+
+abbrev known : tie.After-values → tie.After-shared-slice-known
+known c = c .before .before .before
+
+abbrev begun : tie.After-values → tie.Start
+begun c = known c .before
+
+abbrev summed : tie.After-group-bounds → tie.After-values
+summed c = c .before .before
+
 small : (c : tie.After-group-bounds) (o : ℕ) → o < maxObjectives
-    → getD (c .before .before .before .before .before .before .args .t3) o 0 + getD (c .group-bounds .result) o 0
-    ≤ coreSumEnd
+    → getD (begun (summed c) .args .t3) o 0 + getD (c .group-bounds .result) o 0 ≤ coreSumEnd
 small c o l =
-    let s = c .before .before .before .before .before .before in
+    let s = begun (summed c) in
     let a = s .args in
     let bytes : (i : ℕ) → getD (now (a .s)) i 0 < byteEnd = λ i.
-    omega (arith, c .before .before .before .before .before .shared-slice-known .given i) in
+    omega (arith, known (summed c) .shared-slice-known .given i) in
     rw
     (next-sum (place s) (s .pre .2) (a .v) (a .t3) (s .pre .4) (c .group-bounds .result) (c .group-bounds .ensures) o l)
     (total-fits (now (a .sizes)) (now (a .s)) (now (a .work)) (next (a .self) (a .v)) (a .r) o (s .pre .0 .placed .few)
@@ -39,22 +49,22 @@ small c o l =
 
 array-share-prefix-values : tie.Need-array-share-prefix-values
 array-share-prefix-values c =
-    let s = c .before .before .before .before in
+    let s = begun c in
     omega (arith, next-room (place s) (s .pre .2) (s .args .v))
 
 slice-aggregate-group-bounds : tie.Need-slice-aggregate-group-bounds
 slice-aggregate-group-bounds c =
-    let s = c .before .before .before .before .before in
+    let s = begun (c .before) in
     sym (length-take-le _ _ (omega (arith, next-room (place s) (s .pre .2) (s .args .v))))
 
 group-bounds-requires : tie.Need-group-bounds-requires
 group-bounds-requires c κs =
-    let s = c .before .before .before .before .before in
+    let s = begun (c .before) in
     (s .pre .0, s .pre .2, good s)
 
 returns : tie.Need-returns
 returns c =
-    let s = c .before .before .before .before .before .before in
+    let s = begun (summed c) in
     let bound = next-bound (place s) (s .pre .2) (s .args .v) (s .args .t3) (s .pre .4) (c .group-bounds .result)
     (c .group-bounds .ensures) in (
       record { short = omega (arith, s .pre .2); good = good s; exact = bound },
