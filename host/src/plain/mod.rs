@@ -16,6 +16,7 @@ mod zones;
 
 use std::time::Duration;
 
+use settings::MOST_TURNS;
 pub use settings::{Settings, SETTINGS};
 
 use crate::brute::Answer;
@@ -25,10 +26,10 @@ use crate::problem::Problem;
 use crate::reading::read_problem;
 use crate::refusal::{Refusal, FULL, WORK};
 use archive::{value_in, Point};
-use buckets::{domain_sizes, fill_buckets};
-use directions::Directions;
+use buckets::{domain_sizes, fill_buckets, Bucket};
+use directions::{Directions, Extent, Vector, Weighting};
 use messages::send_all;
-use order::search_order;
+use order::{search_order, Rule};
 use search::Search;
 
 /// How a search ended.
@@ -75,14 +76,14 @@ pub fn solve_within(
     let task = Task {
         problem: &problem,
         settings,
-        directions: Directions::new(&problem, settings.sums),
+        extent: Extent::new(&problem),
         room: by_costs.min(by_choices).min(MAX_POINTS),
         end,
     };
-    match task.directions.count {
+    match problem.objectives() {
         1 => task.run::<1>(costs, choices),
-        2..=6 => task.run::<6>(costs, choices),
-        7 => task.run::<7>(costs, choices),
+        2 => task.run::<6>(costs, choices),
+        3 => task.run::<7>(costs, choices),
         _ => task.run::<8>(costs, choices),
     }
 }
@@ -95,36 +96,126 @@ fn read_with_work(bytes: &[u8], work_length: usize) -> Result<Problem, Refusal> 
     }
 }
 
+/// Archived points with their sums in other directions.
+fn with_sums<const D: usize>(mut points: Vec<Point<D>>, directions: &Directions) -> Vec<Point<D>> {
+    for point in &mut points {
+        point.costs = directions.with_sums(point.costs);
+    }
+    points
+}
+
 /// An accepted problem to be searched.
 struct Task<'a> {
     problem: &'a Problem,
     settings: &'a Settings,
-    directions: Directions,
+    extent: Extent,
     room: usize,
     /// The processor time at which the search is given up.
     end: Option<Duration>,
 }
 
+/// Positions that may be opened in each turn: three kinds of plan in turn, the one that came furthest
+/// for longer, the three again, and then the best of these to its end. The first one answers most
+/// problems, and all that come before the last cost no more than a fraction of a second.
+const BUDGETS: [u64; MOST_TURNS] = [
+    100_000,
+    50_000,
+    50_000,
+    400_000,
+    200_000,
+    200_000,
+    200_000,
+    u64::MAX,
+];
+
+/// Which plan of a round came furthest, and how far.
+struct Round {
+    best: usize,
+    done: f64,
+}
+
 impl Task<'_> {
     /// Searches with vectors of D numbers, which is at least the number of directions.
     fn run<const D: usize>(&self, costs: &mut [u32], choices: &mut [u8]) -> Outcome {
-        let (problem, directions) = (self.problem, &self.directions);
-        let order = search_order(problem, self.settings.min_degree);
-        let (mut buckets, mut base) = fill_buckets::<D>(problem, &order, directions);
-        let sizes = domain_sizes(problem);
+        let mut points: Vec<Point<D>> = Vec::new();
+        let mut nodes = 0;
+        let mut round = Round { best: 0, done: 0.0 };
+        for turn in 0..self.settings.turns {
+            let kind = self.kind(turn, &round);
+            let directions = self.directions(kind);
+            let (buckets, base) = self.plan::<D>(&directions, self.rule(kind));
+            let mut search = Search::new(&buckets, &directions, self.settings, self.room, self.end);
+            search.archive.points = with_sums(points, &directions);
+            if turn + 1 < self.settings.turns {
+                search.budget = BUDGETS[turn];
+            }
+            search.run(&self.problem.ceilings, &base);
+            nodes += search.nodes;
+            if search.given_up {
+                break;
+            }
+            let (is_left, done) = (search.is_left(), search.done);
+            points = search.archive.points;
+            if !is_left {
+                let answer = Some(self.write(points, costs, choices));
+                return Outcome { answer, nodes };
+            }
+            if turn % 4 == 0 || done > round.done {
+                round = Round { best: kind, done };
+            }
+        }
+        Outcome {
+            answer: None,
+            nodes,
+        }
+    }
+
+    /// The kind of plan in a turn: each in turn, and then the one that came furthest.
+    fn kind(&self, turn: usize, round: &Round) -> usize {
+        match (self.settings.kinds, turn % 4) {
+            (false, _) => 0,
+            (true, 3) => round.best,
+            (true, trial) => trial,
+        }
+    }
+
+    /// The directions of a kind of plan.
+    fn directions(&self, kind: usize) -> Directions {
+        let settings = self.settings;
+        let by = match kind {
+            _ if !self.extent.binds || !settings.slacks => Weighting::Spreads,
+            1 => Weighting::Slacks,
+            _ => Weighting::OneBySlacks,
+        };
+        Directions::new(&self.extent, self.problem.objectives(), settings.sums, by)
+    }
+
+    /// The rule for the order of a kind of plan.
+    fn rule(&self, kind: usize) -> Rule {
+        match kind {
+            _ if !self.settings.min_degree => Rule::Natural,
+            0 => Rule::LastOfFewest,
+            1 => Rule::FirstOfFewest,
+            _ => Rule::LeastFill,
+        }
+    }
+
+    /// The buckets with their messages, and a bound of every choice.
+    fn plan<const D: usize>(
+        &self,
+        directions: &Directions,
+        rule: Rule,
+    ) -> (Vec<Bucket<D>>, Vector<D>) {
+        let order = search_order(self.problem, rule);
+        let (mut buckets, mut base) = fill_buckets::<D>(self.problem, &order, directions);
+        let sizes = domain_sizes(self.problem);
         send_all(&mut buckets, &sizes, directions, self.settings);
         for bucket in &buckets {
             for (number, more) in base.iter_mut().zip(&bucket.constant) {
                 *number += more;
             }
         }
-        let mut search = Search::new(&buckets, directions, self.settings, self.room, self.end);
-        search.run(&problem.ceilings, &base);
-        let points = (!search.given_up).then_some(search.archive.points);
-        Outcome {
-            answer: points.map(|points| self.write(points, costs, choices)),
-            nodes: search.nodes,
-        }
+        (buckets, base)
     }
 
     /// Writes the points in list order, or refuses with 15.

@@ -28,6 +28,10 @@ pub struct Search<'a, const D: usize> {
     /// The processor time at which the search gives up.
     end: Option<Duration>,
     pub given_up: bool,
+    /// So many positions may still be opened; the plan is left where there are none.
+    pub budget: u64,
+    /// The part of the tree that was finished when the plan was left.
+    pub done: f64,
 }
 
 impl<'a, const D: usize> Search<'a, D> {
@@ -53,6 +57,8 @@ impl<'a, const D: usize> Search<'a, D> {
             nodes: 0,
             end,
             given_up: false,
+            budget: u64::MAX,
+            done: 0.0,
         }
     }
 
@@ -65,13 +71,20 @@ impl<'a, const D: usize> Search<'a, D> {
             for point in &self.archive.points {
                 self.zones.split(&point.costs);
             }
+            self.archive.cut_if_overfull();
             if self.is_open(base, 0) {
-                self.open(0, 0, base);
+                self.done = self.open(0, 0, base);
             }
-            if self.given_up || self.archive.cut == NO_CUT || self.archive.is_overfull() {
+            let ended = self.archive.cut == NO_CUT || self.archive.is_overfull();
+            if self.given_up || self.is_left() || ended {
                 return;
             }
         }
+    }
+
+    /// Whether the plan was left. What the archive holds stays reached; nothing else is known.
+    pub fn is_left(&self) -> bool {
+        self.budget == 0
     }
 
     /// Whether completions of a choice with this bound may be new, or earlier than an archived
@@ -83,23 +96,34 @@ impl<'a, const D: usize> Search<'a, D> {
     }
 
     /// Tries the values of the variable at a position. `bound` bounds all completions of the
-    /// choice, and is the cost of a complete one.
-    fn open(&mut self, position: usize, choice: Choice, bound: &Vector<D>) {
+    /// choice, and is the cost of a complete one. The part of the values that was finished.
+    fn open(&mut self, position: usize, choice: Choice, bound: &Vector<D>) -> f64 {
         let buckets = self.buckets;
         let Some(bucket) = buckets.get(position) else {
             self.reach_point(choice, *bound);
-            return;
+            return 1.0;
         };
+        if self.is_left() {
+            return 0.0;
+        }
+        self.budget -= 1;
         let rows = self.bounds(bucket, bound);
+        let mut finished = 0.0;
         for value in self.value_order(&rows, bucket.size) {
             let bound = &rows[usize::from(value)];
             let choice = with_value(choice, bucket.variable, value);
             self.values[bucket.variable] = value;
             self.count_node();
+            let mut part = 1.0;
             if self.is_open(bound, choice) {
-                self.open(position + 1, choice, bound);
+                part = self.open(position + 1, choice, bound);
+            }
+            finished += part;
+            if self.is_left() {
+                break;
             }
         }
+        finished / bucket.size as f64
     }
 
     /// The bound for each value of a bucket's variable: what the bucket holds takes the place of

@@ -16,8 +16,16 @@ pub struct Settings {
     pub rest: bool,
     /// A message is over at most this many earlier variables.
     pub width: usize,
+    /// The parts of a bucket share alike what they have at least.
+    pub shared: bool,
     /// Min-degree order instead of the natural one.
     pub min_degree: bool,
+    /// So many plans are tried in turn; the last one is followed to its end.
+    pub turns: usize,
+    /// Plans in turn have orders and weights of three kinds.
+    pub kinds: bool,
+    /// Where a ceiling binds, one sum is weighted by what the ceilings leave.
+    pub slacks: bool,
     /// Values by the rising leading sum of their bounds instead of in natural order.
     pub sorted: bool,
     /// There are at most this many search zones.
@@ -31,6 +39,9 @@ pub struct Settings {
 /// A message is over at most this many earlier variables.
 pub const MOST_WIDTH: usize = 2;
 
+/// There are at most this many turns.
+pub const MOST_TURNS: usize = 8;
+
 /// There are at most this many sums.
 pub const MOST_SUMS: usize = 4;
 
@@ -41,7 +52,11 @@ pub const SETTINGS: &str =
   memory=bucket|part messages of a bucket are alike wide, or each as wide as it can be (bucket)
   rest=yes|no        what a message leaves goes on to the next part of its bucket (yes)
   width=0|1|2        a message is over at most so many variables (2)
+  parts=shared|alone what the parts of a bucket have at least is shared alike (shared)
   order=min-degree|natural
+  turns=1..8         so many plans in turn, the last one without a budget (8)
+  kinds=three|one    plans in turn have other orders and weights (three)
+  slacks=yes|no      a sum by what the ceilings leave, where one binds (yes)
   values=sorted|natural
   zones=N            at most N search zones (128)
   sums=1|2|3|4       weighted sums of the objectives (4)
@@ -55,7 +70,11 @@ impl Default for Settings {
             by_part: false,
             rest: true,
             width: MOST_WIDTH,
+            shared: true,
             min_degree: true,
+            turns: MOST_TURNS,
+            kinds: true,
+            slacks: true,
             sorted: true,
             zones: 128,
             sums: MOST_SUMS,
@@ -84,6 +103,10 @@ impl Settings {
             "memory" => self.by_part = first_of(change, value, ["part", "bucket"])?,
             "rest" => self.rest = first_of(change, value, ["yes", "no"])?,
             "width" => self.width = number_in(change, value, 0..=MOST_WIDTH)?,
+            "parts" => self.shared = first_of(change, value, ["shared", "alone"])?,
+            "turns" => self.turns = number_in(change, value, 1..=MOST_TURNS)?,
+            "kinds" => self.kinds = first_of(change, value, ["three", "one"])?,
+            "slacks" => self.slacks = first_of(change, value, ["yes", "no"])?,
             "order" => self.min_degree = first_of(change, value, ["min-degree", "natural"])?,
             "values" => self.sorted = first_of(change, value, ["sorted", "natural"])?,
             "zones" => self.zones = number_in(change, value, 1..=usize::MAX)?,
