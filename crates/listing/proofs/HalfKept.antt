@@ -7,7 +7,7 @@ use Prim.Native.Nat.{ℕ, _+_, _≤_}
 use native.Mathlib.Omega.{arith}
 use lib.ListN.{length, take, drop}
 use Rattle.model.specs.Basics.{All}
-use Rattle.model.specs.Limits.{maxObjectives, maxTables, maxPoints}
+use Rattle.model.specs.Limits.{maxTables, maxPoints}
 use Rattle.model.specs.Reading.{tablesAt, placesAt}
 use Rattle.model.specs.Problems.{Problem}
 use Rattle.model.specs.Core.{coreTables, coreOf, withCeilings, coreFrontier}
