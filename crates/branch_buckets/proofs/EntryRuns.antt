@@ -9,13 +9,13 @@ use native.Mathlib.Nat.{mul-zero, mul-one, one-mul, mul-le-mul-left, pow-succ', 
 use lib.ListN.{length, getD, drop, set}
 use Rattle.model.specs.Basics.{All}
 use Rattle.model.specs.Problems.{DomainSize}
+use Rattle.model.specs.Reading.{tableArity}
 use Rattle.model.specs.Costs.{isChoice, entryFrom}
 use Rattle.model.proofs.Numbers.{digit-grows}
 use Rattle.model.proofs.Prefixes.{set-choice}
 use Rattle.problem.specs.Records.{Whole}
 use Rattle.problem.proofs.Sizes.{domain-size}
-use Rattle.problem.proofs.WholeRecord.{whole-few}
-use Rattle.costs.specs.Entries.{scopeAt}
+use Rattle.costs.specs.Entries.{scopeAt, variableAt}
 use Rattle.costs.proofs.ScopeVariables.{scope-end, scope-next, variable-exists, variable-size, value-below}
 use Rattle.costs.proofs.Rooms.{Room, room-index, room-fits, room-next}
 use Rattle.branch_buckets.specs.Adding.{TermSays, EntrySays}
@@ -48,22 +48,22 @@ module _ (ds s : List ℕ) (at v : ℕ) (x : List ℕ) where
             room-fits ds s at w sizes k (first + 0 * stride) (u .room 0 (domain-size ds sizes v exists .0)),
           )
 
-      pub stride-fits : k ≤ getD s (at + 3) 0 → stride < 4096
+      pub stride-fits : k ≤ tableArity (drop at s) → stride < 4096
       stride-fits h =
           omega (
             arith,
             u .narrow,
-            whole-few ds s at w,
-            pow-le-pow-right {n = 16} (omega arith) {i = k} {j = 3} (omega (arith, whole-few ds s at w)),
+            w .few,
+            pow-le-pow-right {n = 16} (omega arith) {i = k} {j = 3} (omega (arith, w .few)),
           )
 
       pub entry-next :
-          k < getD s (at + 3) 0 → (t : DP.Progression) → TermSays (getD s (at + 4 + k) 0) 1 v x t
-          → EntrySteps ds s at v x (k + 1) (first * getD ds (getD s (at + 4 + k) 0) 0 + t .first)
-          (stride * getD ds (getD s (at + 4 + k) 0) 0 + t .stride)
+          k < tableArity (drop at s) → (t : DP.Progression) → TermSays (variableAt s at k) 1 v x t
+          → EntrySteps ds s at v x (k + 1) (first * getD ds (variableAt s at k) 0 + t .first)
+          (stride * getD ds (variableAt s at k) 0 + t .stride)
       unfolding entryFrom
       entry-next more t says =
-          let z = getD s (at + 4 + k) 0 in
+          let z = variableAt s at k in
           let d = getD ds z 0 in
           let value : (a : ℕ) → getD (set x v a) z 0 ≡ t .first + a * t .stride =
           λ a. sym (mul-one (getD (set x v a) z 0)) ∙ says .term a in
@@ -89,7 +89,7 @@ module _ (ds s : List ℕ) (at v : ℕ) (x : List ℕ) where
                 ));
           }
 
-      pub entry-end : getD s (at + 3) 0 ≡ k → EntrySays ds s at v x (record { first = first; stride = stride })
+      pub entry-end : tableArity (drop at s) ≡ k → EntrySays ds s at v x (record { first = first; stride = stride })
       unfolding entryFrom
       entry-end e =
           λ a h. (

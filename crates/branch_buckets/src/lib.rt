@@ -247,12 +247,12 @@ fn entry_run(s: &[u8], at: usize, v: usize, sizes: &[u8], choice: &[u8]) -> Prog
         × (isChoice (now sizes) (now choice) ≡ true) ⌝ }
     ensures { λ r. ⌜ EntrySays (now (sizes .entry)) (now (s .entry)) at v (now (choice .entry)) r ⌝ }
 {
-    let a = s[at + 3] as usize;
+    let a = problem::arity_at(s, at);
     let mut first: usize = 0;
     let mut stride: usize = 0;
     let mut k: usize = 0;
     while k < a {
-        let u = s[at + 4 + k] as usize;
+        let u = problem::scope_at(s, at, k);
         let d = sizes[u] as usize;
         let t = term_of(u, 1, v, choice);
         first = first * d + t.first;
@@ -271,7 +271,7 @@ fn add_record(s: &[u8], at: usize, v: usize, sizes: &[u8], choice: &[u8], totals
         (now (totals .entry)) (now (totals .exit)) ⌝ }
 {
     let size = sizes[v] as usize;
-    let o = s[at + 2] as usize;
+    let o = problem::objective_at(s, at);
     let r = entry_run(s, at, v, sizes, choice);
     let first = r.first;
     let stride = r.stride;

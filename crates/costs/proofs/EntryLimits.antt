@@ -1,6 +1,6 @@
 -- The tables of a problem's bytes have numbers of four bytes, so that what an entry weighs is limited; a weight of the
 -- core taken back is the number that was read.
-use mathlib.Core.Path.{_≡_, sym, ap, _∙_}
+use mathlib.Core.Path.{_≡_, ap, _∙_}
 use mathlib.Core.List.{List}
 use Prim.Native.Nat.{ℕ, _+_, _<_}
 use native.Mathlib.Omega.{arith}

@@ -7,12 +7,13 @@ use native.Mathlib.Nat.{le-trans, le-mul-of-pos-right}
 use lib.ListN.{length, getD, drop}
 use Rattle.model.specs.Basics.{All}
 use Rattle.model.specs.Problems.{DomainSize, sizeOf}
+use Rattle.model.specs.Reading.{tableArity}
 use Rattle.model.proofs.Numbers.{digit-room}
 use Rattle.model.proofs.Elements.{all-drop}
 use Rattle.problem.specs.Records.{Whole}
 use Rattle.problem.proofs.Sizes.{size-positive}
-use Rattle.problem.proofs.WholeRecord.{whole-long}
-use Rattle.costs.specs.Entries.{scopeAt, entriesAt}
+use Rattle.problem.proofs.Scopes.{whole-ends}
+use Rattle.costs.specs.Entries.{scopeAt, variableAt, entriesAt}
 use Rattle.costs.proofs.ScopeVariables.{scope-next}
 
 abbrev pub Room : List ℕ → List ℕ → ℕ → ℕ → ℕ → Type 0
@@ -32,10 +33,11 @@ module _ (ds s : List ℕ) (at : ℕ) (w : Whole ds s at) (sizes : All DomainSiz
   room-index = omega (arith, rooms-fit ds s at w sizes k (i + 1) room)
 
   pub room-fits : i < length s
-  room-fits = omega (arith, room-index, whole-long ds s at w)
+  room-fits = omega (arith, room-index, whole-ends ds s at w)
 
-pub room-next : (ds s : List ℕ) (at : ℕ) → Whole ds s at → (k i : ℕ) → Room ds s at k i → k < getD s (at + 3) 0
-    → (x : ℕ) → x < getD ds (getD s (at + 4 + k) 0) 0 → Room ds s at (k + 1) (i * getD ds (getD s (at + 4 + k) 0) 0 + x)
+pub room-next : (ds s : List ℕ) (at : ℕ) → Whole ds s at → (k i : ℕ) → Room ds s at k i
+    → k < tableArity (drop at s) → (x : ℕ) → x < getD ds (variableAt s at k) 0
+    → Room ds s at (k + 1) (i * getD ds (variableAt s at k) 0 + x)
 unfolding sizeOf
 room-next ds s at w k i room h x l =
     le-trans (digit-room i _ x (sizeOf ds (drop (k + 1) (scopeAt s at))) l) (rw (scope-next ds s at w k h) at room)

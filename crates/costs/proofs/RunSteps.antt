@@ -7,10 +7,11 @@ use native.Mathlib.Nat.{add-zero, add-assoc, one-mul, add-mul, mul-assoc, mul-po
 use lib.ListN.{length, getD, drop}
 use Rattle.model.specs.Basics.{All}
 use Rattle.model.specs.Problems.{DomainSize, sizeOf}
+use Rattle.model.specs.Reading.{tableArity}
 use Rattle.model.specs.Bounds.{leastTo, leastFrom}
 use Rattle.problem.specs.Records.{Whole}
-use Rattle.problem.proofs.WholeRecord.{whole-long}
-use Rattle.costs.specs.Entries.{numberAt, scopeAt, entriesAt}
+use Rattle.problem.proofs.Scopes.{whole-ends}
+use Rattle.costs.specs.Entries.{numberAt, scopeAt, variableAt, entriesAt}
 use Rattle.costs.proofs.ScopeVariables.{scope-end, scope-next, variable-size}
 use Rattle.costs.proofs.Rooms.{rooms-fit, room-next}
 use Rattle.costs.proofs.LeastSteps.{least-none, least-fixed, least-free}
@@ -18,7 +19,7 @@ use Rattle.costs.proofs.LeastRuns.{least-same, least-run}
 
 -- after the first k variables the indices that agree are `count` from `first` on
 pub record Running (ds pre s : List ℕ) (at k first count : ℕ) : Type 0 where
-  pub inside : k ≤ getD s (at + 3) 0
+  pub inside : k ≤ tableArity (drop at s)
   pub some : 1 ≤ count
   pub room : (first + count) * sizeOf ds (drop k (scopeAt s at)) ≤ entriesAt ds s at
   pub least :
@@ -41,15 +42,15 @@ module _ (ds pre s : List ℕ) (at : ℕ) (w : Whole ds s at) (sizes : All Domai
   pub running-inside : first + count ≤ entriesAt ds s at
   running-inside = rooms-fit ds s at w sizes k (first + count) (u .room)
 
-  pub running-end : k ≡ getD s (at + 3) 0
+  pub running-end : k ≡ tableArity (drop at s)
       → leastTo (count - 1) (λ a. numberAt ds s at (first + a)) ≡ leastFrom ds pre (numberAt ds s at) 0 (scopeAt s at)
   running-end e =
       let none = scope-end ds s at w in
       least-same (count - 1) _ _ (λ a. sym (rw (e, none, least-none))) ∙ u .least
 
-  module _ (more : k < getD s (at + 3) 0) where
+  module _ (more : k < tableArity (drop at s)) where
     abbrev variable : ℕ
-    variable = getD s (at + 4 + k) 0
+    variable = variableAt s at k
 
     abbrev domain : ℕ
     domain = getD ds variable 0
@@ -59,7 +60,7 @@ module _ (ds pre s : List ℕ) (at : ℕ) (w : Whole ds s at) (sizes : All Domai
     wider = rw (← add-mul, mul-assoc) (rw (scope-next ds s at w k more) at (u .room))
 
     pub running-fits : first * domain + count * domain ≤ length s
-    running-fits = omega (arith, rooms-fit ds s at w sizes (k + 1) _ wider, whole-long ds s at w)
+    running-fits = omega (arith, rooms-fit ds s at w sizes (k + 1) _ wider, whole-ends ds s at w)
 
     pub running-free : length pre ≤ variable → Running ds pre s at (k + 1) (first * domain) (count * domain)
     running-free h =

@@ -20,5 +20,9 @@ numberAt ds s at i = getD (tableOf ds (drop at s) .costs) i 0
 abbrev pub scopeAt : List ℕ → ℕ → List ℕ
 scopeAt s at = tableScope (drop at s)
 
+-- number k of its scope's variables
+abbrev pub variableAt : List ℕ → ℕ → ℕ → ℕ
+variableAt s at k = getD (scopeAt s at) k 0
+
 abbrev pub entriesAt : List ℕ → List ℕ → ℕ → ℕ
 entriesAt ds s at = sizeOf ds (scopeAt s at)

@@ -33,7 +33,7 @@ fn number_at(s: &[u8], at: usize, i: usize, sizes: &[u8]) -> u32
     requires { ⌜ Whole (now sizes) (now s) at × (i < entriesAt (now sizes) (now s) at) ⌝ }
     ensures { λ r. ⌜ r ≡ numberAt (now (sizes .entry)) (now (s .entry)) at i ⌝ }
 {
-    let a = s[at + 3] as usize;
+    let a = problem::arity_at(s, at);
     problem::four_at(s, at + 4 + a + 4 * i)
 }
 
@@ -50,7 +50,7 @@ pub fn entries_of(s: &[u8], at: usize, sizes: &[u8]) -> usize
     requires { ⌜ Whole (now sizes) (now s) at × All DomainSize (now sizes) ⌝ }
     ensures { λ r. ⌜ r ≡ entriesAt (now (sizes .entry)) (now (s .entry)) at ⌝ }
 {
-    let a = s[at + 3] as usize;
+    let a = problem::arity_at(s, at);
     problem::size_of(s, at + 4, a, sizes)
 }
 
@@ -103,11 +103,11 @@ pub fn least_from(s: &[u8], at: usize, k: usize, index: usize, sizes: &[u8], pre
     ensures { λ r. ⌜ r ≡ leastFrom (now (sizes .entry)) (now (prefix .entry))
         (numberAt (now (sizes .entry)) (now (s .entry)) at) index (drop k (scopeAt (now (s .entry)) at)) ⌝ }
 {
-    let a = s[at + 3] as usize;
+    let a = problem::arity_at(s, at);
     if k == a {
         return number_at(s, at, index, sizes);
     }
-    let v = s[at + 4 + k] as usize;
+    let v = problem::scope_at(s, at, k);
     let d = sizes[v] as usize;
     if v < prefix.len() {
         return least_from(
@@ -144,12 +144,12 @@ pub fn run_at(s: &[u8], at: usize, sizes: &[u8], prefix: &[u8]) -> Run
         × (prefixOk (now sizes) (now prefix) ≡ true) ⌝ }
     ensures { λ r. ⌜ RunSays (now (sizes .entry)) (now (prefix .entry)) (now (s .entry)) at r ⌝ }
 {
-    let a = s[at + 3] as usize;
+    let a = problem::arity_at(s, at);
     let mut first: usize = 0;
     let mut count: usize = 1;
     let mut k: usize = 0;
     while k < a {
-        let v = s[at + 4 + k] as usize;
+        let v = problem::scope_at(s, at, k);
         let d = sizes[v] as usize;
         k += 1;
         first = first * d;

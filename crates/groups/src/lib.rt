@@ -8,10 +8,10 @@ ghost use lib.ListN.{length, take, drop};
 ghost use Rattle.model.specs.Basics.{All};
 ghost use Rattle.model.specs.Limits.{maxTables, maxObjectives};
 ghost use Rattle.model.specs.Problems.{DomainSize};
-ghost use Rattle.model.specs.Reading.{tableArity, tableScope};
+ghost use Rattle.model.specs.Reading.{tableScope};
 ghost use Rattle.model.specs.Costs.{totalsFrom};
 ghost use Rattle.model.specs.Bounds.{prefixOk, leastOf};
-ghost use Rattle.problem.specs.Records.{Whole};
+ghost use Rattle.problem.specs.Records.{Headed, Whole};
 ghost use Rattle.layout.specs.Layout.{groupsAt, recordsAt};
 ghost use Rattle.groups.specs.Groups.{hasVariable, groupOf, tablesOver, placesIn, Placed, Grouped};
 
@@ -26,13 +26,13 @@ pub struct Task {
 
 // Whether the scope of the record at `at` has the variable `v`.
 pub fn has_variable(s: &[u8], at: usize, v: usize) -> bool
-    requires { ⌜ at + 4 + tableArity (drop at (now s)) ≤ length (now s) ⌝ }
+    requires { ⌜ Headed (now s) at ⌝ }
     ensures { λ r. ⌜ r ≡ hasVariable v (tableScope (drop at (now (s .entry)))) ⌝ }
 {
-    let a = s[at + 3] as usize;
+    let a = problem::arity_at(s, at);
     let mut i: usize = 0;
     while i < a {
-        if s[at + 4 + i] as usize == v {
+        if problem::scope_at(s, at, i) == v {
             return true;
         }
         i += 1;
@@ -100,7 +100,7 @@ pub fn bounds_over(
     let mut i = from;
     while i < to {
         let at = work[i] as usize;
-        let o = s[at + 2] as usize;
+        let o = problem::objective_at(s, at);
         sums[o] = sums[o] + costs::least_at(s, at, sizes, prefix);
         i += 1;
     }

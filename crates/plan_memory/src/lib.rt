@@ -70,7 +70,8 @@ pub fn bit(k: usize) -> u32 {
     1u32 << (k % 32)
 }
 
-// The positions of the variables of the record at `at`.
+// The positions of the variables of the record at `at`. It reads for itself what `problem::scope_at` knows: a plan that
+// is being made is not tested yet, so that `at` may be no record's place.
 pub fn record_scope(s: &[u8], at: usize, plan: &[u32]) -> u32 {
     if 65535 < at {
         return 0;

@@ -6,9 +6,9 @@ ghost use Prim.Native.Nat.{ℕ, _+_, _-_, _/_, _%_, _≤_, _<_};
 ghost use lib.ListN.{length, getD, drop};
 ghost use Rattle.model.specs.Basics.{All};
 ghost use Rattle.model.specs.Limits.{maxVariables, maxTables};
-ghost use Rattle.model.specs.Reading.{tableArity};
 ghost use Rattle.model.specs.Problems.{DomainSize};
 ghost use Rattle.model.specs.Costs.{isChoice};
+ghost use Rattle.problem.specs.Records.{Headed};
 ghost use Rattle.layout.specs.Places.{maxMessages, numbersAt, messageEnd, fieldIn};
 ghost use Rattle.branch_buckets.specs.Messages.{countFrom, childrenOver};
 ghost use Rattle.branch_buckets.specs.Bounds.{placesOver};
@@ -144,13 +144,13 @@ fn reads_marked(g: usize, marks: &[u8], plan: &[u32]) -> bool
 
 // Whether the record at `at` has marked variables only.
 fn is_scope_marked(s: &[u8], at: usize, marks: &[u8]) -> bool
-    requires { ⌜ at + 4 + tableArity (drop at (now s)) ≤ length (now s) ⌝ }
+    requires { ⌜ Headed (now s) at ⌝ }
     ensures { λ ok. ⌜ (ok ≡ true → ScopeIn (Marked (now (marks .entry))) (now (s .entry)) at) ⌝ }
 {
-    let a = s[at + 3] as usize;
+    let a = problem::arity_at(s, at);
     let mut i: usize = 0;
     while i < a {
-        if !is_marked(s[at + 4 + i] as usize, marks) {
+        if !is_marked(problem::scope_at(s, at, i), marks) {
             return false;
         }
         i += 1;

@@ -6,6 +6,10 @@ use Rattle.model.specs.Limits.{maxArity, maxObjectives}
 use Rattle.model.specs.Problems.{InRange}
 use Rattle.model.specs.Reading.{tableObjective, tableArity, tableScope, tableLength}
 
+-- the head of the record at `at`, its fields and its scope, lies in the bytes
+abbrev pub Headed : List ℕ → ℕ → Type 0
+Headed s at = at + 4 + tableArity (drop at s) ≤ length s
+
 -- the record at `at` is whole, and its objective and its scope's variables exist
 pub record Whole (ds s : List ℕ) (at : ℕ) : Type 0 where
   pub owner : tableObjective (drop at s) < maxObjectives

@@ -6,9 +6,9 @@ ghost use Rattle.model.specs.Basics.{All};
 ghost use Rattle.model.specs.Limits.{maxBytes, maxVariables, maxObjectives, maxArity, shortEnd};
 ghost use Rattle.model.specs.Problems.{DomainSize, InRange, sizeOf, scopeRule};
 ghost use Rattle.model.specs.Reading.{word2, word4, wordsIn, startNumber, headNumber, domainNumber, tableLength};
-ghost use Rattle.model.specs.Reading.{tablesVerdict, placesAt};
+ghost use Rattle.model.specs.Reading.{tableObjective, tableArity, tableScope, tablesVerdict, placesAt};
 ghost use Rattle.model.specs.Calls.{padded, over};
-ghost use Rattle.problem.specs.Records.{Whole, AllWhole};
+ghost use Rattle.problem.specs.Records.{Headed, Whole, AllWhole};
 ghost use Rattle.problem.specs.Says.{HeadSays, startOf, DomainsSays, ScanSays, RefusalSays, RecordSays};
 ghost use Rattle.problem.specs.Says.{refusal, ReadSays};
 
@@ -36,6 +36,29 @@ pub fn four_at(s: &[u8], at: usize) -> u32
     let low = two_at(s, at);
     let high = two_at(s, at + 2);
     low + 65536 * high
+}
+
+// The head of the accepted record at `at`: these three alone know where it has its objective, the number of its
+// scope's variables and number `k` of them.
+pub fn objective_at(s: &[u8], at: usize) -> usize
+    requires { ⌜ Headed (now s) at ⌝ }
+    ensures { λ r. ⌜ r ≡ tableObjective (drop at (now (s .entry))) ⌝ }
+{
+    s[at + 2] as usize
+}
+
+pub fn arity_at(s: &[u8], at: usize) -> usize
+    requires { ⌜ Headed (now s) at ⌝ }
+    ensures { λ r. ⌜ r ≡ tableArity (drop at (now (s .entry))) ⌝ }
+{
+    s[at + 3] as usize
+}
+
+pub fn scope_at(s: &[u8], at: usize, k: usize) -> usize
+    requires { ⌜ Headed (now s) at × (k < tableArity (drop at (now s))) ⌝ }
+    ensures { λ r. ⌜ r ≡ getD (tableScope (drop at (now (s .entry)))) k 0 ⌝ }
+{
+    s[at + 4 + k] as usize
 }
 
 // The mark due at `at`, and the single fields after it: 2, 3, 2, else 0.

@@ -20,7 +20,8 @@ module _ (at : ℕ) (x y : List ℕ) (behind : drop at x ≡ drop at y) where
   behind-point : (p n i : ℕ) → at ≤ rowAt i → pointIn p n x i ≡ pointIn p n y i
   behind-point p n i l =
       let m = 2 * p + (8 + (n + 3) / 4) in
-      equal-points x y i i m (λ k h. getD-later 0 at (rowAt i + k) x y (omega arith) behind) p n (omega arith) (omega arith)
+      equal-points x y i i m (λ k h. getD-later 0 at (rowAt i + k) x y (omega arith) behind) p n (omega arith)
+      (omega arith)
 
   pub behind-rows : (p n i k : ℕ) → at ≤ rowAt i → listIn p n x i k ≡ listIn p n y i k
   unfolding listIn

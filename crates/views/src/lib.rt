@@ -12,7 +12,7 @@ ghost use Rattle.model.specs.Problems.{DomainSize, InRange};
 ghost use Rattle.model.specs.Reading.{tableObjective, tableArity, tableScope, tablesAt, placesAt};
 ghost use Rattle.model.specs.Cuts.{allSides, hasSide, linkedVerdict};
 ghost use Rattle.model.specs.Views.{narrowed, within};
-ghost use Rattle.problem.specs.Records.{Whole, AllWhole};
+ghost use Rattle.problem.specs.Records.{Headed, Whole, AllWhole};
 ghost use Rattle.problem.specs.Says.{RefusalSays};
 ghost use Rattle.views.specs.Wanted.{wanted, keptPlaces};
 
@@ -51,20 +51,20 @@ pub fn sides_ok(sides: &[u8], n: usize) -> bool
 
 // The side of number `i` of the variables in the scope of the record at `at`.
 fn side_at(s: &[u8], at: usize, i: usize, sides: &[u8]) -> u8
-    requires { ⌜ (at + 4 + i < length (now s)) × (getD (now s) (at + 4 + i) 0 < length (now sides)) ⌝ }
-    ensures { λ r. ⌜ r ≡ getD (now (sides .entry)) (getD (now (s .entry)) (at + 4 + i) 0) 0 ⌝ }
+    requires { ⌜ Headed (now s) at × (i < tableArity (drop at (now s)))
+        × (getD (tableScope (drop at (now s))) i 0 < length (now sides)) ⌝ }
+    ensures { λ r. ⌜ r ≡ getD (now (sides .entry)) (getD (tableScope (drop at (now (s .entry)))) i 0) 0 ⌝ }
 {
-    let v = s[at + 4 + i] as usize;
+    let v = problem::scope_at(s, at, i);
     sides[v]
 }
 
 // Whether the scope of the record at `at` has a variable of the side.
 pub fn has_side(s: &[u8], at: usize, sides: &[u8], side: u8) -> bool
-    requires { ⌜ (at + 4 + tableArity (drop at (now s)) ≤ length (now s))
-        × InRange (length (now sides)) (tableScope (drop at (now s))) ⌝ }
+    requires { ⌜ Headed (now s) at × InRange (length (now sides)) (tableScope (drop at (now s))) ⌝ }
     ensures { λ r. ⌜ r ≡ hasSide side (now (sides .entry)) (tableScope (drop at (now (s .entry)))) ⌝ }
 {
-    let a = s[at + 3] as usize;
+    let a = problem::arity_at(s, at);
     let mut i: usize = 0;
     while i < a {
         if side_at(s, at, i, sides) == side {
@@ -77,11 +77,10 @@ pub fn has_side(s: &[u8], at: usize, sides: &[u8], side: u8) -> bool
 
 // Whether the scope of the record at `at` lies on the side; one without variables lies on side 0.
 pub fn lies_on(s: &[u8], at: usize, sides: &[u8], side: u8) -> bool
-    requires { ⌜ (at + 4 + tableArity (drop at (now s)) ≤ length (now s))
-        × InRange (length (now sides)) (tableScope (drop at (now s))) ⌝ }
+    requires { ⌜ Headed (now s) at × InRange (length (now sides)) (tableScope (drop at (now s))) ⌝ }
     ensures { λ r. ⌜ r ≡ within side (now (sides .entry)) (tableScope (drop at (now (s .entry)))) ⌝ }
 {
-    let a = s[at + 3] as usize;
+    let a = problem::arity_at(s, at);
     if a == 0 {
         return side == 0;
     }

@@ -2,14 +2,13 @@
 -- one.
 -- The invariant: the least so far is the least over the first x values. The measure is how many variables are left, of
 -- three at most.
-use mathlib.Core.Path.{_≡_}
+use mathlib.Core.Path.{_≡_, _∙_}
 use mathlib.Core.Bool.{true}
 use mathlib.Core.List.{List}
 use Prim.Native.Nat.{ℕ, _+_, _-_, _*_, _≤_, _<_}
 use native.Mathlib.Omega.{arith}
 use native.Mathlib.Nat.{add-zero}
 use lib.ListN.{length, getD, drop}
-use lib.Seq.{getD-drop}
 use borrow.Fn.Kinds.{In}
 use borrow.Fn.PlainCycle.{Measures, is, falls, and}
 use denote.Ref.{now}
@@ -20,7 +19,7 @@ use Rattle.model.specs.Reading.{tableArity}
 use Rattle.model.specs.Bounds.{prefixOk, leastTo, leastFrom}
 use Rattle.problem.specs.Records.{Whole}
 use Rattle.model.proofs.Prefixes.{prefix-below}
-use Rattle.problem.proofs.WholeRecord.{whole-few, whole-long}
+use Rattle.problem.proofs.Scopes.{whole-inside}
 use Rattle.costs.specs.Entries.{numberAt, scopeAt}
 use Rattle.costs.proofs.ScopeVariables.{scope-end, scope-next, variable-exists, variable-size}
 use Rattle.costs.proofs.Rooms.{Room, room-index, room-fits, room-next}
@@ -30,6 +29,8 @@ use Rattle.costs.proofs.least_from.Kinds as kinds
 use Rattle.costs.proofs.+least_from.Lts-least_from as lts
 use Rattle.costs.proofs.lesser.Reads as lesser-reads
 use Rattle.costs.proofs.number_at.Reads as number-at-reads
+use Rattle.problem.proofs.arity_at.Reads as arity-at-reads
+use Rattle.problem.proofs.scope_at.Reads as scope-at-reads
 use Rattle.costs.proofs.+least_from.{statement}
 use Rattle.costs.proofs.+least_from.Tie.{close}
 
@@ -44,8 +45,12 @@ asked-below t = and 3 kinds.ps (falls 3 kinds.ps _<_ μ-least-from t) least-from
 
 abbrev calls : ℕ → lts.Claims
 calls t = (
+  arity-at-reads.Asked,
+  arity-at-reads.Learnt,
   number-at-reads.Asked,
   number-at-reads.Learnt,
+  scope-at-reads.Asked,
+  scope-at-reads.Learnt,
   asked-below t,
   least-from.Post,
   lesser-reads.Asked,
@@ -65,10 +70,22 @@ abbrev μ-loop : lts.MeasureT-loop
 μ-loop s at k index sizes prefix a v d least₀ x₀ least x = d - x
 
 module _ (t : ℕ) where
-  -- ## what is known where the scope has a variable number k, of a domain of d values
+  -- ## the places: the arity is read, the scope has a variable number k, it is read
+
+  abbrev Headed : Type 0
+  Headed = lts.After-arity-at (calls t) (asked t) least-from.Post Inv-loop μ-loop
+
+  abbrev head : Headed → lts.Start (calls t) (asked t) least-from.Post Inv-loop μ-loop
+  head c = c .before .before .before .before
 
   abbrev Variable : Type 0
   Variable = lts.Else1 (calls t) (asked t) least-from.Post Inv-loop μ-loop
+
+  abbrev start : Variable → lts.Start (calls t) (asked t) least-from.Post Inv-loop μ-loop
+  start c = head (c .before)
+
+  abbrev Read : Type 0
+  Read = lts.After-scope-at (calls t) (asked t) least-from.Post Inv-loop μ-loop
 
   abbrev Free : Type 0
   Free = lts.Else2 (calls t) (asked t) least-from.Post Inv-loop μ-loop
@@ -76,51 +93,50 @@ module _ (t : ℕ) where
   abbrev Fixed : Type 0
   Fixed = lts.Then2 (calls t) (asked t) least-from.Post Inv-loop μ-loop
 
-  abbrev start : Variable → lts.Start (calls t) (asked t) least-from.Post Inv-loop μ-loop
-  start c = c .before .before .before .before .before
+  -- ## what is known there, of a domain of d values
 
-  abbrev domain : Variable → ℕ
-  domain c = let a = start c .args in getD (now (a .sizes)) (getD (now (a .s)) (a .at + 4 + a .k) 0) 0
-
-  abbrev rest : Variable → ℕ → ℕ
-  rest c =
-      let a = start c .args in
-      after (now (a .s)) (a .at) (a .k) (a .index) (now (a .sizes)) (now (a .prefix)) (domain c)
-
-  inside : (c : Variable) → let a = start c .args in a .k < getD (now (a .s)) (a .at + 3) 0
-  inside c =
-      let a = start c .args in
-      let q = start c .pre .1 in
-      let few : a .k ≤ getD (now (a .s)) (a .at + 3) 0 = rw getD-drop at (q .3) in
-      omega (arith, c .if1 .left)
+  inside : (c : Variable) → let a = start c .args in a .k < tableArity (drop (a .at) (now (a .s)))
+  inside c = omega (arith, c .before .arity-at .ensures, c .if1 .left, start c .pre .1 .3)
 
   short : (c : Variable) → start c .args .k < maxArity
-  short c =
-      let a = start c .args in
-      let q = start c .pre .1 in
-      omega (arith, inside c, whole-few (now (a .sizes)) (now (a .s)) (a .at) (q .0))
+  short c = omega (arith, inside c, start c .pre .1 .0 .few)
 
-  size : (c : Variable) → DomainSize (domain c)
+  abbrev domain : Read → ℕ
+  domain c = getD (now (start (c .before) .args .sizes)) (c .scope-at .result) 0
+
+  abbrev rest : Read → ℕ → ℕ
+  rest c =
+      let a = start (c .before) .args in
+      after (now (a .s)) (a .at) (a .k) (a .index) (now (a .sizes)) (now (a .prefix)) (domain c)
+
+  size : (c : Read) → DomainSize (domain c)
   size c =
-      let a = start c .args in
-      let q = start c .pre .1 in
-      variable-size (now (a .sizes)) (now (a .s)) (a .at) (q .0) (a .k) (inside c) (q .1)
+      let a = start (c .before) .args in
+      let q = start (c .before) .pre .1 in
+      rw (c .scope-at .ensures)
+      (variable-size (now (a .sizes)) (now (a .s)) (a .at) (q .0) (a .k) (inside (c .before)) (q .1))
 
-  room : (c : Variable) (x : ℕ) → x < domain c
-      → let a = start c .args in Room (now (a .sizes)) (now (a .s)) (a .at) (a .k + 1) (a .index * domain c + x)
+  room : (c : Read) (x : ℕ) → x < domain c
+      → let a = start (c .before) .args in
+      Room (now (a .sizes)) (now (a .s)) (a .at) (a .k + 1) (a .index * domain c + x)
   room c x l =
-      let a = start c .args in
-      let q = start c .pre .1 in
-      room-next (now (a .sizes)) (now (a .s)) (a .at) (q .0) (a .k) (a .index) (q .4) (inside c) x l
+      let a = start (c .before) .args in
+      let q = start (c .before) .pre .1 in
+      let is = c .scope-at .ensures in
+      rw is
+      (room-next (now (a .sizes)) (now (a .s)) (a .at) (q .0) (a .k) (a .index) (q .4) (inside (c .before)) x
+      (rw is at l))
 
-  first : (c : Variable)
-      → let a = start c .args in Room (now (a .sizes)) (now (a .s)) (a .at) (a .k + 1) (a .index * domain c)
+  first : (c : Read)
+      → let a = start (c .before) .args in
+      Room (now (a .sizes)) (now (a .s)) (a .at) (a .k + 1) (a .index * domain c)
   first c = rw add-zero at (room c 0 (size c .0))
 
-  fits : (c : Variable) (x : ℕ) → x < domain c → let a = start c .args in a .index * domain c + x < length (now (a .s))
+  fits : (c : Read) (x : ℕ) → x < domain c
+      → let a = start (c .before) .args in a .index * domain c + x < length (now (a .s))
   fits c x l =
-      let a = start c .args in
-      let q = start c .pre .1 in
+      let a = start (c .before) .args in
+      let q = start (c .before) .pre .1 in
       room-fits (now (a .sizes)) (now (a .s)) (a .at) (q .0) (q .1) (a .k + 1) _ (room c x l)
 
   -- what a call for the next variable asks
@@ -133,163 +149,137 @@ module _ (t : ℕ) where
       × Room (now (a .sizes)) (now (a .s)) (a .at) (a .k + 1) i)
   again c i next =
       let q = start c .pre .1 in
-      (omega (arith, short c, start c .pre .0), (q .0, q .1, q .2, rw getD-drop (omega (arith, inside c)), next))
+      (omega (arith, short c, start c .pre .0), (q .0, q .1, q .2, omega (arith, inside c), next))
 
   below : (c : Fixed)
-      → let a = start (c .before .before .before) .args in
-      getD (now (a .prefix)) (getD (now (a .s)) (a .at + 4 + a .k) 0) 0 < domain (c .before .before .before)
+      → let r = c .before .before in
+      getD (now (start (r .before) .args .prefix)) (r .scope-at .result) 0 < domain r
   below c =
-      let a = start (c .before .before .before) .args in
-      let q = start (c .before .before .before) .pre .1 in
-      prefix-below (now (a .sizes)) (now (a .prefix)) (q .2) _ (c .if2 .taken)
+      let s = start (c .before .before .before) in
+      prefix-below (now (s .args .sizes)) (now (s .args .prefix)) (s .pre .1 .2) _ (c .if2 .taken)
 
-  free : (c : Free) (r : ℕ) → r ≡ leastTo (domain (c .before .before .before) - 1) (rest (c .before .before .before))
+  free : (c : Free) (r : ℕ) → r ≡ leastTo (domain (c .before .before) - 1) (rest (c .before .before))
       → let a = start (c .before .before .before) .args in
       r
       ≡ leastFrom (now (a .sizes)) (now (a .prefix)) (numberAt (now (a .sizes)) (now (a .s)) (a .at)) (a .index)
       (drop (a .k) (scopeAt (now (a .s)) (a .at)))
   free c r e =
-      let a = start (c .before .before .before) .args in
-      let q = start (c .before .before .before) .pre .1 in
+      let v = c .before .before .before in
+      let a = start v .args in
+      let is = c .before .before .scope-at .ensures in
       rw (
-        scope-next (now (a .sizes)) (now (a .s)) (a .at) (q .0) (a .k) (inside (c .before .before .before)),
+        scope-next (now (a .sizes)) (now (a .s)) (a .at) (start v .pre .1 .0) (a .k) (inside v),
         least-free (now (a .sizes)) (now (a .prefix)) (numberAt (now (a .sizes)) (now (a .s)) (a .at)) (a .index) _
-            (drop (a .k + 1) (scopeAt (now (a .s)) (a .at))) (c .if2 .left),
-      ) e
+            (drop (a .k + 1) (scopeAt (now (a .s)) (a .at))) (rw is at (c .if2 .left)),
+      ) (rw is at e)
 
   -- ## the needs, in the order of the code
 
-  add-a : lts.Need-add-a (calls t) (asked t) least-from.Post Inv-loop μ-loop
-  add-a c =
-      let a = c .before .before .before .args in
-      let q = c .before .before .before .pre .1 in
-      omega (arith, whole-long (now (a .sizes)) (now (a .s)) (a .at) (q .0))
-
-  shared-slice-read-a : lts.Need-shared-slice-read-a (calls t) (asked t) least-from.Post Inv-loop μ-loop
-  shared-slice-read-a c =
-      let a = c .before .before .before .before .args in
-      let q = c .before .before .before .before .pre .1 in
-      omega (arith, whole-long (now (a .sizes)) (now (a .s)) (a .at) (q .0))
-
-  cast-a : lts.Need-cast-a (calls t) (asked t) least-from.Post Inv-loop μ-loop
-  cast-a c = omega (arith, c .shared-slice-known4 .given (c .before .before .before .before .args .at + 3))
+  arity-at-requires : lts.Need-arity-at-requires (calls t) (asked t) least-from.Post Inv-loop μ-loop
+  arity-at-requires c κs =
+      let s = c .before .before .before in
+      whole-inside (now (s .args .sizes)) (now (s .args .s)) (s .args .at) (s .pre .1 .0)
 
   number-at-requires : lts.Need-number-at-requires (calls t) (asked t) least-from.Post Inv-loop μ-loop
   number-at-requires c κs =
-      let a = c .before .before .before .before .before .args in
-      let q = c .before .before .before .before .before .pre .1 in
+      let s = head (c .before) in
+      let a = s .args in
+      let q = s .pre .1 in
       (q .0, room-index (now (a .sizes)) (now (a .s)) (a .at) (q .0) (q .1) (a .k) (a .index) (q .4))
 
   returns : lts.Need-returns (calls t) (asked t) least-from.Post Inv-loop μ-loop
   returns c =
-      let a = c .before .before .before .before .before .before .args in
-      let q = c .before .before .before .before .before .before .pre .1 in
-      let none = scope-end (now (a .sizes)) (now (a .s)) (a .at) (q .0) in
-      rw (c .before .if1 .taken, none, least-none) (c .number-at .ensures)
+      let h = c .before .before in
+      let a = head h .args in
+      let end : a .k ≡ tableArity (drop (a .at) (now (a .s))) = c .before .if1 .taken ∙ h .arity-at .ensures in
+      rw (end, scope-end (now (a .sizes)) (now (a .s)) (a .at) (head h .pre .1 .0), least-none) (c .number-at .ensures)
 
-  add-v : lts.Need-add-v (calls t) (asked t) least-from.Post Inv-loop μ-loop
-  add-v c =
-      let a = c .before .before .before .before .before .args in
-      let q = c .before .before .before .before .before .pre .1 in
-      omega (arith, whole-long (now (a .sizes)) (now (a .s)) (a .at) (q .0), inside c)
-
-  add-v-2 : lts.Need-add-v-2 (calls t) (asked t) least-from.Post Inv-loop μ-loop
-  add-v-2 c =
-      let a = c .before .before .before .before .before .args in
-      let q = c .before .before .before .before .before .pre .1 in
-      omega (arith, whole-long (now (a .sizes)) (now (a .s)) (a .at) (q .0), inside c)
-
-  shared-slice-read-v : lts.Need-shared-slice-read-v (calls t) (asked t) least-from.Post Inv-loop μ-loop
-  shared-slice-read-v c =
-      let a = c .before .before .before .before .before .before .args in
-      let q = c .before .before .before .before .before .before .pre .1 in
-      omega (arith, whole-long (now (a .sizes)) (now (a .s)) (a .at) (q .0), inside (c .before))
-
-  cast-v : lts.Need-cast-v (calls t) (asked t) least-from.Post Inv-loop μ-loop
-  cast-v c =
-      let a = c .before .before .before .before .before .before .args in
-      omega (arith, c .shared-slice-known5 .given (a .at + 4 + a .k))
+  scope-at-requires : lts.Need-scope-at-requires (calls t) (asked t) least-from.Post Inv-loop μ-loop
+  scope-at-requires c κs =
+      let s = start c in
+      (whole-inside (now (s .args .sizes)) (now (s .args .s)) (s .args .at) (s .pre .1 .0), inside c)
 
   shared-slice-read-d : lts.Need-shared-slice-read-d (calls t) (asked t) least-from.Post Inv-loop μ-loop
   shared-slice-read-d c =
-      let a = c .before .before .before .before .before .before .before .args in
-      let q = c .before .before .before .before .before .before .before .pre .1 in
-      variable-exists (now (a .sizes)) (now (a .s)) (a .at) (q .0) (a .k) (inside (c .before .before))
+      let v = c .before .before in
+      let a = start v .args in
+      rw (c .before .scope-at .ensures)
+      (variable-exists (now (a .sizes)) (now (a .s)) (a .at) (start v .pre .1 .0) (a .k) (inside v))
 
   cast-d : lts.Need-cast-d (calls t) (asked t) least-from.Post Inv-loop μ-loop
-  cast-d c = omega (arith, size (c .before .before))
+  cast-d c = omega (arith, size (c .before))
 
   add-least-from : lts.Need-add-least-from (calls t) (asked t) least-from.Post Inv-loop μ-loop
   add-least-from c = omega (arith, short (c .before .before .before))
 
   mul-least-from : lts.Need-mul-least-from (calls t) (asked t) least-from.Post Inv-loop μ-loop
-  mul-least-from c = omega (arith, fits (c .before .before .before) _ (below c))
+  mul-least-from c = omega (arith, fits (c .before .before) _ (below c))
 
   shared-slice-read-least-from :
       lts.Need-shared-slice-read-least-from (calls t) (asked t) least-from.Post Inv-loop μ-loop
   shared-slice-read-least-from c = omega (arith, c .before .if2 .taken)
 
   cast-least-from : lts.Need-cast-least-from (calls t) (asked t) least-from.Post Inv-loop μ-loop
-  cast-least-from c = omega (arith, below (c .before), size (c .before .before .before .before))
+  cast-least-from c = omega (arith, below (c .before), size (c .before .before .before))
 
   add-least-from-2 : lts.Need-add-least-from-2 (calls t) (asked t) least-from.Post Inv-loop μ-loop
-  add-least-from-2 c = omega (arith, fits (c .before .before .before .before) _ (below (c .before)))
+  add-least-from-2 c = omega (arith, fits (c .before .before .before) _ (below (c .before)))
 
   least-from-requires : lts.Need-least-from-requires (calls t) (asked t) least-from.Post Inv-loop μ-loop
   least-from-requires c κs =
-      again (c .before .before .before .before) _ (room (c .before .before .before .before) _ (below (c .before)))
+      let r = c .before .before .before in
+      again (r .before) _ (room r _ (below (c .before)))
 
   returns-2 : lts.Need-returns-2 (calls t) (asked t) least-from.Post Inv-loop μ-loop
   returns-2 c =
       let fixed = c .before .before in
-      let s = start (fixed .before .before .before) in
+      let read = fixed .before .before in
+      let s = start (read .before) in
       let a = s .args in
+      let is = read .scope-at .ensures in
       let vs = drop (a .k + 1) (scopeAt (now (a .s)) (a .at)) in
-      let next = scope-next (now (a .sizes)) (now (a .s)) (a .at) (s .pre .1 .0) (a .k)
-      (inside (fixed .before .before .before)) in
+      let next = scope-next (now (a .sizes)) (now (a .s)) (a .at) (s .pre .1 .0) (a .k) (inside (read .before)) in
       let value = least-fixed (now (a .sizes)) (now (a .prefix)) (numberAt (now (a .sizes)) (now (a .s)) (a .at))
-      (a .index) _ vs (fixed .if2 .taken) in
-      rw (next, value) (c .least-from .ensures)
+      (a .index) _ vs (rw is at (fixed .if2 .taken)) in
+      rw (next, value) (rw is at (c .least-from .ensures))
 
   add-least-from-3 : lts.Need-add-least-from-3 (calls t) (asked t) least-from.Post Inv-loop μ-loop
   add-least-from-3 c = omega (arith, short (c .before .before .before))
 
   mul-least-from-2 : lts.Need-mul-least-from-2 (calls t) (asked t) least-from.Post Inv-loop μ-loop
-  mul-least-from-2 c = omega (arith, fits (c .before .before .before) 0 (size (c .before .before .before) .0))
+  mul-least-from-2 c = omega (arith, fits (c .before .before) 0 (size (c .before .before) .0))
 
   least-from-requires-2 : lts.Need-least-from-requires-2 (calls t) (asked t) least-from.Post Inv-loop μ-loop
-  least-from-requires-2 c κs = again (c .before .before .before) _ (first (c .before .before .before))
+  least-from-requires-2 c κs = again (c .before .before .before) _ (first (c .before .before))
 
   loop-holds : lts.Need-loop-holds (calls t) (asked t) least-from.Post Inv-loop μ-loop
   unfolding leastTo
   loop-holds c =
-      (omega arith, size (c .before .before .before .before) .0, rw add-zero (c .least-from2 .ensures))
+      (omega arith, size (c .before .before .before) .0, rw add-zero (c .least-from2 .ensures))
 
   add-least-from-4 : lts.Need-add-least-from-4 (calls t) (asked t) least-from.Post Inv-loop μ-loop
   add-least-from-4 c = omega (arith, short (c .before .before .before .before .before .before))
 
   mul-least-from-3 : lts.Need-mul-least-from-3 (calls t) (asked t) least-from.Post Inv-loop μ-loop
   mul-least-from-3 c =
-      omega (
-        arith,
-        fits (c .before .before .before .before .before .before) 0
-            (size (c .before .before .before .before .before .before) .0),
-      )
+      let r = c .before .before .before .before .before in
+      omega (arith, fits r 0 (size r .0))
 
   add-least-from-5 : lts.Need-add-least-from-5 (calls t) (asked t) least-from.Post Inv-loop μ-loop
   add-least-from-5 c =
-      omega (arith, fits (c .before .before .before .before .before .before) (c .before .loop .x) (c .loop-test .taken))
+      let r = c .before .before .before .before .before in
+      omega (arith, fits r (c .before .loop .x) (c .loop-test .taken))
 
   least-from-requires-3 : lts.Need-least-from-requires-3 (calls t) (asked t) least-from.Post Inv-loop μ-loop
   least-from-requires-3 c κs =
-      again (c .before .before .before .before .before .before) _
-      (room (c .before .before .before .before .before .before) (c .before .loop .x) (c .loop-test .taken))
+      let r = c .before .before .before .before .before in
+      again (r .before) _ (room r (c .before .loop .x) (c .loop-test .taken))
 
   lesser-requires : lts.Need-lesser-requires (calls t) (asked t) least-from.Post Inv-loop μ-loop
   lesser-requires c κs = tt
 
   add-x : lts.Need-add-x (calls t) (asked t) least-from.Post Inv-loop μ-loop
-  add-x c = omega (arith, size (c .before .before .before .before .before .before .before .before))
+  add-x c = omega (arith, size (c .before .before .before .before .before .before .before))
 
   loop-less : lts.Need-loop-less (calls t) (asked t) least-from.Post Inv-loop μ-loop
   loop-less c = omega arith
@@ -297,13 +287,13 @@ module _ (t : ℕ) where
   loop-again : lts.Need-loop-again (calls t) (asked t) least-from.Post Inv-loop μ-loop
   loop-again c =
       let w = c .before .before .before .loop in
-      let step = least-next (w .x) (rest (c .before .before .before .before .before .before .before .before)) in
+      let step = least-next (w .x) (rest (c .before .before .before .before .before .before .before)) in
       (omega arith, omega arith, rw (step, c .lesser .ensures, w .inv .2, c .before .least-from3 .ensures))
 
   returns-3 : lts.Need-returns-3 (calls t) (asked t) least-from.Post Inv-loop μ-loop
   returns-3 c =
       let w = c .before .loop in
-      let end : w .x ≡ domain (c .before .before .before .before .before .before) = omega arith in
+      let end : w .x ≡ domain (c .before .before .before .before .before) = omega arith in
       free (c .before .before .before) _ (rw end at (w .inv .2))
 
 pub +least-from-spec : {M : Type 1} → statement M
@@ -316,15 +306,10 @@ pub +least-from-spec : {M : Type 1} → statement M
     least-from.Post
     Inv-loop
     μ-loop
-    (add-a t)
-    (shared-slice-read-a t)
-    (cast-a t)
+    (arity-at-requires t)
     (number-at-requires t)
     (returns t)
-    (add-v t)
-    (add-v-2 t)
-    (shared-slice-read-v t)
-    (cast-v t)
+    (scope-at-requires t)
     (shared-slice-read-d t)
     (cast-d t)
     (add-least-from t)

@@ -1,42 +1,38 @@
 -- `costs::entries_of` meets its contract. The record is whole, so its scope lies in the bytes and its variables exist.
-use Prim.Native.Nat.{_+_}
-use native.Mathlib.Omega.{arith}
 use denote.Ref.{now}
-use Rattle.problem.proofs.WholeRecord.{scope-place, whole-few, whole-range, whole-long}
+use Rattle.problem.proofs.Scopes.{scope-taken, whole-inside}
 use borrow.Author.Needs.{needs}
 use Rattle.costs.proofs.entries_of.Statement.{statement}
 use Rattle.costs.proofs.entries_of.Tie as tie
 
-shared-slice-read-a : tie.Need-shared-slice-read-a
-shared-slice-read-a c =
-    let start = c .before .before .before in
-    let a = start .args in
-    omega (arith, whole-long (now (a .sizes)) (now (a .s)) (a .at) (start .pre .0))
-
-cast-a : tie.Need-cast-a
-cast-a c = omega (arith, c .shared-slice-known3 .given (c .before .before .before .args .at + 3))
+arity-at-requires : tie.Need-arity-at-requires
+arity-at-requires c κs =
+    let s = c .before .before in
+    whole-inside (now (s .args .sizes)) (now (s .args .s)) (s .args .at) (s .pre .0)
 
 size-of-requires : tie.Need-size-of-requires
 size-of-requires c κs =
     let start = c .before .before .before in
-    let ds = now (start .args .sizes) in
     let s = now (start .args .s) in
     let at = start .args .at in
     let w = start .pre .0 in
-    (omega (arith, whole-long ds s at w), whole-few ds s at w, whole-range ds s at w, start .pre .1)
+    rw (c .arity-at .ensures) (
+      whole-inside (now (start .args .sizes)) s at w,
+      w .few,
+      rw (scope-taken s at) at (w .range),
+      start .pre .1,
+    )
 
 returns : tie.Need-returns
 returns c =
     let a = c .before .before .before .before .args in
-    rw (scope-place (now (a .s)) (a .at)) (c .size-of .ensures .0)
+    rw (scope-taken (now (a .s)) (a .at)) (rw (c .before .arity-at .ensures) at (c .size-of .ensures .0))
 
 pub entries-of-spec : {M : Type 1} → statement M
 entries-of-spec =
     tie.close
     (tie.spec
-    (λ c. search needs)  -- add-a
-    shared-slice-read-a
-    cast-a
+    arity-at-requires
     (λ c. search needs)  -- add-size-of
     size-of-requires
     returns)

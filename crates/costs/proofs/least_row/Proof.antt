@@ -6,7 +6,7 @@ use native.Mathlib.Omega.{arith}
 use native.Mathlib.Nat.{add-zero}
 use denote.Ref.{now}
 use Rattle.model.specs.Bounds.{leastTo}
-use Rattle.problem.proofs.WholeRecord.{whole-long}
+use Rattle.problem.proofs.Scopes.{whole-ends}
 use Rattle.costs.specs.Entries.{numberAt}
 use Rattle.costs.proofs.LeastSteps.{least-next}
 use Rattle.costs.proofs.least_row.Statement.{statement}
@@ -32,7 +32,7 @@ add-number-at : tie.Need-add-number-at Inv-loop μ-loop
 add-number-at c =
     let a = c .before .before .before .before .before .args in
     let q = c .before .before .before .before .before .pre in
-    omega (arith, whole-long (now (a .sizes)) (now (a .s)) (a .at) (q .0))
+    omega (arith, whole-ends (now (a .sizes)) (now (a .s)) (a .at) (q .0))
 
 number-at-requires-2 : tie.Need-number-at-requires-2 Inv-loop μ-loop
 number-at-requires-2 c κs =

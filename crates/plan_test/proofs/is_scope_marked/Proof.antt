@@ -1,15 +1,15 @@
 -- `plan_test::is_scope_marked` meets its contract. The invariant: where the variables that are left are marked, all
 -- are.
 use mathlib.Core.Bool.{false≢true}
-use Prim.Native.Nat.{_+_, _-_, _≤_}
+use Prim.Native.Nat.{_-_, _≤_, _<_}
 use native.Mathlib.Omega.{arith}
 use borrow.Author.Needs.{needs}
 use borrow.Author.Tests.{not-false}
 use lib.ListN.{drop}
 use denote.Ref.{now}
 use Rattle.model.specs.Basics.{All}
-use Rattle.model.specs.Reading.{tableScope}
-use Rattle.problem.proofs.Scopes.{arity-inside, scope-next, scope-end}
+use Rattle.model.specs.Reading.{tableArity, tableScope}
+use Rattle.problem.proofs.Scopes.{scope-next, scope-end}
 use Rattle.plan_test.specs.Marks.{Marked, ScopeIn}
 use Rattle.plan_test.proofs.is_scope_marked.Statement.{statement}
 use Rattle.plan_test.proofs.is_scope_marked.Tie as tie
@@ -21,59 +21,44 @@ Inv-loop s at marks a i₀ i =
 abbrev μ-loop : tie.MeasureT-loop
 μ-loop s at marks a i₀ i = a - i
 
-cast-a : tie.Need-cast-a Inv-loop μ-loop
-cast-a c = omega (arith, c .shared-slice-known3 .given (c .before .before .before .args .at + 3))
+abbrev Headed : Type 0
+Headed = tie.After-arity-at Inv-loop μ-loop
 
-add-is-marked-2 : tie.Need-add-is-marked-2 Inv-loop μ-loop
-add-is-marked-2 c =
-    omega (
-      arith,
-      arity-inside (now (c .before .before .before .before .before .args .s))
-          (c .before .before .before .before .before .args .at) (c .before .before .before .before .before .pre),
-    )
+abbrev start : Headed → tie.Start Inv-loop μ-loop
+start c = c .before .before .before
 
-shared-slice-read-is-marked : tie.Need-shared-slice-read-is-marked Inv-loop μ-loop
-shared-slice-read-is-marked c =
-    omega (
-      arith,
-      arity-inside (now (c .before .before .before .before .before .before .args .s))
-          (c .before .before .before .before .before .before .args .at)
-          (c .before .before .before .before .before .before .pre),
-    )
+abbrev Turn : Type 0
+Turn = tie.In-loop Inv-loop μ-loop
 
-cast-is-marked : tie.Need-cast-is-marked Inv-loop μ-loop
-cast-is-marked c =
-    omega (
-      arith,
-      c .shared-slice-known4 .given
-          (c .before .before .before .before .before .before .args .at + 4 + c .before .before .loop .i),
-    )
+abbrev head : Turn → Headed
+head c = c .before .before
+
+more : (c : Turn) → let a = start (head c) .args in c .before .loop .i < tableArity (drop (a .at) (now (a .s)))
+more c = rw (← head c .arity-at .ensures) (c .loop-test .taken)
 
 add-i : tie.Need-add-i Inv-loop μ-loop
 add-i c =
-    omega (
-      arith,
-      arity-inside (now (c .before .before .before .before .before .before .before .before .args .s))
-          (c .before .before .before .before .before .before .before .before .args .at)
-          (c .before .before .before .before .before .before .before .before .pre),
-    )
+    let t = c .before .before .before in
+    omega (arith, more t, start (head t) .pre)
 
 loop-again : tie.Need-loop-again Inv-loop μ-loop
 loop-again c =
-    let a = c .before .before .before .before .before .before .before .before .args in
-    let w = c .before .before .before .before .loop in (
+    let read = c .before .before in
+    let t = read .before in
+    let s = start (head t) in
+    let w = t .before .loop in (
       omega arith,
       λ h. w .inv .1
-          (rw (scope-next (now (a .s)) (a .at) (c .before .before .before .before .before .before .before .before .pre)
-          (w .i) (omega arith))
+          (rw (scope-next (now (s .args .s)) (s .args .at) (s .pre) (w .i) (more t), ← read .scope-at .ensures)
           (c .before .is-marked .ensures (not-false _ (c .if1 .left)), h)),
     )
 
 returns-2 : tie.Need-returns-2 Inv-loop μ-loop
 returns-2 c =
-    let a = c .before .before .before .before .before .args in
+    let h = c .before .before in
+    let a = start h .args in
     let w = c .before .loop in
-    λ _. w .inv .1 (rw (scope-end (now (a .s)) (a .at) (w .i) (omega arith)) tt)
+    λ _. w .inv .1 (rw (scope-end (now (a .s)) (a .at) (w .i) (omega (arith, h .arity-at .ensures))) tt)
 
 pub is-scope-marked-spec : {M : Type 1} → statement M
 is-scope-marked-spec =
@@ -81,14 +66,9 @@ is-scope-marked-spec =
     (tie.spec
     Inv-loop
     μ-loop
-    (λ c. omega arith)  -- add-a
-    (λ c. omega arith)  -- shared-slice-read-a
-    cast-a
+    (λ c κs. c .before .before .pre)  -- arity-at-requires
     (λ c. (omega arith, λ h. h))  -- loop-holds
-    (λ c. omega arith)  -- add-is-marked
-    add-is-marked-2
-    shared-slice-read-is-marked
-    cast-is-marked
+    (λ c κs. (start (head c) .pre, more c))  -- scope-at-requires
     (λ c κs. search needs)  -- is-marked-requires
     (λ c h. absurd (false≢true h))  -- returns
     add-i

@@ -1,14 +1,14 @@
 -- `views::lies_on` meets its contract. The invariant: the test of what is left of the scope is the whole's.
 use mathlib.Core.Path.{_≡_, sym, _∙_}
-use Prim.Native.Nat.{_+_, _-_, _≤_}
+use Prim.Native.Nat.{_-_, _≤_, _<_}
 use native.Mathlib.Omega.{arith}
 use borrow.Author.Tests.{eq-eqb, ne-eqb}
 use lib.ListN.{length, drop}
 use denote.Ref.{now}
-use Rattle.model.specs.Reading.{tableScope}
+use Rattle.model.specs.Reading.{tableArity, tableScope}
 use Rattle.model.specs.Views.{allOn, within}
-use Rattle.problem.proofs.Scopes.{arity-inside, scope-next, scope-end}
-use Rattle.views.proofs.SideSteps.{variable-inside, within-none, within-some}
+use Rattle.problem.proofs.Scopes.{scope-next, scope-end, scope-each}
+use Rattle.views.proofs.SideSteps.{within-none, within-some}
 use Rattle.views.proofs.lies_on.Statement.{statement}
 use Rattle.views.proofs.lies_on.Tie as tie
 
@@ -19,59 +19,74 @@ Inv-loop s at sides side a i₀ i =
 abbrev μ-loop : tie.MeasureT-loop
 μ-loop s at sides side a i₀ i = a - i
 
-cast-a : tie.Need-cast-a Inv-loop μ-loop
-cast-a c = omega (arith, c .shared-slice-known3 .given (c .before .before .before .args .at + 3))
+abbrev Headed : Type 0
+Headed = tie.After-arity-at Inv-loop μ-loop
+
+abbrev start : Headed → tie.Start Inv-loop μ-loop
+start c = c .before .before .before
+
+abbrev Turn : Type 0
+Turn = tie.In-loop Inv-loop μ-loop
+
+abbrev head : Turn → Headed
+head c = c .before .before .before
+
+more : (c : Turn) → let a = start (head c) .args in c .before .loop .i < tableArity (drop (a .at) (now (a .s)))
+more c = rw (← head c .arity-at .ensures) (c .loop-test .taken)
 
 returns : tie.Need-returns Inv-loop μ-loop
 returns c =
-    let a = c .before .before .before .before .args in
-    let none = scope-end (now (a .s)) (a .at) 0 (omega arith) in
+    let h = c .before in
+    let a = start h .args in
+    let none = scope-end (now (a .s)) (a .at) 0 (omega (arith, h .arity-at .ensures)) in
     rw none (sym (within-none (a .side) (now (a .sides))))
 
 loop-holds : tie.Need-loop-holds Inv-loop μ-loop
 loop-holds c =
-    let a = c .before .before .before .before .args in
-    let some = scope-next (now (a .s)) (a .at) (c .before .before .before .before .pre .0) 0 (omega arith) in
+    let h = c .before in
+    let s = start h in
+    let a = s .args in
+    let some = scope-next (now (a .s)) (a .at) (s .pre .0) 0 (omega (arith, h .arity-at .ensures)) in
     (omega arith, rw some (sym (within-some (a .side) (now (a .sides)) _ _)))
 
 side-at-requires : tie.Need-side-at-requires Inv-loop μ-loop
 side-at-requires c κs =
-    let a = c .before .before .before .before .before .before .args in
-    let q = c .before .before .before .before .before .before .pre in
-    variable-inside (now (a .s)) (a .at) (length (now (a .sides))) (q .0) (q .1) (c .before .loop .i) (omega arith)
+    let s = start (head c) in
+    let a = s .args in (
+      s .pre .0,
+      more c,
+      scope-each (now (a .s)) (a .at) (s .pre .0) (λ v. v < length (now (a .sides))) (s .pre .1) (c .before .loop .i)
+          (more c),
+    )
 
 returns-2 : tie.Need-returns-2 Inv-loop μ-loop
 unfolding allOn
 returns-2 c =
-    let a = c .before .before .before .before .before .before .before .before .args in
-    let w = c .before .before .before .loop in
-    let next = scope-next (now (a .s)) (a .at)
-    (c .before .before .before .before .before .before .before .before .pre .0) (w .i) (omega arith) in
+    let t = c .before .before in
+    let s = start (head t) in
+    let w = t .before .loop in
+    let next = scope-next (now (s .args .s)) (s .args .at) (s .pre .0) (w .i) (more t) in
     rw (next, ne-eqb _ _ (λ e. c .if2 .taken (c .before .side-at .ensures ∙ e))) at (w .inv .1)
 
 add-i : tie.Need-add-i Inv-loop μ-loop
-add-i c =
-    let a = c .before .before .before .before .before .before .before .before .args in
-    omega (
-      arith,
-      arity-inside (now (a .s)) (a .at) (c .before .before .before .before .before .before .before .before .pre .0),
-    )
+add-i c = omega (arith, more (c .before .before), start (head (c .before .before)) .pre .0)
 
 loop-again : tie.Need-loop-again Inv-loop μ-loop
 unfolding allOn
 loop-again c =
-    let a = c .before .before .before .before .before .before .before .before .args in
-    let w = c .before .before .before .loop in
-    let next = scope-next (now (a .s)) (a .at)
-    (c .before .before .before .before .before .before .before .before .pre .0) (w .i) (omega arith) in
+    let t = c .before .before in
+    let s = start (head t) in
+    let w = t .before .loop in
+    let next = scope-next (now (s .args .s)) (s .args .at) (s .pre .0) (w .i) (more t) in
     (omega arith, rw (next, eq-eqb _ _ (sym (c .before .side-at .ensures) ∙ c .if2 .left)) at (w .inv .1))
 
 returns-3 : tie.Need-returns-3 Inv-loop μ-loop
 unfolding allOn
 returns-3 c =
-    let a = c .before .before .before .before .before .before .args in
+    let h = c .before .before .before in
+    let a = start h .args in
     let w = c .before .loop in
-    rw (scope-end (now (a .s)) (a .at) (w .i) (omega arith)) at (w .inv .1)
+    rw (scope-end (now (a .s)) (a .at) (w .i) (omega (arith, h .arity-at .ensures))) at (w .inv .1)
 
 pub lies-on-spec : {M : Type 1} → statement M
 lies-on-spec =
@@ -79,9 +94,7 @@ lies-on-spec =
     (tie.spec
     Inv-loop
     μ-loop
-    (λ c. omega arith)  -- add-a
-    (λ c. omega arith)  -- shared-slice-read-a
-    cast-a
+    (λ c κs. c .before .before .pre .0)  -- arity-at-requires
     returns
     loop-holds
     side-at-requires
