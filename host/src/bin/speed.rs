@@ -10,16 +10,16 @@ use frontier_host::limits::LEAST_WORK;
 use frontier_host::plain::{Settings, SETTINGS};
 use frontier_host::progress::show_progress;
 use frontier_host::reading::read_problem;
-use frontier_host::speed::cases::{only_family, read_cases, Case};
+use frontier_host::speed::cases::{only_family, read_cases, read_set, Case};
 use frontier_host::speed::growth::growth_cases;
+use frontier_host::speed::nights::night_cases;
 use frontier_host::speed::report::{Columns, Report, Runs, SLOW};
 use frontier_host::speed::sides::{serve_chooser, Calls, ChooserSide, Form, PlainSide, Run};
 use frontier_host::speed::toulbar2;
 use frontier_host::worker::{asked_limit, WORKER};
 
-const USAGE: &str =
-    "usage: speed [--limit SECONDS] [--only FAMILY] [--plain-only | --first-form] [--growth]
-             [--work NUMBERS] [--settings NAME=VALUE,..]
+const USAGE: &str = "usage: speed [--limit SECONDS] [--only FAMILY] [--plain-only | --first-form]
+             [--sets | --growth | --generated SEED] [--work NUMBERS] [--settings NAME=VALUE,..]
 Runs the problems of data/nightly and data/stress through the chooser and through plain Rust, each
 for at most SECONDS of processor time (default 2), compares the answers with the expected ones, and
 prints a table with a row for each family: the first part of a problem's name that is no number.
@@ -27,7 +27,10 @@ prints a table with a row for each family: the first part of a problem's name th
   --plain-only   leaves the chooser out
   --first-form   lets the chooser search by the first form: most problems are then given up
   --work NUMBERS lends the chooser so much work memory (default 8192, the least)
+  --sets         runs three nights, the largest problems and the harder ones instead, a row for each
   --growth       runs generated problems of growing size instead: n, d and p in turn
+  --generated SEED
+                 runs a generated night and generated problems of the largest size instead
   --settings     changes how plain Rust works:";
 
 /// The folders of problems.
@@ -36,6 +39,24 @@ const FOLDERS: [&str; 2] = [
     concat!(env!("CARGO_MANIFEST_DIR"), "/data/stress"),
 ];
 
+/// The folders that `--sets` runs.
+const SETS: [&str; 5] = [
+    concat!(env!("CARGO_MANIFEST_DIR"), "/data/nightly"),
+    concat!(env!("CARGO_MANIFEST_DIR"), "/data/night101"),
+    concat!(env!("CARGO_MANIFEST_DIR"), "/data/night102"),
+    concat!(env!("CARGO_MANIFEST_DIR"), "/data/corner"),
+    concat!(env!("CARGO_MANIFEST_DIR"), "/data/stress"),
+];
+
+/// Which problems run.
+#[derive(Clone, Copy, PartialEq, Eq)]
+enum Source {
+    Families,
+    Sets,
+    Growth,
+    Generated(u64),
+}
+
 /// What the arguments ask for.
 struct Options {
     limit: Duration,
@@ -43,7 +64,7 @@ struct Options {
     settings: Settings,
     plain_only: bool,
     calls: Calls,
-    growth: bool,
+    source: Source,
 }
 
 /// What the arguments ask for, or what is wrong with them.
@@ -57,7 +78,7 @@ fn asked_options(arguments: &[String]) -> Result<Options, String> {
             form: Form::Second,
             work: LEAST_WORK,
         },
-        growth: false,
+        source: Source::Families,
     };
     let mut rest = arguments.iter();
     while let Some(argument) = rest.next() {
@@ -71,11 +92,21 @@ fn asked_options(arguments: &[String]) -> Result<Options, String> {
             "--plain-only" => options.plain_only = true,
             "--first-form" => options.calls.form = Form::First,
             "--work" => options.calls.work = asked_work(rest.next())?,
-            "--growth" => options.growth = true,
+            "--sets" => options.source = Source::Sets,
+            "--growth" => options.source = Source::Growth,
+            "--generated" => options.source = Source::Generated(asked_seed(rest.next())?),
             other => return Err(format!("there is no option '{other}'")),
         }
     }
     Ok(options)
+}
+
+/// The seed in an argument.
+fn asked_seed(word: Option<&String>) -> Result<u64, String> {
+    let number = word.and_then(|word| word.parse::<u32>().ok());
+    number
+        .map(u64::from)
+        .ok_or_else(|| format!("--generated takes a number from 0 to {}", u32::MAX))
 }
 
 /// The length of work memory in an argument.
@@ -87,14 +118,19 @@ fn asked_work(word: Option<&String>) -> Result<usize, String> {
 
 impl Options {
     fn cases(&self) -> Result<Vec<Case>, String> {
-        let mut cases = Vec::new();
-        if self.growth {
-            cases = growth_cases();
-        } else {
-            for folder in FOLDERS {
-                cases.extend(read_cases(Path::new(folder))?);
+        let read_all = |folders: &[&str], read: fn(&Path) -> Result<Vec<Case>, String>| {
+            let mut cases = Vec::new();
+            for folder in folders {
+                cases.extend(read(Path::new(folder))?);
             }
-        }
+            Ok::<Vec<Case>, String>(cases)
+        };
+        let cases = match self.source {
+            Source::Families => read_all(&FOLDERS, read_cases)?,
+            Source::Sets => read_all(&SETS, read_set)?,
+            Source::Growth => growth_cases(),
+            Source::Generated(seed) => night_cases(seed),
+        };
         match &self.only {
             Some(family) => only_family(cases, family),
             None => Ok(cases),

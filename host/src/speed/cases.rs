@@ -39,6 +39,16 @@ pub fn read_cases(folder: &Path) -> Result<Vec<Case>, String> {
     Ok(cases)
 }
 
+/// The problems of a folder as one family, with the folder's name.
+pub fn read_set(folder: &Path) -> Result<Vec<Case>, String> {
+    let name = folder.file_name().unwrap_or_default().to_string_lossy();
+    let mut cases = read_cases(folder)?;
+    for case in &mut cases {
+        case.family = name.to_string();
+    }
+    Ok(cases)
+}
+
 /// The cases of one family; there must be some.
 pub fn only_family(mut cases: Vec<Case>, family: &str) -> Result<Vec<Case>, String> {
     let mut families: Vec<String> = cases.iter().map(|case| case.family.clone()).collect();

@@ -3,6 +3,7 @@
 
 pub mod cases;
 pub mod growth;
+pub mod nights;
 pub mod report;
 pub mod sides;
 pub mod table;
