@@ -58,8 +58,9 @@ fn may_send(g: usize, k: usize, plan: &[u32]) -> bool
     plan_shapes::at_most(g, layout::MAX_MESSAGES) + 3 * k + 1 < layout::MAX_MESSAGES
 }
 
-// Sends the message of a part: of the bucket's records and slots from those made on it has those that it covers.
-fn send_part(
+// Writes the message of a part but for its numbers: of the bucket's records and slots from those made on it has those
+// that it covers.
+fn lay_part(
     s: &[u8],
     sizes: &[u8],
     r: usize,
@@ -81,7 +82,6 @@ fn send_part(
     if !may_send(g, k, plan) {
         return made;
     }
-    let own = branch_buckets::variable_at(k, plan);
     let allowed = set | plan_memory::bit(k);
     let to = plan_memory::gather_records(s, 0, allowed, from, all.to, r, plan);
     let last = plan_memory::gather_slots(0, allowed, first, all.last, r, plan);
@@ -89,20 +89,7 @@ fn send_part(
     let at = made.numbers;
     let shape = plan_shapes::choose_shape(k, set, wanted.is_last, at, width, sizes, plan);
     plan_shapes::put_message(g, shape, to, last, plan);
-    let span = branch_buckets::Span {
-        from,
-        to,
-        first,
-        last,
-    };
-    let carried = made.rest;
-    let part = plan_numbers::Part {
-        own,
-        span,
-        shape,
-        rest: carried,
-    };
-    let rest = plan_numbers::put_entries(s, sizes, r, part, d, plan);
+    let rest = made.rest;
     let messages = plan_shapes::at_most(g, layout::MAX_MESSAGES) + 1;
     let numbers = plan_shapes::numbers_end(shape, at, width);
     Made {
@@ -114,8 +101,8 @@ fn send_part(
     }
 }
 
-// Sends the messages of all parts of a bucket.
-fn send_parts(
+// The same for all parts of a bucket.
+fn lay_parts(
     s: &[u8],
     sizes: &[u8],
     r: usize,
@@ -131,7 +118,7 @@ fn send_parts(
     let parts = plan_parts::make_parts(s, plan_memory::bit(bucket.position), span, plan);
     let count = plan_shapes::at_most(parts.count, 64);
     let sets = parts.sets;
-    let mut sent = made;
+    let mut laid = made;
     let mut g: usize = 0;
     while g < count {
         let set = sets[g];
@@ -141,10 +128,48 @@ fn send_parts(
             set,
             is_last,
         };
-        sent = send_part(s, sizes, r, wanted, d, sent, plan);
+        laid = lay_part(s, sizes, r, wanted, d, laid, plan);
         g += 1;
     }
-    sent
+    laid
+}
+
+// Sends the messages of all parts of a bucket.
+fn send_parts(
+    s: &[u8],
+    sizes: &[u8],
+    r: usize,
+    bucket: Bucket,
+    d: branch_directions::Directions,
+    made: Made,
+    plan: &mut [u32],
+) -> Made
+    requires { ⌜ Planned d r (now sizes) (now s) (now plan) × (bucket .position < maxVariables) ⌝ }
+    ensures { λ _. ⌜ Arranged r (now (plan .entry)) (now (plan .exit)) ⌝ }
+{
+    let from = made.records;
+    let first = made.slots;
+    let before = branch_buckets::Span {
+        from,
+        to: from,
+        first,
+        last: first,
+    };
+    let end = lay_parts(s, sizes, r, bucket, d, made, plan);
+    let laid = plan_numbers::Laid {
+        own: branch_buckets::variable_at(bucket.position, plan),
+        before,
+        from: made.messages,
+        to: end.messages,
+    };
+    let rest = plan_numbers::put_parts(s, sizes, r, laid, d, plan);
+    Made {
+        records: end.records,
+        slots: end.slots,
+        messages: end.messages,
+        numbers: end.numbers,
+        rest,
+    }
 }
 
 // Whether the first `width` numbers are 0.

@@ -1,4 +1,5 @@
-// The numbers of a message: the least that its part of a bucket holds, and what they leave of it.
+// The numbers of messages: the least that a part of a bucket holds, with its share of what all parts of the bucket have
+// at least, and what they leave of it.
 ghost use Prim.Native.Nat.{_≤_};
 ghost use Rattle.branch_buckets.specs.Content.{Planned};
 ghost use Rattle.plan_memory.specs.Arranged.{Loose};
@@ -11,11 +12,29 @@ const NO_SUM: u64 = 18446744073709551615;
 
 // A part of a bucket: the bucket's variable, the records and slots of the part, its message, and what the parts before
 // it left for each value of the variable.
-pub struct Part {
+struct Part {
+    own: usize,
+    span: branch_buckets::Span,
+    shape: plan_shapes::Shape,
+    rest: [u64; 64],
+}
+
+// The parts of a bucket whose messages are written but for their numbers: the bucket's variable, the records and slots
+// before the first of them, and their messages from `from` to below `to`.
+pub struct Laid {
     pub own: usize,
-    pub span: branch_buckets::Span,
-    pub shape: plan_shapes::Shape,
-    pub rest: [u64; 64],
+    pub before: branch_buckets::Span,
+    pub from: usize,
+    pub to: usize,
+}
+
+// How the parts of a bucket share what they have at least: whether they do, how many are still to get a share, what
+// is still to be shared, and what the parts before left.
+struct Sharing {
+    is_shared: bool,
+    senders: usize,
+    total: [u64; 64],
+    rest: [u64; 64],
 }
 
 // The choice of zeros, but for the variables of a message: pair `c` of their values.
@@ -167,7 +186,7 @@ pub fn put_entry(e: usize, place: usize, numbers: [u64; 8], width: usize, plan: 
 }
 
 // Writes the numbers of a message, and answers what they leave of the part's content and of the rest before.
-pub fn put_entries(
+fn put_entries(
     s: &[u8],
     sizes: &[u8],
     r: usize,
@@ -194,4 +213,260 @@ pub fn put_entries(
         e += 1;
     }
     left
+}
+
+// The part of message `g`: its records and slots stand behind those of the part before.
+fn part_at(g: usize, own: usize, before: branch_buckets::Span, sizes: &[u8], plan: &[u32]) -> Part {
+    let at = layout::MESSAGES_AT
+        + layout::MESSAGE_WIDTH * plan_shapes::at_most(g, layout::MAX_MESSAGES);
+    let from = before.to;
+    let first = before.last;
+    let span = branch_buckets::Span {
+        from,
+        to: branch_buckets::number_at(plan, at + 5),
+        first,
+        last: branch_buckets::number_at(plan, at + 6),
+    };
+    let shape = plan_shapes::shape_at(g, sizes, plan);
+    Part {
+        own,
+        span,
+        shape,
+        rest: [0u64; 64],
+    }
+}
+
+// What a part holds at least for each value of the bucket's variable: an entry that stands for all pairs of values.
+fn part_least(
+    s: &[u8],
+    sizes: &[u8],
+    r: usize,
+    part: Part,
+    d: branch_directions::Directions,
+    plan: &[u32],
+) -> [u64; 64]
+    requires { ⌜ Planned d r (now sizes) (now s) (now plan) ⌝ }
+{
+    let own = part.own;
+    let span = part.span;
+    let shape = part.shape;
+    let pairs = plan_shapes::at_most(shape.entries, 64) * plan_shapes::at_most(shape.share, 64);
+    let all = plan_shapes::constant_shape(shape.u, shape.v, shape.v_values, pairs, shape.place);
+    let whole = Part {
+        own,
+        span,
+        shape: all,
+        rest: [0u64; 64],
+    };
+    entry_rows(s, sizes, r, whole, 0, d, plan)
+}
+
+// 1 for a message with variables, 0 for another.
+fn sender_of(shape: plan_shapes::Shape) -> usize
+    ensures { λ n. ⌜ n ≤ 1 ⌝ }
+{
+    if 1 < shape.entries {
+        return 1;
+    }
+    0
+}
+
+// How many of the parts send a message with variables.
+fn count_senders(laid: Laid, sizes: &[u8], plan: &[u32]) -> usize {
+    let to = plan_shapes::at_most(laid.to, layout::MAX_MESSAGES);
+    let mut senders: usize = 0;
+    let mut g = laid.from;
+    while g < to {
+        senders += sender_of(plan_shapes::shape_at(g, sizes, plan));
+        g += 1;
+    }
+    senders
+}
+
+// Sums of the numbers of two lists.
+fn added(a: [u64; 64], b: [u64; 64]) -> [u64; 64] {
+    let mut sums = a;
+    let mut i: usize = 0;
+    while i < 64 {
+        sums[i] = std::num::wrapping_add_u64(sums[i], b[i]);
+        i += 1;
+    }
+    sums
+}
+
+// What all parts have at least.
+fn total_least(
+    s: &[u8],
+    sizes: &[u8],
+    r: usize,
+    laid: Laid,
+    d: branch_directions::Directions,
+    plan: &[u32],
+) -> [u64; 64]
+    requires { ⌜ Planned d r (now sizes) (now s) (now plan) ⌝ }
+{
+    let own = laid.own;
+    let to = plan_shapes::at_most(laid.to, layout::MAX_MESSAGES);
+    let mut before = laid.before;
+    let mut total = [0u64; 64];
+    let mut g = laid.from;
+    while g < to {
+        let part = part_at(g, own, before, sizes, plan);
+        let next = added(total, part_least(s, sizes, r, part, d, plan));
+        total = next;
+        before = part.span;
+        g += 1;
+    }
+    total
+}
+
+// Nothing is left yet, and the parts share what they have at least, if several send a message with variables.
+fn start_sharing(
+    s: &[u8],
+    sizes: &[u8],
+    r: usize,
+    laid: Laid,
+    d: branch_directions::Directions,
+    plan: &[u32],
+) -> Sharing
+    requires { ⌜ Planned d r (now sizes) (now s) (now plan) ⌝ }
+{
+    let senders = count_senders(laid, sizes, plan);
+    if senders < 2 {
+        return Sharing {
+            is_shared: false,
+            senders,
+            total: [0u64; 64],
+            rest: [0u64; 64],
+        };
+    }
+    let total = total_least(s, sizes, r, laid, d, plan);
+    Sharing {
+        is_shared: true,
+        senders,
+        total,
+        rest: [0u64; 64],
+    }
+}
+
+// A share of a number among so many; none where there is nobody.
+fn share_of(number: u64, among: u64) -> u64 {
+    if among == 0 {
+        return 0;
+    }
+    number / among
+}
+
+// What a part starts with: what the parts before it left, its share among so many of what all have at least, less what
+// it has itself. A number may be less than 0, but not with what the part holds.
+fn with_share(sharing: Sharing, least: [u64; 64], among: u64) -> Sharing {
+    let mut total = sharing.total;
+    let mut rest = sharing.rest;
+    let mut i: usize = 0;
+    while i < 64 {
+        let share = share_of(total[i], among);
+        total[i] = std::num::wrapping_sub_u64(total[i], share);
+        rest[i] = std::num::wrapping_sub_u64(std::num::wrapping_add_u64(rest[i], share), least[i]);
+        i += 1;
+    }
+    Sharing {
+        is_shared: true,
+        senders: sharing.senders,
+        total,
+        rest,
+    }
+}
+
+// What the part starts with.
+fn start_part(
+    s: &[u8],
+    sizes: &[u8],
+    r: usize,
+    part: Part,
+    d: branch_directions::Directions,
+    sharing: Sharing,
+    plan: &[u32],
+) -> Sharing
+    requires { ⌜ Planned d r (now sizes) (now s) (now plan) ⌝ }
+{
+    if !sharing.is_shared {
+        return sharing;
+    }
+    let shape = part.shape;
+    let least = part_least(s, sizes, r, part, d, plan);
+    if shape.entries < 2 {
+        return with_share(sharing, least, 0);
+    }
+    if sharing.senders == 0 {
+        return with_share(sharing, least, 0);
+    }
+    let given = with_share(sharing, least, sharing.senders as u64);
+    let total = given.total;
+    let rest = given.rest;
+    Sharing {
+        is_shared: true,
+        senders: sharing.senders - 1,
+        total,
+        rest,
+    }
+}
+
+// Writes the numbers of a part's message.
+fn put_part(
+    s: &[u8],
+    sizes: &[u8],
+    r: usize,
+    part: Part,
+    d: branch_directions::Directions,
+    sharing: Sharing,
+    plan: &mut [u32],
+) -> Sharing
+    requires { ⌜ Planned d r (now sizes) (now s) (now plan) ⌝ }
+    ensures { λ _. ⌜ Loose (now (plan .entry)) (now (plan .exit)) ⌝ }
+{
+    let own = part.own;
+    let span = part.span;
+    let shape = part.shape;
+    let start = start_part(s, sizes, r, part, d, sharing, plan);
+    let rest = start.rest;
+    let started = Part {
+        own,
+        span,
+        shape,
+        rest,
+    };
+    let left = put_entries(s, sizes, r, started, d, plan);
+    let total = start.total;
+    Sharing {
+        is_shared: start.is_shared,
+        senders: start.senders,
+        total,
+        rest: left,
+    }
+}
+
+// Writes the numbers of the messages of all parts, and answers what they leave of the bucket.
+pub fn put_parts(
+    s: &[u8],
+    sizes: &[u8],
+    r: usize,
+    laid: Laid,
+    d: branch_directions::Directions,
+    plan: &mut [u32],
+) -> [u64; 64]
+    requires { ⌜ Planned d r (now sizes) (now s) (now plan) ⌝ }
+    ensures { λ _. ⌜ Loose (now (plan .entry)) (now (plan .exit)) ⌝ }
+{
+    let own = laid.own;
+    let to = plan_shapes::at_most(laid.to, layout::MAX_MESSAGES);
+    let mut sharing = start_sharing(s, sizes, r, laid, d, plan);
+    let mut before = laid.before;
+    let mut g = laid.from;
+    while g < to {
+        let part = part_at(g, own, before, sizes, plan);
+        sharing = put_part(s, sizes, r, part, d, sharing, plan);
+        before = part.span;
+        g += 1;
+    }
+    sharing.rest
 }

@@ -222,6 +222,35 @@ pub fn put_message(g: usize, shape: Shape, records: usize, slots: usize, plan: &
     }
 }
 
+// Message `g` as it was written: with a stride it has entries for a variable, without one it is the least over it.
+pub fn shape_at(g: usize, sizes: &[u8], plan: &[u32]) -> Shape {
+    let at = layout::MESSAGES_AT + layout::MESSAGE_WIDTH * at_most(g, layout::MAX_MESSAGES);
+    let place = branch_buckets::number_at(plan, at);
+    let u = branch_buckets::number_at(plan, at + 1);
+    let u_stride = branch_buckets::number_at(plan, at + 2);
+    let v = branch_buckets::number_at(plan, at + 3);
+    let v_stride = branch_buckets::number_at(plan, at + 4);
+    let values = size_of(u, sizes);
+    let v_values = size_of(v, sizes);
+    let pairs = values * v_values;
+    if u_stride == 0 {
+        return constant_shape(u, v, v_values, pairs, place);
+    }
+    if v_stride == 0 {
+        return one_shape(u, v, values, v_values, place);
+    }
+    Shape {
+        u,
+        v,
+        v_values,
+        u_stride,
+        v_stride,
+        entries: pairs,
+        share: 1,
+        place,
+    }
+}
+
 // Where the next numbers go after those of a message.
 pub fn numbers_end(shape: Shape, at: usize, width: usize) -> usize
     requires { ⌜ width ≤ 8 ⌝ }

@@ -14,7 +14,6 @@ use Rattle.model.specs.Problems.{DomainSize}
 use Rattle.model.proofs.Bits.{test}
 use Rattle.model.proofs.Lists.{set-toward}
 use Rattle.model.proofs.Choices.{choice-length}
-use Rattle.model.proofs.Zeros.{zeros-at}
 use Rattle.costs.proofs.ScopeVariables.{value-below}
 use Rattle.branch_directions.specs.Directions.{widthOf}
 use Rattle.branch_directions.specs.declared.Directions as DD
@@ -29,14 +28,14 @@ use Rattle.branch_buckets.proofs.Ranges.{sent-one, sent-none}
 use Rattle.branch_buckets.proofs.Reading.{message-reads, content-reads, content-split, content-grows}
 use Rattle.plan_test.specs.declared.Part as DP
 use Rattle.plan_test.specs.declared.Held as DH
-use Rattle.plan_test.specs.Parts.{restEnd, Rows, Lowered, RowLeft, PartReads, Fits}
+use Rattle.plan_test.specs.Parts.{restEnd, restBase, Rows, Lowered, RowLeft, PartReads, Fits, Kept}
 use Rattle.plan_test.specs.Parts.{ChoiceLeaves, PairLeaves, PartLeaves, takenSpan, Holding, HoldsAt}
 use Rattle.plan_test.proofs.PairChoices.{value-small}
 
-most-at : (n i : ℕ) → getD (replicate n restEnd) i 0 ≤ restEnd
-most-at zero i = omega arith
-most-at (suc n) zero = omega arith
-most-at (suc n) (suc i) = most-at n i
+same-at : (n x i : ℕ) → getD (replicate n x) i 0 ≤ x
+same-at zero x i = omega arith
+same-at (suc n) x zero = omega arith
+same-at (suc n) x (suc i) = same-at n x i
 
 module _ (d : DD.Directions) (ds s plan : List ℕ) (p : DP.Part) where
   -- the rows of a choice
@@ -98,7 +97,7 @@ module _ {d : DD.Directions} {ds s plan : List ℕ} {p : DP.Part} where
   pub part-start : PartSteps d ds s plan p 0 (replicate 64 restEnd)
   part-start = record {
     few = omega arith;
-    rows = record { long = refl; small = λ i. most-at 64 i };
+    rows = record { long = refl; small = λ i. same-at 64 restEnd i };
     pairs = λ i j l h. absurd (omega arith);
   }
 
@@ -144,18 +143,18 @@ module _ (d : DD.Directions) (ds s plan : List ℕ) (k : ℕ) where
   -- nothing is sent yet
   pub holding-start :
       (r : ℕ) (h : DH.Held) → Ends (length ds) r plan → k < length ds → h .span .to ≡ recordEnd plan (k + 1)
-      → h .span .last ≡ childEnd plan (k + 1) → h .rest ≡ replicate 64 0
+      → h .span .last ≡ childEnd plan (k + 1) → h .rest ≡ replicate 64 restBase
       → Holding d ds s plan k (messageEnd plan (k + 1)) h
-  holding-start r h e less to last none =
-      let zero : (i : ℕ) → getD (h .rest) i 0 ≡ 0 = λ i. rw none (zeros-at 64 i) in
+  holding-start r h e less to last same =
+      let base : (i : ℕ) → getD (h .rest) i 0 ≤ restBase = λ i. rw same (same-at 64 restBase i) in
       record {
         records = (omega (arith, to), omega (arith, to, e .records k less));
         children = (omega (arith, last), omega (arith, last, e .children k less));
-        rows = record { long = rw none refl; small = λ i. omega (arith, zero i) };
+        rows = record { long = rw same refl; small = λ i. omega (arith, base i) };
         sum = λ y c j l.
             let end = messageEnd plan (k + 1) in
             let none = sent-none (widthOf d) plan end end y j (omega arith) in
-            omega (arith, none, zero (8 * getD y (orderIn plan k) 0 + j));
+            omega (arith, none, base (8 * getD y (orderIn plan k) 0 + j));
       }
 
   module _ (g : ℕ) (more : messageEnd plan (k + 1) ≤ g) (h : DH.Held) (t : Holding d ds s plan k g h) where
@@ -213,14 +212,16 @@ module _ (d : DD.Directions) (ds s plan : List ℕ) (k : ℕ) where
               omega (arith, part, next y j, t .sum y c j l, both, all);
         }
 
-  -- all is sent
+  -- all is sent, and nothing is missing
   pub holding-end :
-      (h : DH.Held) → childEnd plan k ≤ maxMessages → Holding d ds s plan k (messageEnd plan k) h
-      → HoldsAt d ds s plan k
-  holding-end h few t y c j l =
+      (h : DH.Held) → All DomainSize ds → widthOf d ≤ 8 → childEnd plan k ≤ maxMessages
+      → Holding d ds s plan k (messageEnd plan k) h → Kept (h .rest) → HoldsAt d ds s plan k
+  holding-end h sizes wide few t kept y c j l =
       let taken : Ranged (takenSpan plan k (h .span)) =
       record { records = t .records .0; children = t .children .0; children-end = omega (arith, t .children .1) } in
       let more =
       content-grows d ds s plan (takenSpan plan k (h .span)) (recordEnd plan k) (childEnd plan k) taken
       (t .records .1) (t .children .1) y j in
-      omega (arith, t .sum y c j l, more)
+      let own = getD y (orderIn plan k) 0 in
+      let inside : 8 * own + j < 64 = omega (arith, value-small ds y sizes c (orderIn plan k)) in
+      omega (arith, t .sum y c j l, kept (8 * own + j) inside, more)

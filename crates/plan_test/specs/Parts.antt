@@ -22,6 +22,10 @@ use Rattle.plan_test.specs.declared.Held as DH
 abbrev pub restEnd : ℕ
 restEnd = 4611686018427387904
 
+-- what is left over counts from here: less is missing, and must come from a later part
+abbrev pub restBase : ℕ
+restBase = 1152921504606846976
+
 -- rows of eight numbers, one for each value of the bucket's variable
 pub record Rows (rows : List ℕ) : Type 0 where
   pub long : length rows ≡ 64
@@ -95,14 +99,19 @@ abbrev pub takenSpan : List ℕ → ℕ → DS.Span → DS.Span
 takenSpan plan k part =
     record { from = recordEnd plan (k + 1); to = part .to; first = childEnd plan (k + 1); last = part .last }
 
--- the bucket of position k, after its messages before number g: what they and what is left over come to
+-- the bucket of position k, after its messages before number g: what they and what is left over come to; a message may
+-- be more than the parts so far hold
 pub record Holding (d : DD.Directions) (ds s plan : List ℕ) (k g : ℕ) (h : DH.Held) : Type 0 where
   pub records : (recordEnd plan (k + 1) ≤ h .span .to) × (h .span .to ≤ recordEnd plan k)
   pub children : (childEnd plan (k + 1) ≤ h .span .last) × (h .span .last ≤ childEnd plan k)
   pub rows : Rows (h .rest)
   pub sum : (y : List ℕ) → isChoice ds y ≡ true → (j : ℕ) → j < widthOf d
       → sentOver (widthOf d) plan (messageEnd plan (k + 1)) g y j + getD (h .rest) (8 * getD y (orderIn plan k) 0 + j) 0
-      ≤ contentOver d ds s plan (takenSpan plan k (h .span)) y j
+      ≤ contentOver d ds s plan (takenSpan plan k (h .span)) y j + restBase
+
+-- nothing is missing in what is left over
+abbrev pub Kept : List ℕ → Type 0
+Kept rest = (i : ℕ) → i < 64 → restBase ≤ getD rest i 0
 
 -- the bucket of position k sends no more than it holds
 abbrev pub HoldsAt : DD.Directions → List ℕ → List ℕ → List ℕ → ℕ → Type 0

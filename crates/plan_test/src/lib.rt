@@ -18,10 +18,13 @@ ghost use Rattle.branch_buckets.proofs.Reading.{Reads};
 ghost use Rattle.plan_test.specs.Orders.{LeadsBack, Falling};
 ghost use Rattle.plan_test.specs.Marks.{Marked, ScopeIn, Inside, BucketIn};
 ghost use Rattle.plan_test.specs.Parts.{Rows, Lowered, RowLeft, Counted, PartOf, Fits};
-ghost use Rattle.plan_test.specs.Parts.{ChoiceLeaves, PairLeaves, PartLeaves, BucketOf, Holding, HoldsAt};
+ghost use Rattle.plan_test.specs.Parts.{ChoiceLeaves, PairLeaves, PartLeaves, BucketOf, Holding, Kept, HoldsAt};
 
 // What is left over of a bucket counts as no more than this.
 const MOST_REST: u64 = 4611686018427387904;
+
+// What is left over counts from here, so that a part may send more than it holds where the parts after it keep as much.
+const REST_BASE: u64 = 1152921504606846976;
 
 // A part of a bucket: the number of its message, the bucket's variable, the records and slots of the part, and what the
 // parts before it left over: a row of eight numbers for each value of the variable.
@@ -495,6 +498,20 @@ fn after_message(
     part_rest(s, sizes, p, d, plan)
 }
 
+// Whether nothing is missing in what is left over.
+fn is_kept(rest: [u64; 64]) -> bool
+    ensures { λ ok. ⌜ (ok ≡ true → Kept rest) ⌝ }
+{
+    let mut i: usize = 0;
+    while i < 64 {
+        if rest[i] < REST_BASE {
+            return false;
+        }
+        i += 1;
+    }
+    true
+}
+
 // Whether the bucket of position `k` sends no more than it holds.
 fn holds_at(
     s: &[u8],
@@ -518,7 +535,7 @@ fn holds_at(
         first,
         last: first,
     };
-    let rest = [0u64; 64];
+    let rest = [REST_BASE; 64];
     let mut held = Held {
         ok: true,
         span,
@@ -532,7 +549,8 @@ fn holds_at(
         }
         g += 1;
     }
-    true
+    let left = held.rest;
+    is_kept(left)
 }
 
 // The same for every position.

@@ -1,49 +1,39 @@
--- `plan_making::send_parts` meets its contract. The invariant: the plan is rearranged.
-use mathlib.Core.Path.{_≡_}
-use Prim.Native.Nat.{_-_}
-use lib.ListN.{length}
-use Rattle.plan_memory.specs.Arranged.{Arranged}
-use Rattle.plan_memory.proofs.Arranging.{arranged-refl, arranged-trans, planned-arranged}
+-- `plan_making::send_parts` meets its contract: the parts are laid, and their numbers are written anew.
+use Rattle.plan_memory.proofs.Arranging.{arranged-loose, planned-arranged}
 use borrow.Author.Needs.{needs}
 use Rattle.plan_making.proofs.send_parts.Statement.{statement}
 use Rattle.plan_making.proofs.send_parts.Tie as tie
 
-abbrev Inv-loop : tie.InvT-loop
-Inv-loop s sizes r bucket d plan₀ count sets sent₀ g₀ plan sent g = Arranged r plan₀ plan × (length sets ≡ 64)
+-- ## the places: the parts are laid, their numbers are written
 
-abbrev μ-loop : tie.MeasureT-loop
-μ-loop s sizes r bucket d plan₀ count sets sent₀ g₀ plan sent g = count - g
+abbrev start : tie.After-lay-parts → tie.Start
+start c =
+    let known = c .before .before in
+    known .before .before .before
 
-send-part-requires : tie.Need-send-part-requires Inv-loop μ-loop
-send-part-requires c κs =
-    let at-loop = c .before .before in
-    let made = at-loop .before .before .before .before in
-    let known = made .before .before .before .before in
-    let start = known .before .before in
-    (planned-arranged (start .pre .0) (at-loop .loop .inv .0), start .pre .1)
+abbrev laid-of : tie.After-put-parts → tie.After-lay-parts
+laid-of c =
+    let read = c .before .before in
+    read .before .before .before .before
 
-loop-again : tie.Need-loop-again Inv-loop μ-loop
-loop-again c =
-    let at-send-part = c .before .before in
-    let at-loop = at-send-part .before .before .before in
-    (arranged-trans (at-loop .loop .inv .0) (at-send-part .send-part .ensures), at-loop .loop .inv .1)
+put-parts-requires : tie.Need-put-parts-requires
+put-parts-requires c κs =
+    let known = c .before .before .before in
+    let laid = known .before .before in
+    planned-arranged (start laid .pre .0) (laid .lay-parts .ensures)
+
+returns : tie.Need-returns
+returns c =
+    let written = c .before .before in
+    let laid = laid-of written in
+    arranged-loose (start laid .pre .0 .few) (laid .lay-parts .ensures) (written .put-parts .ensures)
 
 pub send-parts-spec : {M : Type 1} → statement M
 send-parts-spec =
     tie.close
     (tie.spec
-    Inv-loop
-    μ-loop
-    (λ c κs. search needs)  -- bit-requires
-    (λ c κs. search needs)  -- make-parts-requires
-    (λ c κs. search needs)  -- at-most-requires
-    (λ c. (arranged-refl _ _, search needs))  -- loop-holds
-    (λ c. search needs)  -- mul-set
-    (λ c. search needs)  -- array-read-set
-    (λ c. search needs)  -- add-is-last
-    send-part-requires
-    (λ c. search needs)  -- add-g
-    (λ c. search needs)  -- loop-less
-    loop-again
+    (λ c κs. search needs)  -- lay-parts-requires
+    (λ c κs. search needs)  -- variable-at-requires
+    put-parts-requires
     (λ c. search needs)  -- same-length
-    (λ c. c .before .loop .inv .0))  -- returns
+    returns)

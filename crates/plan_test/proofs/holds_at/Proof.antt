@@ -1,13 +1,15 @@
 -- `plan_test::holds_at` meets its contract. The invariant, `Holding`: the messages before number `g` and what is left
--- over are at most what the bucket holds.
+-- over are at most what the bucket holds and what the rest counts from.
 use mathlib.Core.Path.{_≡_, refl, ap, subst}
 use mathlib.Core.Bool.{false≢true}
 use Prim.Native.Nat.{ℕ, _+_, _-_, _≤_}
 use native.Mathlib.Omega.{arith}
+use borrow.Author.Needs.{needs}
 use borrow.Author.Tests.{not-false}
 use denote.Ref.{now}
 use Rattle.layout.specs.Places.{maxMessages, messageEnd}
 use Rattle.branch_buckets.specs.declared.Span as DS
+use Rattle.branch_buckets.proofs.ContentRows.{planned-width}
 use Rattle.branch_buckets.proofs.Ends.{child-limit, message-limit}
 use Rattle.plan_test.specs.Parts.{Holding}
 use Rattle.plan_test.proofs.Limits.{bucket-of}
@@ -77,7 +79,7 @@ loop-again c =
 
 returns-2 : tie.Need-returns-2 Inv-loop μ-loop
 returns-2 c =
-    let at-loop = c .before in
+    let at-loop = c .before .before .before in
     let s = begun at-loop in
     let a = s .args in
     let w = at-loop .loop in
@@ -85,8 +87,9 @@ returns-2 c =
     let all =
     subst (λ (g : ℕ). Holding (a .d) (now (a .sizes)) (now (a .s)) (now (a .plan)) (a .k) g (w .held)) same
     (w .inv .2) in
-    λ _. holding-end (a .d) (now (a .sizes)) (now (a .s)) (now (a .plan)) (a .k) (w .held)
-    (child-limit (s .pre .4) (a .k) (omega (arith, s .pre .2))) all
+    λ h. holding-end (a .d) (now (a .sizes)) (now (a .s)) (now (a .plan)) (a .k) (w .held) (s .pre .0 .small)
+    (planned-width (s .pre .0)) (child-limit (s .pre .4) (a .k) (omega (arith, s .pre .2))) all
+    (c .is-kept .ensures h)
 
 pub holds-at-spec : {M : Type 1} → statement M
 holds-at-spec =
@@ -110,4 +113,5 @@ holds-at-spec =
     add-g-3
     (λ c. omega arith)  -- loop-less
     loop-again
+    (λ c κs. search needs)  -- is-kept-requires
     returns-2)
