@@ -58,6 +58,12 @@ fn no_setting_changes_an_answer() {
         "memory=part,numbers=100",
         "memory=part,numbers=60,messages=4,rest=no",
         "rest=no",
+        "parts=alone",
+        "budget=1",
+        "budget=2,kinds=one",
+        "budget=3,slacks=no",
+        "turns=1",
+        "turns=4,budget=5",
         "width=1",
         "width=1,rest=no",
         "width=0",
@@ -79,7 +85,7 @@ fn no_setting_changes_an_answer() {
 
 /// How many values all of the night's problems take. It changes with every change of the bounds or
 /// of the order, and with nothing else.
-const NIGHT_NODES: u64 = 15_973_673;
+const NIGHT_NODES: u64 = 18_555_637;
 
 #[test]
 fn the_night_has_its_expected_texts() {
@@ -132,16 +138,23 @@ fn settings_are_read_or_complained_about() {
         by_part: true,
         rest: false,
         width: 1,
+        shared: false,
         min_degree: false,
+        turns: 2,
+        budget: 7,
+        kinds: false,
+        slacks: false,
         sorted: false,
         zones: 64,
         sums: 3,
         tie_sums: false,
     };
-    let text = "numbers=3900,messages=120,memory=part,rest=no,width=1,order=natural,\
-                values=natural,zones=64,sums=3,ties=costs";
+    let text = "numbers=3900,messages=120,memory=part,rest=no,width=1,parts=alone,order=natural,\
+                turns=2,budget=7,kinds=one,slacks=no,values=natural,zones=64,sums=3,ties=costs";
     assert_eq!(settings(text), changed);
-    let same = "memory=bucket,rest=yes,order=min-degree,values=sorted,ties=sums";
+    let same =
+        "memory=bucket,rest=yes,parts=shared,order=min-degree,turns=8,kinds=three,slacks=yes,\
+                values=sorted,ties=sums";
     assert_eq!(settings(same), Settings::default());
     let complaint = |text: &str| Settings::parse(text).expect_err("a complaint");
     assert_eq!(

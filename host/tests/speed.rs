@@ -8,10 +8,12 @@ use std::time::Duration;
 
 use frontier_host::examples::lone;
 use frontier_host::hex::{from_hex, to_hex};
+use frontier_host::limits::MAX_VARIABLES;
 use frontier_host::problem::{Problem, Table};
 use frontier_host::reading::read_problem;
 use frontier_host::speed::cases::family_of;
 use frontier_host::speed::growth::growth_cases;
+use frontier_host::speed::nights::night_cases;
 use frontier_host::speed::table::table_text;
 use frontier_host::speed::toulbar2::{
     least_cost_listed, least_cost_printed, own_time_printed, wcsp_text,
@@ -163,19 +165,48 @@ fn toulbar2_is_measured_where_it_is_installed() {
     assert!(text.contains(fault), "{text}");
 }
 
+/// A night of 380 problems and 60 of the largest size, which are what they are called.
+#[test]
+fn generated_nights_are_valid_and_always_the_same() {
+    let (cases, again, other) = (night_cases(5), night_cases(5), night_cases(6));
+    let is_largest = |problem: &Problem| {
+        problem.variables() == MAX_VARIABLES && problem.domains.iter().all(|&size| size == 8)
+    };
+    let mut largest = 0;
+    for (case, again) in cases.iter().zip(&again) {
+        assert_eq!(case.bytes, again.bytes, "{}", case.name);
+        let problem = read_problem(&case.bytes).expect("a valid problem").problem;
+        let is_called = case.family == "largest";
+        largest += usize::from(is_called);
+        assert!(is_largest(&problem) || !is_called, "{}", case.name);
+    }
+    assert_eq!((cases.len(), largest), (440, 60));
+    assert!(cases
+        .iter()
+        .zip(&other)
+        .any(|(one, other)| one.bytes != other.bytes));
+}
+
 #[test]
 fn help_names_the_options() {
     let output = speed(&["--help"]);
     let text = text_of(&output.stdout);
     assert_eq!(output.status.code(), Some(0), "{text}");
-    for option in ["--limit", "--only", "--plain-only", "--growth", "numbers=N"] {
+    for option in [
+        "--limit",
+        "--only",
+        "--sets",
+        "--growth",
+        "--generated",
+        "numbers=N",
+    ] {
         assert!(text.contains(option), "{option}");
     }
 }
 
 #[test]
 fn what_cannot_be_run_is_complained_about() {
-    let complaints: [(&[&str], &str); 6] = [
+    let complaints: [(&[&str], &str); 7] = [
         (
             &["--only", "nothing"],
             "there is no family 'nothing'; the families are comp, ",
@@ -187,6 +218,7 @@ fn what_cannot_be_run_is_complained_about() {
             "'sums=9' takes a number from 1 to 4",
         ),
         (&["--settings"], "--settings takes settings"),
+        (&["--generated", "x"], "--generated takes a number from 0"),
         (&["--fast"], "there is no option '--fast'"),
     ];
     for (arguments, complaint) in complaints {

@@ -114,19 +114,11 @@ struct Task<'a> {
     end: Option<Duration>,
 }
 
-/// Positions that may be opened in each turn: three kinds of plan in turn, the one that came furthest
-/// for longer, the three again, and then the best of these to its end. The first one answers most
-/// problems, and all that come before the last cost no more than a fraction of a second.
-const BUDGETS: [u64; MOST_TURNS] = [
-    100_000,
-    50_000,
-    50_000,
-    400_000,
-    200_000,
-    200_000,
-    200_000,
-    u64::MAX,
-];
+/// Positions that may be opened in each turn but the last, in parts of the setting `budget`: three
+/// kinds of plan in turn, the one that came furthest for longer, the three again, and then the best
+/// of these to its end. The first one answers most problems, and all that come before the last cost
+/// no more than a fraction of a second.
+const BUDGETS: [u64; MOST_TURNS - 1] = [2, 1, 1, 8, 4, 4, 4];
 
 /// Which plan of a round came furthest, and how far.
 struct Round {
@@ -147,7 +139,7 @@ impl Task<'_> {
             let mut search = Search::new(&buckets, &directions, self.settings, self.room, self.end);
             search.archive.points = with_sums(points, &directions);
             if turn + 1 < self.settings.turns {
-                search.budget = BUDGETS[turn];
+                search.budget = BUDGETS[turn] * self.settings.budget as u64;
             }
             search.run(&self.problem.ceilings, &base);
             nodes += search.nodes;

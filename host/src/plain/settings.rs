@@ -22,6 +22,8 @@ pub struct Settings {
     pub min_degree: bool,
     /// So many plans are tried in turn; the last one is followed to its end.
     pub turns: usize,
+    /// A plan in turn may open so many positions, or a few times as many.
+    pub budget: usize,
     /// Plans in turn have orders and weights of three kinds.
     pub kinds: bool,
     /// Where a ceiling binds, one sum is weighted by what the ceilings leave.
@@ -55,6 +57,7 @@ pub const SETTINGS: &str =
   parts=shared|alone what the parts of a bucket have at least is shared alike (shared)
   order=min-degree|natural
   turns=1..8         so many plans in turn, the last one without a budget (8)
+  budget=N           a plan in turn may open N positions, or a few times as many (50000)
   kinds=three|one    plans in turn have other orders and weights (three)
   slacks=yes|no      a sum by what the ceilings leave, where one binds (yes)
   values=sorted|natural
@@ -73,6 +76,7 @@ impl Default for Settings {
             shared: true,
             min_degree: true,
             turns: MOST_TURNS,
+            budget: 50_000,
             kinds: true,
             slacks: true,
             sorted: true,
@@ -105,6 +109,7 @@ impl Settings {
             "width" => self.width = number_in(change, value, 0..=MOST_WIDTH)?,
             "parts" => self.shared = first_of(change, value, ["shared", "alone"])?,
             "turns" => self.turns = number_in(change, value, 1..=MOST_TURNS)?,
+            "budget" => self.budget = number_in(change, value, 1..=1 << 32)?,
             "kinds" => self.kinds = first_of(change, value, ["three", "one"])?,
             "slacks" => self.slacks = first_of(change, value, ["yes", "no"])?,
             "order" => self.min_degree = first_of(change, value, ["min-degree", "natural"])?,
