@@ -74,6 +74,7 @@ fn given_up() -> branch_search::Explored
         full: false,
         count: 0,
         left: 0,
+        done: 0,
     }
 }
 
