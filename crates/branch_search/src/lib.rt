@@ -321,7 +321,7 @@ fn run_pass(
 }
 
 // What is said of a search that was given up.
-fn given_up(points: usize, left: u64, done: u64) -> Explored
+pub fn given_up(points: usize, left: u64, done: u64) -> Explored
     ensures { λ e. ⌜ e ≡ unended points left done ⌝ }
 {
     Explored {
