@@ -15,12 +15,13 @@ ghost use Rattle.branch_zones.specs.Zones.{Measured};
 ghost use Rattle.branch_pruning.specs.Tests.{zonesOf, Untied, Dead};
 
 // How many points and zones there are, and the limit: only vectors with a smaller leading sum are sought. Of partial
-// choices `left` may still be opened; at 0 the pass is given up.
+// choices `left` may still be opened; at 0 the pass is given up, and `done` says how far it came. Nothing relies on it.
 pub struct Progress {
     pub points: usize,
     pub zones: usize,
     pub limit: u64,
     pub left: u64,
+    pub done: u64,
 }
 
 // The first four numbers: the costs, of a bound in every direction.

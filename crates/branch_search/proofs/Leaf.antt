@@ -156,7 +156,7 @@ module _
     taken = listIn (d .objectives) (length ds) work′ 0 (t .points)
 
     abbrev run-after : ℕ → DP.Progress
-    run-after m = record { points = t .points; zones = m; limit = t .limit; left = run .left }
+    run-after m = record { points = t .points; zones = m; limit = t .limit; left = run .left; done = run .done }
 
     same-point : point (take (d .objectives) v) x ≡ point costs x
     same-point = point-eq front refl
@@ -185,7 +185,7 @@ module _
 
     pub leaf-kept :
         OpenedFrom d task ds s (leaf ds values acc) work run work′
-        (record { points = t .points; zones = run .zones; limit = t .limit; left = run .left })
+        (record { points = t .points; zones = run .zones; limit = t .limit; left = run .left; done = run .done })
     leaf-kept =
         record {
           still = framed-still (takes .frame) task (h .ready .planned .few);
@@ -223,7 +223,7 @@ module _
 
       pub leaf-split :
           OpenedFrom d task ds s (leaf ds values acc) work run work″
-          (record { points = t .points; zones = m; limit = t .limit; left = run .left })
+          (record { points = t .points; zones = m; limit = t .limit; left = run .left; done = run .done })
       leaf-split =
           record {
             still =

@@ -103,7 +103,7 @@ module _ {d : DD.Directions} {task : DT.Task} {ds s work : List ℕ} (h : Ready 
       {work′ : List ℕ} {m : ℕ} (written : ZonesWritten d work work′ m)
       (hold : ZonesHold d points (task .ceilings) work work′ m) where
     abbrev run : DP.Progress
-    run = record { points = points; zones = m; limit = limit; left = left }
+    run = record { points = points; zones = m; limit = limit; left = left; done = 0 }
 
     zones-kept : Still task work work′
     zones-kept = zones-still work work′ (written .long) (written .behind) task
@@ -125,7 +125,8 @@ module _ {d : DD.Directions} {task : DT.Task} {ds s work : List ℕ} (h : Ready 
         ((at : ℕ) → getD s at 0 < byteEnd) → (b : List ℕ) →
         ((j : ℕ) → j < widthOf d →
         getD b j 0 ≡ baseAt d ds s (planIn work′) (task .records) (replicate (length ds) 0) j) →
-        Standing d task ds s work′ (record { points = points; zones = m; limit = limit; left = left }) (rootNode b)
+        Standing d task ds s work′
+        (record { points = points; zones = m; limit = limit; left = left; done = 0 }) (rootNode b)
     root-standing bytes b is =
         let zeros : take {A = ℕ} (length ds) (replicate maxVariables 0) ≡ replicate (length ds) 0 =
         front-same (length ds) maxVariables 0 (h .planned .variables) in
@@ -141,7 +142,7 @@ module _ {d : DD.Directions} {task : DT.Task} {ds s work : List ℕ} (h : Ready 
     pub root-passed :
         (b work″ : List ℕ) (run″ : DP.Progress) →
         OpenedFrom d task ds s (rootNode b) work′
-        (record { points = points; zones = m; limit = limit; left = left }) work″ run″ →
+        (record { points = points; zones = m; limit = limit; left = left; done = 0 }) work″ run″ →
         Passed (problemOf d task ds s work) d task (length ds) left work work″ run″
     root-passed b work″ run″ o =
         record {
@@ -190,7 +191,7 @@ module _ {d : DD.Directions} {task : DT.Task} {ds s work : List ℕ} (h : Ready 
       pub passed-full :
           1 ≤ run .left → length (d .weights) ≡ 16 → task .room < run .points →
           ExploredSays task (length ds) (coreFrontier (sourceProblem task ds s work)) work work′
-          (record { decided = true; full = true; count = 0; left = run .left })
+          (record { decided = true; full = true; count = 0; left = run .left; done = 0 })
       passed-full some weights more =
           let long : length (leadWeights d) ≡ d .objectives =
           length-take-le (d .objectives) (drop (4 * 0) (d .weights)) (omega (arith, sensible .few)) in
@@ -213,7 +214,7 @@ module _ {d : DD.Directions} {task : DT.Task} {ds s work : List ℕ} (h : Ready 
           listIn (d .objectives) (length ds) work″ 0 (run .points)
           ≡ sorted (listIn (d .objectives) (length ds) work′ 0 (run .points))) →
           ExploredSays task (length ds) (coreFrontier (sourceProblem task ds s work)) work work″
-          (record { decided = true; full = false; count = run .points; left = run .left })
+          (record { decided = true; full = false; count = run .points; left = run .left; done = 0 })
       passed-list some few none work″ framed order =
           let distinct = passed .running .distinct in
           let is : sorted archive ≡ coreFrontier problem =
@@ -245,11 +246,11 @@ explored-still {task} {work} {work′} k ds s work″ e h =
 
 -- no pass ended it: what is left is an archive
 pub undecided :
-    (task : DT.Task) (n : ℕ) (fs : List Point) (q : Problem) (budget : ℕ) (work work′ : List ℕ) (points left : ℕ) →
+    (task : DT.Task) (n : ℕ) (fs : List Point) (q : Problem) (budget : ℕ) (work work′ : List ℕ) (points left done : ℕ) →
     Still task work work′ → Between q (task .room) work′ points → left ≤ budget →
-    ExploredSays task n fs work work′ (unended points left)
-    × LeftOver q (task .room) budget work′ (unended points left)
-undecided task n fs q budget work work′ points left k b less = (
+    ExploredSays task n fs work work′ (unended points left done)
+    × LeftOver q (task .room) budget work′ (unended points left done)
+undecided task n fs q budget work work′ points left done k b less = (
   record {
     full = λ e. absurd (true-false e refl);
     count = λ e. absurd (true-false e refl);

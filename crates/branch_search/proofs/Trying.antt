@@ -26,7 +26,7 @@ use Rattle.branch_pruning.specs.declared.Progress as DP
 use Rattle.branch_search.specs.declared.Node as DN
 use Rattle.branch_search.specs.States.{noLimit, planIn, archiveIn, problemOf}
 use Rattle.branch_search.specs.States.{Running, Partial, Completes, Still, AllCovered, Standing, OpenedFrom}
-use Rattle.branch_search.specs.States.{Opened}
+use Rattle.branch_search.specs.States.{Opened, reaching}
 use Rattle.branch_search.proofs.Nodes.{withNext, Extends}
 use Rattle.branch_search.proofs.Memory.{still-refl, still-trans, problem-still, ready-still}
 use Rattle.branch_directions.proofs.Widths.{lead-inside}
@@ -85,7 +85,8 @@ pub record Trying
 
 -- of the partial choices that may be opened this is one
 abbrev pub spent : DP.Progress → DP.Progress
-spent run = record { points = run .points; zones = run .zones; limit = run .limit; left = run .left - 1 }
+spent run =
+    record { points = run .points; zones = run .zones; limit = run .limit; left = run .left - 1; done = run .done }
 
 module _
     {d : DD.Directions} {task : DT.Task} {ds s work : List ℕ} {run : DP.Progress} {node : DN.Node}
@@ -105,17 +106,26 @@ module _
         partial = h .partial;
       }
 
+  -- and how far a pass came changes nothing
   pub spent-opened :
-      {work′ : List ℕ} {run′ : DP.Progress} → OpenedFrom d task ds s node work (spent run) work′ run′ →
-      OpenedFrom d task ds s node work run work′ run′
-  spent-opened o =
-      record {
+      {work′ : List ℕ} {run′ run″ : DP.Progress} → run″ ≡ reaching run′ (run″ .done) →
+      OpenedFrom d task ds s node work (spent run) work′ run′ → OpenedFrom d task ds s node work run work′ run″
+  spent-opened {work′} same o =
+      subst (OpenedFrom d task ds s node work run work′) (sym same)
+      (record {
         still = o .still;
-        running = o .running;
+        running =
+            record {
+              few = o .running .few;
+              archived = o .running .archived;
+              distinct = o .running .distinct;
+              measured = o .running .measured;
+              zoned = o .running .zoned;
+            };
         follows = o .follows;
         fewer = omega (arith, o .fewer);
         covered = o .covered;
-      }
+      })
 
 module _
     {d : DD.Directions} {task : DT.Task} {ds s work : List ℕ} {run : DP.Progress} {node : DN.Node}

@@ -97,6 +97,11 @@ leaf ds x bound = record { depth = length ds; choice = x; bound = bound }
 abbrev pub Completes : List ℕ → ℕ → DN.Node → List ℕ → Type 0
 Completes plan n node y = Agree plan (node .depth) (take n (node .choice)) y
 
+-- the same, but for how far it came, of which nothing is said
+abbrev pub reaching : DP.Progress → ℕ → DP.Progress
+reaching run done =
+    record { points = run .points; zones = run .zones; limit = run .limit; left = run .left; done = done }
+
 -- what stays
 pub record Still (task : DT.Task) (work work′ : List ℕ) : Type 0 where
   pub long : length work′ ≡ length work
@@ -167,8 +172,8 @@ pub record ExploredSays
   pub still : Still task work work′
 
 -- what is said of a search that was given up
-abbrev pub unended : ℕ → ℕ → DE.Explored
-unended points left = record { decided = false; full = false; count = points; left = left }
+abbrev pub unended : ℕ → ℕ → ℕ → DE.Explored
+unended points left done = record { decided = false; full = false; count = points; left = left; done = done }
 
 -- what it leaves: an archive, from which the next one may go on, and what is left of the budget
 pub record LeftOver (q : Problem) (room budget : ℕ) (work′ : List ℕ) (e : DE.Explored) : Type 0 where

@@ -15,7 +15,7 @@ ghost use Rattle.branch_directions.specs.Directions.{leadWeights, Sensible};
 ghost use Rattle.branch_zones.specs.Zones.{Measured};
 ghost use Rattle.branch_pruning.specs.Tests.{zonesOf};
 ghost use Rattle.branch_search.specs.States.{problemOf, extended, leaf, Ready, Standing, OpenedFrom};
-ghost use Rattle.branch_search.specs.States.{unended, Between, Passed, ExploredSays, LeftOver};
+ghost use Rattle.branch_search.specs.States.{reaching, unended, Between, Passed, ExploredSays, LeftOver};
 ghost use Rattle.branch_search.specs.Passes.{ZonesWritten, ZonesHold};
 
 // The limit while nothing is left out: no leading sum is as large. A value that was tried counts as having this one.
@@ -24,6 +24,9 @@ const NO_LIMIT: u64 = 18446744073709551615;
 // After so many passes the search is given up.
 const MAX_PASSES: usize = 66;
 
+// How far a pass came is told in parts of this.
+const WHOLE: u64 = 1099511627776;
+
 // What a search goes on from: how many points are archived, and how many partial choices it may open.
 pub struct Resume {
     pub points: usize,
@@ -31,12 +34,14 @@ pub struct Resume {
 }
 
 // Whether the search came to an end, whether the list is longer than the room, and else how many points it has; those
-// of the archive where it was given up. And how many partial choices may still be opened.
+// of the archive where it was given up. And how many partial choices may still be opened, or how far the last pass
+// came where there are none: for those who choose the next plan.
 pub struct Explored {
     pub decided: bool,
     pub full: bool,
     pub count: usize,
     pub left: u64,
+    pub done: u64,
 }
 
 // A partial choice: values for the variables at the first `depth` positions, and its bound in every direction.
@@ -108,6 +113,7 @@ fn take_leaf(
             zones: run.zones,
             limit: t.limit,
             left: run.left,
+            done: run.done,
         };
     }
     let m = branch_zones::split_zones(costs, run.zones, d, &mut work[..layout::ZONES_END]);
@@ -116,6 +122,7 @@ fn take_leaf(
         zones: m,
         limit: t.limit,
         left: run.left,
+        done: run.done,
     }
 }
 
@@ -152,6 +159,33 @@ fn start_zones(
 {
     let m = branch_zones::first_zone(ceilings, d, &mut work[..layout::ZONES_END]);
     split_all(c, m, d, work)
+}
+
+// One more value is finished, unless the pass was given up before that.
+fn add_finished(finished: u64, left: u64) -> u64 {
+    if left == 0 {
+        return finished;
+    }
+    std::num::wrapping_add_u64(finished, WHOLE)
+}
+
+// Where a pass is given up below a partial choice, it came so far: what is finished of the `size` values of the next
+// variable, and a part of one.
+fn part_done(run: branch_pruning::Progress, finished: u64, size: usize) -> branch_pruning::Progress
+    requires { ⌜ 1 ≤ size ⌝ }
+    ensures { λ t. ⌜ t ≡ reaching run (t .done) ⌝ }
+{
+    if run.left > 0 {
+        return run;
+    }
+    let parts = std::num::wrapping_add_u64(finished, run.done);
+    branch_pruning::Progress {
+        points: run.points,
+        zones: run.zones,
+        limit: run.limit,
+        left: run.left,
+        done: parts / size as u64,
+    }
 }
 
 // Opens a partial choice where its completions may be new, or earlier than an archived choice with equal costs.
@@ -222,15 +256,18 @@ fn open_position(
         zones: run.zones,
         limit: run.limit,
         left,
+        done: run.done,
     };
+    let mut finished: u64 = 0;
     while leads[a] < t.limit {
         let b = branch_values::row_of(&rows, a, bound, away, d.objectives + d.sums);
         let next = node.with(v, a, b);
         t = try_choice(next, t, s, sizes, task, d, work);
+        finished = add_finished(finished, t.left);
         leads[a] = NO_LIMIT;
         a = branch_values::least_value(&leads, size);
     }
-    t
+    part_done(t, finished, size)
 }
 
 // The limit with which a pass starts: none while there is room, else the largest leading sum of the archive's points.
@@ -278,19 +315,21 @@ fn run_pass(
         zones: m,
         limit,
         left,
+        done: 0,
     };
     try_choice(node, run, s, sizes, task, d, work)
 }
 
 // What is said of a search that was given up.
-fn given_up(points: usize, left: u64) -> Explored
-    ensures { λ e. ⌜ e ≡ unended points left ⌝ }
+pub fn given_up(points: usize, left: u64, done: u64) -> Explored
+    ensures { λ e. ⌜ e ≡ unended points left done ⌝ }
 {
     Explored {
         decided: false,
         full: false,
         count: points,
         left,
+        done,
     }
 }
 
@@ -318,7 +357,7 @@ pub fn explore(
     while pass < MAX_PASSES {
         let t = run_pass(points, left, s, sizes, task, d, work);
         if t.left == 0 {
-            return given_up(t.points, t.left);
+            return given_up(t.points, t.left, t.done);
         }
         if t.points > task.room {
             return Explored {
@@ -326,6 +365,7 @@ pub fn explore(
                 full: true,
                 count: 0,
                 left: t.left,
+                done: 0,
             };
         }
         if t.limit == NO_LIMIT {
@@ -335,11 +375,12 @@ pub fn explore(
                 full: false,
                 count: t.points,
                 left: t.left,
+                done: 0,
             };
         }
         points = t.points;
         left = t.left;
         pass += 1;
     }
-    given_up(points, left)
+    given_up(points, left, 0)
 }

@@ -1,26 +1,21 @@
--- The two forms of the search: what the second one needs and says, and the first one after it.
-use mathlib.Core.Path.{_≡_, refl, ap, _∙_, subst}
-use mathlib.Core.Bool.{true}
+-- The two forms of the search: what planning for the second one needs, and the first one after it.
+use mathlib.Core.Path.{_≡_, refl, ap}
 use mathlib.Core.List.{List}
 use Prim.Native.Nat.{ℕ, _≤_}
 use native.Mathlib.Omega.{arith}
 use lib.ListN.{length, take, drop, length-drop}
 use Rattle.model.specs.Basics.{All}
-use Rattle.model.specs.Limits.{maxPoints, maxTables}
+use Rattle.model.specs.Limits.{maxTables}
 use Rattle.model.specs.Problems.{DomainSize}
-use Rattle.model.specs.Frontiers.{Point}
-use Rattle.model.specs.Core.{WordCeiling, coreFrontier}
+use Rattle.model.specs.Core.{coreFrontier}
 use Rattle.problem.specs.Records.{Whole}
 use Rattle.layout.specs.Layout.{sourceAt}
 use Rattle.groups.specs.Sources.{Source, sourceProblem}
 use Rattle.groups.specs.declared.Task as DT
-use Rattle.pass_list.specs.Says.{FoundSays, CoreFound}
+use Rattle.pass_list.specs.Says.{CoreFound}
 use Rattle.pass_list.specs.declared.Found as DF
 use Rattle.pass_list.proofs.Since.{says-since}
-use Rattle.branch_directions.specs.declared.Directions as DD
-use Rattle.branch_search.specs.States.{Ready, ExploredSays}
-use Rattle.branch_search.specs.declared.Explored as DE
-use Rattle.listing.specs.Says.{Plannable, Kept, PlanSays, foundOf}
+use Rattle.listing.specs.Says.{Plannable, Kept}
 use Rattle.listing.proofs.PlacesKept.{behindAt}
 use Rattle.listing.proofs.PlanKept.{behind-all}
 
@@ -71,31 +66,3 @@ module _ {task : DT.Task} {ds s work : List ℕ} (source : Source task ds s work
         → CoreFound (sourceProblem task ds s work′) (task .room) work′ after f
         → CoreFound (sourceProblem task ds s work) (task .room) work after f
     first-after after f = says-since (kept .long) (ap coreFrontier same-problem)
-
-    -- a plan that passed its test
-    module _ (d : DD.Directions) (same : d .objectives ≡ task .objectives) (small : task .room ≤ maxPoints) where
-      pub plan-ready : PlanSays d r ds s work work′ → 1 ≤ length ds → All WordCeiling (task .ceilings)
-          → Ready d task ds s work′
-      plan-ready says some short =
-          record {
-            sound = says .sound;
-            planned = says .planned;
-            objectives = same;
-            some-variable = some;
-            limited = short;
-            room-small = small;
-            long = omega (arith, kept .long, source .long);
-          }
-
-      pub explored-says : (after : List ℕ) (e : DE.Explored)
-          → ExploredSays task (length ds) (coreFrontier (sourceProblem task ds s work′)) work′ after e
-          → Kept r work after
-          × (e .decided ≡ true → CoreFound (sourceProblem task ds s work) (task .room) work after (foundOf e))
-      explored-says after e says =
-          let long : length after ≡ length work = says .still .long ∙ kept .long in (
-            record { long = long; source = says .still .source ∙ kept .source },
-            λ t. subst
-                (λ (fs : List Point). FoundSays (task .objectives) (length ds) fs (task .room) work after (foundOf e))
-                (ap coreFrontier same-problem)
-                (record { full = says .full t; count = says .count t; list = says .list t; long = long }),
-          )

@@ -5,3 +5,4 @@ pub mod ReadRecords
 pub mod HalfKept
 pub mod PlanKept
 pub mod Forms
+pub mod Turns

@@ -9,7 +9,7 @@ use lib.Seq.{length-take-le, take-all, take-take, take-append-le, drop-at, drop-
 use Rattle.model.specs.Basics.{All}
 use Rattle.model.proofs.Lists.{take-drop}
 use Rattle.problem.specs.Records.{Whole}
-use Rattle.layout.specs.Layout.{sourceAt, listEnd}
+use Rattle.layout.specs.Layout.{sourceAt, listAt, listEnd}
 use Rattle.groups.proofs.Overwritten.{over, over-length, over-part, over-here}
 use Rattle.groups.specs.Sources.{sourceIn}
 use Rattle.branch_directions.specs.Directions.{Sensible}
@@ -18,7 +18,7 @@ use Rattle.layout.specs.Places.{maxMessages, childrenAt, numbersAt}
 use Rattle.branch_buckets.specs.Messages.{countFrom}
 use Rattle.branch_buckets.specs.Content.{Planned}
 use Rattle.branch_buckets.specs.Sound.{Tested, Rearranged}
-use Rattle.branch_search.specs.States.{planIn}
+use Rattle.branch_search.specs.States.{planIn, rowsIn}
 use Rattle.listing.specs.Says.{Plannable, Kept, PlanSays}
 use Rattle.listing.proofs.PlacesKept.{behindAt, written}
 
@@ -80,6 +80,11 @@ module _ {r : ℕ} {ds s work : List ℕ} (p : Plannable r ds s work) (d : DD.Di
     copied-source =
         rw is (over-part work listEnd (sourceIn work r) (listEnd + r) ends fits r sourceAt (omega (arith, p .few)))
 
+    copied-rows : rowsIn copied ≡ rowsIn work
+    copied-rows =
+        rw is
+        (over-part work listEnd (sourceIn work r) (listEnd + r) ends fits (listEnd - listAt) listAt (omega arith))
+
     inside : listEnd ≤ length copied
     inside = omega (arith, copied-long, p .long)
 
@@ -121,6 +126,11 @@ module _ {r : ℕ} {ds s work : List ℕ} (p : Plannable r ds s work) (d : DD.Di
         long = written-long copied listEnd inside plan (made .0) ∙ copied-long;
         source = after-source;
       }
+
+      -- the plan begins behind the archive
+      pub rows-kept : rowsIn (written copied listEnd plan) ≡ rowsIn work
+      rows-kept =
+          written-front copied listEnd inside plan (made .0) (listEnd - listAt) listAt (omega arith) ∙ copied-rows
 
       after-planned : Planned d r ds s plan
       after-planned =

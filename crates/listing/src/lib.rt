@@ -11,10 +11,18 @@ ghost use Rattle.model.specs.Views.{view};
 ghost use Rattle.groups.specs.Sources.{Source, sourceProblem};
 ghost use Rattle.pass_list.specs.Says.{FoundSays, CoreFound, FoundFor};
 ghost use Rattle.branch_directions.specs.Directions.{Sensible};
-ghost use Rattle.listing.specs.Says.{Searchable, Plannable, Kept, PlanSays, foundOf};
+ghost use Rattle.branch_search.specs.States.{rowsIn, Between};
+ghost use Rattle.listing.specs.Says.{Searchable, Plannable, Kept, PlanSays, Explorable, Turned};
 
-// How many partial choices the second form may open: more than it ever will.
-const BUDGET: u64 = 9223372036854775808;
+// A search of the second form has so many turns: 0, 1 and 2 try the three kinds of plan, 3 goes on with the kind that
+// came furthest; 4, 5 and 6 try again with more, and the last goes on with the best as long as it takes.
+const TURNS: usize = 8;
+
+// The kind of plan that came furthest since turn 0 or 4, and how far.
+struct Best {
+    kind: usize,
+    done: u64,
+}
 
 // The core's ceiling, which a cost stays below, in eight bytes as the sums are.
 fn wide(ceiling: u32) -> u64
@@ -47,8 +55,41 @@ fn are_short(ceilings: [u64; 4]) -> bool
     true
 }
 
+// The kind of a turn's plan.
+fn kind_of(turn: usize, best: Best) -> usize {
+    if turn % 4 == 3 {
+        return best.kind;
+    }
+    turn % 4
+}
+
+// How many partial choices a turn may open; the last more than it ever will.
+fn budget_of(turn: usize) -> u64 {
+    if turn < 3 {
+        return 25000;
+    }
+    if turn == 3 {
+        return 300000;
+    }
+    if turn < 7 {
+        return 150000;
+    }
+    9223372036854775808
+}
+
+// The best kind after a turn by a plan of this kind that came so far.
+fn best_after(best: Best, turn: usize, kind: usize, done: u64) -> Best {
+    if turn % 4 == 0 {
+        return Best { kind, done };
+    }
+    if done <= best.done {
+        return best;
+    }
+    Best { kind, done }
+}
+
 // Plans the search of the `r` records whose places stand where a problem's records are,
-// and answers whether the plan may be relied on.
+// and answers whether the plan may be relied on. The archive stays.
 fn plan_source(
     s: &[u8],
     sizes: &[u8],
@@ -58,6 +99,7 @@ fn plan_source(
 ) -> bool
     requires { ⌜ Plannable r (now sizes) (now s) (now work) × Sensible d ⌝ }
     ensures { λ ok. ⌜ Kept r (now (work .entry)) (now (work .exit))
+        × (rowsIn (now (work .exit)) ≡ rowsIn (now (work .entry)))
         × (ok ≡ true → PlanSays d r (now (sizes .entry)) (now (s .entry)) (now (work .entry)) (now (work .exit))) ⌝ }
 {
     groups::copy_numbers(layout::SOURCE_AT, layout::PLAN_AT, r, work);
@@ -65,20 +107,58 @@ fn plan_source(
     plan_test::is_sound(s, sizes, r, d, &work[layout::PLAN_AT..])
 }
 
-// What the second form says where it is not tried.
-fn given_up() -> branch_search::Explored
-    ensures { λ e. ⌜ e .decided ≡ false ⌝ }
+// One turn: a plan of this kind is made, tested and searched by. Where it fails its test the archive is as it was.
+fn search_turn(
+    s: &[u8],
+    sizes: &[u8],
+    task: groups::Task,
+    ranges: [u64; 4],
+    kind: usize,
+    from: branch_search::Resume,
+    work: &mut [u32],
+) -> branch_search::Explored
+    requires { ⌜ Explorable task (now sizes) (now s) (now work)
+        × Between (sourceProblem task (now sizes) (now s) (now work)) (task .room) (now work) (from .points) ⌝ }
+    ensures { λ e. ⌜ Turned task (now (sizes .entry)) (now (s .entry)) (now (work .entry)) (now (work .exit)) e ⌝ }
 {
-    branch_search::Explored {
-        decided: false,
-        full: false,
-        count: 0,
-        left: 0,
+    let d = branch_directions::choose_directions(task.objectives, ranges);
+    if !plan_source(s, sizes, task.records, d, work) {
+        return branch_search::given_up(from.points, 0, 0);
     }
+    branch_search::explore(from, s, sizes, task, d, work)
+}
+
+// The turns of a search, each with the archive that the turn before has left.
+fn take_turns(
+    s: &[u8],
+    sizes: &[u8],
+    task: groups::Task,
+    ranges: [u64; 4],
+    work: &mut [u32],
+) -> branch_search::Explored
+    requires { ⌜ Explorable task (now sizes) (now s) (now work) ⌝ }
+    ensures { λ e. ⌜ Turned task (now (sizes .entry)) (now (s .entry)) (now (work .entry)) (now (work .exit)) e ⌝ }
+{
+    let mut best = Best { kind: 0, done: 0 };
+    let mut points: usize = 0;
+    let mut turn: usize = 0;
+    while turn < TURNS {
+        let kind = kind_of(turn, best);
+        let budget = budget_of(turn);
+        let from = branch_search::Resume { points, budget };
+        let e = search_turn(s, sizes, task, ranges, kind, from, work);
+        if e.decided {
+            return e;
+        }
+        points = e.count;
+        best = best_after(best, turn, kind, e.done);
+        turn += 1;
+    }
+    branch_search::given_up(points, 0, 0)
 }
 
 // The second form of the search. It gives up where there is nothing to plan, where a ceiling is too large for it, or
-// where a plan fails its test.
+// where no turn ends it.
 fn explore_source(
     s: &[u8],
     sizes: &[u8],
@@ -86,34 +166,22 @@ fn explore_source(
     work: &mut [u32],
 ) -> branch_search::Explored
     requires { ⌜ Source task (now sizes) (now s) (now work) × (task .room ≤ maxPoints) ⌝ }
-    ensures { λ e. ⌜ Kept (task .records) (now (work .entry)) (now (work .exit))
-        × (e .decided ≡ true → CoreFound
-        (sourceProblem task (now (sizes .entry)) (now (s .entry)) (now (work .entry)))
-        (task .room) (now (work .entry)) (now (work .exit)) (foundOf e)) ⌝ }
+    ensures { λ e. ⌜ Turned task (now (sizes .entry)) (now (s .entry)) (now (work .entry)) (now (work .exit)) e ⌝ }
 {
-    let r = task.records;
-    let p = task.objectives;
     let ceilings = task.ceilings;
     let n = sizes.len();
     if n == 0 {
-        return given_up();
+        return branch_search::given_up(0, 0, 0);
     }
-    if p == 0 {
-        return given_up();
+    if task.objectives == 0 {
+        return branch_search::given_up(0, 0, 0);
     }
     if !are_short(ceilings) {
-        return given_up();
+        return branch_search::given_up(0, 0, 0);
     }
-    let apart = plan_spreads::spreads_of(s, sizes, r, ceilings, &work[layout::SOURCE_AT..]);
-    let d = branch_directions::choose_directions(p, apart);
-    if !plan_source(s, sizes, r, d, work) {
-        return given_up();
-    }
-    let from = branch_search::Resume {
-        points: 0,
-        budget: BUDGET,
-    };
-    branch_search::explore(from, s, sizes, task, d, work)
+    let r = task.records;
+    let ranges = plan_spreads::spreads_of(s, sizes, r, ceilings, &work[layout::SOURCE_AT..]);
+    take_turns(s, sizes, task, ranges, work)
 }
 
 // The frontier list of a task whose records' places stand in work memory where a problem's records are: by the second

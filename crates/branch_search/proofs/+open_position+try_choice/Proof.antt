@@ -49,6 +49,8 @@ use Rattle.branch_values.proofs.least_value.Reads as least-value-reads
 use Rattle.branch_values.proofs.row_of.Reads as row-of-reads
 use Rattle.branch_search.proofs.Node.with.Reads as with-reads
 use Rattle.branch_search.proofs.take_leaf.Reads as take-leaf-reads
+use Rattle.branch_search.proofs.add_finished.Reads as add-finished-reads
+use Rattle.branch_search.proofs.part_done.Reads as part-done-reads
 use Rattle.branch_buckets.proofs.variable_at.Reads as variable-at-reads
 use Rattle.branch_search.proofs.+open_position+try_choice.{statement}
 use Rattle.branch_search.proofs.+open_position+try_choice.Tie.{close}
@@ -99,6 +101,10 @@ open-calls t = (
   with-reads.Learnt,
   try-choice-below t,
   try-choice.Post,
+  add-finished-reads.Asked,
+  add-finished-reads.Learnt,
+  part-done-reads.Asked,
+  part-done-reads.Learnt,
 )
 
 abbrev try-calls : ℕ → try-lts.Claims
@@ -106,12 +112,12 @@ try-calls t = (is-alive-reads.Asked, is-alive-reads.Learnt, open-position-below 
 
 -- the value that is next has the least lead
 abbrev Inv-loop : open-lts.InvT-loop
-Inv-loop node s sizes task d work₀ n k bound v size rows away leads₀ a₀ left t₀ work leads a t =
+Inv-loop node s sizes task d work₀ n k bound v size rows away leads₀ a₀ left t₀ finished₀ work leads a t finished =
     (a < size) × ((b : ℕ) → b < size → getD leads a 0 ≤ getD leads b 0)
     × Trying d task sizes s work₀ t₀ node work t leads
 
 abbrev μ-loop : open-lts.MeasureT-loop
-μ-loop node s sizes task d work₀ n k bound v size rows away leads₀ a₀ left t₀ work leads a t = untried leads
+μ-loop node s sizes task d work₀ n k bound v size rows away leads₀ a₀ left t₀ finished₀ work leads a t finished = untried leads
 
 module _ (t : ℕ) where
   -- ## the places of open_position, each with a name
@@ -172,6 +178,10 @@ module _ (t : ℕ) where
   abbrev Tried : Type 0
   Tried = open-lts.After-try-choice (open-calls t) (open-position-at t) open-position.Post Inv-loop μ-loop
 
+  -- and counted where it is finished
+  abbrev Counted : Type 0
+  Counted = open-lts.After-add-finished (open-calls t) (open-position-at t) open-position.Post Inv-loop μ-loop
+
   -- ## the way back from each to an earlier one
 
   abbrev start : Known → Begun
@@ -213,6 +223,9 @@ module _ (t : ℕ) where
   abbrev grown : Tried → Grown
   grown c = c .before .before
 
+  abbrev tried : Counted → Tried
+  tried c = c .before .before .before
+
   -- the longer ways
   abbrev opening : Inner → Begun
   opening c = start (known (going c))
@@ -228,6 +241,9 @@ module _ (t : ℕ) where
 
   abbrev turn : Bounded → Looping
   turn c = looping (trial c)
+
+  abbrev growing : Counted → Grown
+  growing c = grown (tried c)
 
   -- ## what is known at them
 
@@ -552,24 +568,28 @@ module _ (t : ℕ) where
       let next = trying-standing (starts b) (w .inv .2) (w .a) (r .row-of .result) (g .with .result) e (next-is r) in
       (omega (arith, e .deeper, inside (inner (naming (sending (turn r)))), b .pre .0), next)
 
+  open-position-add-finished-requires :
+      open-lts.Need-add-finished-requires (open-calls t) (open-position-at t) open-position.Post Inv-loop μ-loop
+  open-position-add-finished-requires c κs = search needs
+
   open-position-mul-leads :
       open-lts.Need-mul-leads (open-calls t) (open-position-at t) open-position.Post Inv-loop μ-loop
-  open-position-mul-leads c = omega (arith, value-few (turn (bounded (grown (c .before .before)))))
+  open-position-mul-leads c = omega (arith, value-few (turn (bounded (growing c))))
 
   open-position-array-write-leads :
       open-lts.Need-array-write-leads (open-calls t) (open-position-at t) open-position.Post Inv-loop μ-loop
-  open-position-array-write-leads c = omega (arith, value-few (turn (bounded (grown (c .before .before)))))
+  open-position-array-write-leads c = omega (arith, value-few (turn (bounded (growing c))))
 
   open-position-least-value-requires-2 :
       open-lts.Need-least-value-requires-2 (open-calls t) (open-position-at t) open-position.Post Inv-loop μ-loop
   open-position-least-value-requires-2 c κs =
-      let w = turn (bounded (grown (c .before .before .before))) in
+      let w = turn (bounded (growing (c .before))) in
       size (naming (sending w))
 
   open-position-loop-less :
       open-lts.Need-loop-less (open-calls t) (open-position-at t) open-position.Post Inv-loop μ-loop
   open-position-loop-less c =
-      let x = trial (bounded (grown (c .before .before .before .before))) in
+      let x = trial (bounded (growing (c .before .before))) in
       let w = looping x in
       let below : w .loop .a < length (w .loop .leads) = omega (arith, value-few w, w .loop .inv .2 .long) in
       tried-fewer (w .loop .leads) (w .loop .a) below (omega (arith, x .if3 .taken, x .before .struct-known3 .given))
@@ -577,28 +597,32 @@ module _ (t : ℕ) where
   open-position-loop-again :
       open-lts.Need-loop-again (open-calls t) (open-position-at t) open-position.Post Inv-loop μ-loop
   open-position-loop-again c =
-      let tried = c .before .before .before .before in
-      let g = grown tried in
+      let called = tried (c .before .before) .try-choice in
+      let g = growing (c .before .before) in
       let r = bounded g in
       let w = turn r .loop in
-      let called = tried .try-choice in
       let least = c .least-value2 .ensures in
       let next = trying-next (starts (origin r)) (w .inv .2) (w .a) (r .row-of .result) (g .with .result) in
       (least .0, least .1, next (next-extends g) _ (called .result) (called .ensures))
 
+  open-position-part-done-requires :
+      open-lts.Need-part-done-requires (open-calls t) (open-position-at t) open-position.Post Inv-loop μ-loop
+  open-position-part-done-requires c κs = size (naming (sending (c .before .before))) .0
+
   open-position-same-length-2 :
       open-lts.Need-same-length-2 (open-calls t) (open-position-at t) open-position.Post Inv-loop μ-loop
-  open-position-same-length-2 c = c .before .before .loop .inv .2 .still .long
+  open-position-same-length-2 c = c .before .before .before .loop .inv .2 .still .long
 
   open-position-returns-3 :
       open-lts.Need-returns-3 (open-calls t) (open-position-at t) open-position.Post Inv-loop μ-loop
   open-position-returns-3 c =
-      let w = c .before .before in
+      let over = c .before in
+      let w = over .before .before in
       let n = naming (sending w) in
       let b = begun n in
-      spent-opened (b .pre .1)
+      spent-opened (b .pre .1) (c .part-done .ensures)
       (trying-end (starts b) (w .loop .inv .2) (inside (inner n)) (w .loop .a)
-      (λ u l. w .loop .inv .1 u (rw (← is-variable n) at l)) (c .if3 .left))
+      (λ u l. w .loop .inv .1 u (rw (← is-variable n) at l)) (over .if3 .left))
 
   -- ## try_choice
 
@@ -701,11 +725,13 @@ pub +open-position+try-choice-spec : {M : Type 1} → statement M
     (open-position-row-of-requires t)
     (open-position-with-requires t)
     (open-position-try-choice-requires t)
+    (open-position-add-finished-requires t)
     (open-position-mul-leads t)
     (open-position-array-write-leads t)
     (open-position-least-value-requires-2 t)
     (open-position-loop-less t)
     (open-position-loop-again t)
+    (open-position-part-done-requires t)
     (open-position-same-length-2 t)
     (open-position-returns-3 t))
     λ t. try-lts.spec

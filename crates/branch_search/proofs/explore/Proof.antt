@@ -174,7 +174,7 @@ returns c =
     let a = begun p .args in
     let still = still-trans (kept p) (p .run-pass .ensures .still) in
     rw (c .given-up .ensures)
-    (undecided (a .task) (length (ds p)) _ _ (a .from .budget) (now (a .work)) (after-pass p) _ _ still (next p)
+    (undecided (a .task) (length (ds p)) _ _ (a .from .budget) (now (a .work)) (after-pass p) _ _ _ still (next p)
     (fewer p))
 
 same-length-2 : tie.Need-same-length-2 Inv-loop μ-loop
@@ -227,7 +227,7 @@ returns-4 c =
     let w : Looping = c .before .before in
     let a = start (known w) .args in
     rw (c .given-up2 .ensures)
-    (undecided (a .task) (length (now (a .sizes))) _ _ (a .from .budget) (now (a .work)) (w .loop .work) _ _
+    (undecided (a .task) (length (now (a .sizes))) _ _ (a .from .budget) (now (a .work)) (w .loop .work) _ _ _
     (w .loop .inv .1) (w .loop .inv .2) (w .loop .inv .3))
 
 pub explore-spec : {M : Type 1} → statement M

@@ -1,87 +1,50 @@
--- `listing::explore_source` meets its contract: a plan that passed its test is searched, and nothing is said where
--- there is none.
-use mathlib.Core.Path.{refl}
+-- `listing::explore_source` meets its contract: turns are taken where there is something to plan, and else nothing is
+-- said.
 use native.Mathlib.Omega.{arith}
 use borrow.Author.Needs.{needs}
 use borrow.Author.Tests.{not-false}
-use Rattle.model.proofs.Bits.{true-false}
-use Rattle.branch_search.proofs.Archives.{empty-between}
-use Rattle.listing.proofs.Forms.{source-plannable, spreads-asked, plan-ready, explored-says}
+use Rattle.listing.proofs.Forms.{spreads-asked}
+use Rattle.listing.proofs.Turns.{turned-none}
 use Rattle.listing.proofs.explore_source.Statement.{statement}
 use Rattle.listing.proofs.explore_source.Tie as tie
 
--- ## the places: something to plan, directions, a plan, a plan that passed its test
+-- ## the places: something to choose, costs to compare, ceilings that fit
 
 abbrev begun : tie.Else1 → tie.Start
 begun c =
     let known : tie.After-slice-known = c .before .before in
     known .before .before .before
 
-abbrev some : tie.After-spreads-of-arg → tie.Else3
-some c = c .before .before
-
-abbrev aimed : tie.After-plan-source → tie.After-choose-directions
-aimed c = c .before .before
-
-abbrev worth : tie.After-choose-directions → tie.Else3
-worth c = some (c .before .before)
+abbrev choosing : tie.Else2 → tie.Else1
+choosing c = c .before .before
 
 abbrev costly : tie.Else3 → tie.Else2
 costly c = c .before .before
 
-abbrev planned : tie.After-slice-known2 → tie.After-plan-source
-planned c = c .before .before
-
-abbrev start : tie.After-plan-source → tie.Start
-start c = begun (costly (worth (aimed c)) .before)
+abbrev short : tie.After-spreads-of → tie.Else3
+short c = c .before .before .before
 
 returns : tie.Need-returns
-returns c = (record { long = refl; source = refl }, λ t. absurd (true-false t (c .given-up .ensures)))
+returns c = rw (c .given-up .ensures) (turned-none _ _ _ _)
 
 returns-2 : tie.Need-returns-2
-returns-2 c = (record { long = refl; source = refl }, λ t. absurd (true-false t (c .given-up2 .ensures)))
+returns-2 c = rw (c .given-up2 .ensures) (turned-none _ _ _ _)
 
 returns-3 : tie.Need-returns-3
-returns-3 c = (record { long = refl; source = refl }, λ t. absurd (true-false t (c .given-up3 .ensures)))
+returns-3 c = rw (c .given-up3 .ensures) (turned-none _ _ _ _)
 
-choose-directions-requires : tie.Need-choose-directions-requires
-choose-directions-requires c κs =
-    let e = costly (some (c .before)) in
-    (omega (arith, e .if2 .left), begun (e .before) .pre .0 .objectives)
-
-plan-source-requires : tie.Need-plan-source-requires
-plan-source-requires c κs =
-    let aim : tie.After-choose-directions = c .before in
-    (source-plannable (begun (costly (worth aim) .before) .pre .0), aim .choose-directions .ensures .0)
-
-returns-4 : tie.Need-returns-4
-returns-4 c =
-    let failed : tie.Then4 = c .before in
-    (planned (failed .before) .plan-source .ensures .0, λ t. absurd (true-false t (c .given-up4 .ensures)))
-
-explore-requires : tie.Need-explore-requires
-explore-requires c κs =
-    let sound : tie.Else4 = c .before in
-    let p = planned (sound .before) in
-    let s = start p in
-    let d = aimed p .choose-directions in
-    let made = p .plan-source .ensures in
-    let short : tie.Else3 = worth (aimed p) in
-    let ready =
-    plan-ready (s .pre .0) (made .0) (d .result) (d .ensures .1) (s .pre .1)
-    (made .1 (not-false _ (sound .if4 .left))) (omega (arith, costly short .before .if1 .left))
-    (short .before .are-short .ensures (not-false _ (short .if3 .left))) in
-    (ready, empty-between _ _ _)
-
-returns-5 : tie.Need-returns-5
-returns-5 c =
-    let e : tie.After-explore = c .before .before in
-    let sound : tie.Else4 = e .before .before in
-    let p = planned (sound .before) in
-    let s = start p in
-    let d = aimed p .choose-directions in
-    explored-says (s .pre .0) (p .plan-source .ensures .0) (d .result) (d .ensures .1) (s .pre .1)
-    _ (e .explore .result) (e .explore .ensures .0)
+take-turns-requires : tie.Need-take-turns-requires
+take-turns-requires c κs =
+    let fit = short (c .before) in
+    let some = costly fit in
+    let s = begun (choosing some) in
+    record {
+      source = s .pre .0;
+      some-variable = omega (arith, choosing some .if1 .left);
+      some-objective = omega (arith, some .if2 .left);
+      short = fit .before .are-short .ensures (not-false _ (fit .if3 .left));
+      room-small = s .pre .1;
+    }
 
 pub explore-source-spec : {M : Type 1} → statement M
 explore-source-spec =
@@ -97,12 +60,7 @@ explore-source-spec =
     (λ c. search needs)  -- sub-spreads-of
     (λ c. search needs)  -- part-spreads-of-start
     (λ c. search needs)  -- part-spreads-of-end
-    (λ c κs. spreads-asked (begun (costly (some c) .before) .pre .0))  -- spreads-of-requires
-    choose-directions-requires
-    plan-source-requires
-    (λ c κs. search needs)  -- given-up-requires-4
+    (λ c κs. spreads-asked (begun (choosing (costly (c .before .before))) .pre .0))  -- spreads-of-requires
+    take-turns-requires
     (λ c. search needs)  -- same-length
-    returns-4
-    explore-requires
-    (λ c. search needs)  -- same-length-2
-    returns-5)
+    (λ c. search needs))  -- returns-4

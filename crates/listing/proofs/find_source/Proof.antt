@@ -18,20 +18,20 @@ explored c = c .before .before .before
 returns-2 : tie.Need-returns-2
 returns-2 c =
     let says = c .before .before .before .explore-source .ensures in
-    says .1 (c .if2 .taken)
+    says .found (c .if2 .taken)
 
 find-source-requires-2 : tie.Need-find-source-requires-2
 find-source-requires-2 c κs =
     let e = explored (c .before) in
     let s = begun e in
-    (source-kept (s .pre .0) (e .explore-source .ensures .0), s .pre .1)
+    (source-kept (s .pre .0) (e .explore-source .ensures .kept), s .pre .1)
 
 returns-3 : tie.Need-returns-3
 returns-3 c =
     let found : tie.After-find-source2 = c .before .before in
     let e = explored (found .before .before) in
     let f = found .find-source2 in
-    first-after (begun e .pre .0) (e .explore-source .ensures .0) _ (f .result) (f .ensures)
+    first-after (begun e .pre .0) (e .explore-source .ensures .kept) _ (f .result) (f .ensures)
 
 pub find-source-spec : {M : Type 1} → statement M
 find-source-spec =

@@ -1,7 +1,8 @@
 -- `listing::plan_source` meets its contract: the records are copied behind the archive's rows and planned there, and
 -- the plan is tested.
 use borrow.Author.Needs.{needs}
-use Rattle.listing.proofs.PlanKept.{copy-asked, plan-asked, plan-kept, test-asked, plan-says}
+use Rattle.listing.proofs.PlanKept.{copy-asked, plan-asked, plan-kept, rows-kept}
+use Rattle.listing.proofs.PlanKept.{test-asked, plan-says}
 use Rattle.listing.proofs.plan_source.Statement.{statement}
 use Rattle.listing.proofs.plan_source.Tie as tie
 
@@ -44,6 +45,7 @@ returns c =
     let copy = copied .copy-numbers .ensures in
     let plan = made .make-plan .ensures in (
       plan-kept (s .pre .0) (s .args .d) (s .pre .1) _ copy _ plan,
+      rows-kept (s .pre .0) (s .args .d) (s .pre .1) _ copy _ plan,
       λ ok. plan-says (s .pre .0) (s .args .d) (s .pre .1) _ copy _ plan (c .is-sound .ensures ok),
     )
 
