@@ -58,7 +58,7 @@ fn plan_source(
         × (ok ≡ true → PlanSays d r (now (sizes .entry)) (now (s .entry)) (now (work .entry)) (now (work .exit))) ⌝ }
 {
     groups::copy_numbers(layout::SOURCE_AT, layout::PLAN_AT, r, work);
-    plan_making::make_plan(s, sizes, r, d, &mut work[layout::PLAN_AT..]);
+    plan_making::make_plan(s, sizes, r, d, 0, &mut work[layout::PLAN_AT..]);
     plan_test::is_sound(s, sizes, r, d, &work[layout::PLAN_AT..])
 }
 
