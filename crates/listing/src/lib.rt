@@ -100,8 +100,9 @@ fn explore_source(
     if !are_short(ceilings) {
         return given_up();
     }
-    let apart = plan_spreads::spreads_of(s, sizes, r, ceilings, &work[layout::SOURCE_AT..]);
-    let d = branch_directions::choose_directions(p, apart);
+    let extents = plan_spreads::extents_of(s, sizes, r, ceilings, &work[layout::SOURCE_AT..]);
+    let ranges = plan_sums::ranges_of(p, extents, ceilings);
+    let d = branch_directions::choose_directions(p, plan_sums::sums_of(0, p, ranges));
     if !plan_source(s, sizes, r, d, work) {
         return given_up();
     }

@@ -5,7 +5,7 @@ use native.Mathlib.Omega.{arith}
 use borrow.Author.Needs.{needs}
 use borrow.Author.Tests.{not-false}
 use Rattle.model.proofs.Bits.{true-false}
-use Rattle.listing.proofs.Forms.{source-plannable, spreads-asked, plan-ready, explored-says}
+use Rattle.listing.proofs.Forms.{source-plannable, extents-asked, plan-ready, explored-says}
 use Rattle.listing.proofs.explore_source.Statement.{statement}
 use Rattle.listing.proofs.explore_source.Tie as tie
 
@@ -16,14 +16,14 @@ begun c =
     let known : tie.After-slice-known = c .before in
     known .before .before .before
 
-abbrev some : tie.After-spreads-of-arg → tie.Else3
+abbrev some : tie.After-extents-of-arg → tie.Else3
 some c = c .before .before
 
 abbrev aimed : tie.After-plan-source → tie.After-choose-directions
 aimed c = c .before .before
 
 abbrev worth : tie.After-choose-directions → tie.Else3
-worth c = some (c .before .before)
+worth c = some (c .before .before .before .before)
 
 abbrev costly : tie.Else3 → tie.Else2
 costly c = c .before .before
@@ -43,9 +43,12 @@ returns-2 c = (record { long = refl; source = refl }, λ t. absurd (true-false t
 returns-3 : tie.Need-returns-3
 returns-3 c = (record { long = refl; source = refl }, λ t. absurd (true-false t (c .given-up3 .ensures)))
 
+ranges-of-requires : tie.Need-ranges-of-requires
+ranges-of-requires c κs = begun (costly (some (c .before)) .before) .pre .0 .objectives
+
 choose-directions-requires : tie.Need-choose-directions-requires
 choose-directions-requires c κs =
-    let e = costly (some (c .before)) in
+    let e = costly (some (c .before .before .before)) in
     (omega (arith, e .if2 .left), begun (e .before) .pre .0 .objectives)
 
 plan-source-requires : tie.Need-plan-source-requires
@@ -91,10 +94,12 @@ explore-source-spec =
     (λ c κs. search needs)  -- are-short-requires
     (λ c κs. search needs)  -- given-up-requires-3
     returns-3
-    (λ c. search needs)  -- sub-spreads-of
-    (λ c. search needs)  -- part-spreads-of-start
-    (λ c. search needs)  -- part-spreads-of-end
-    (λ c κs. spreads-asked (begun (costly (some c) .before) .pre .0))  -- spreads-of-requires
+    (λ c. search needs)  -- sub-extents-of
+    (λ c. search needs)  -- part-extents-of-start
+    (λ c. search needs)  -- part-extents-of-end
+    (λ c κs. extents-asked (begun (costly (some c) .before) .pre .0))  -- extents-of-requires
+    ranges-of-requires
+    (λ c κs. search needs)  -- sums-of-requires
     choose-directions-requires
     plan-source-requires
     (λ c κs. search needs)  -- given-up-requires-4
