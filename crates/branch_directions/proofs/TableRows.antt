@@ -13,13 +13,10 @@ use Rattle.model.specs.Basics.{All}
 use Rattle.model.proofs.Bits.{test}
 use Rattle.model.proofs.Elements.{all-take, all-drop, all-append}
 
--- a row has what the table has; the first row, what the table has in front
+-- a row has what the table has
 module _ (P : ℕ → Type 0) (table row : List ℕ) (i : ℕ) (is : row ≡ take 4 (drop (4 * i) table)) where
   pub row-all : All P table → All P row
   row-all h = rw is (all-take P 4 (drop (4 * i) table) (all-drop P (4 * i) table h))
-
-  pub row-first : (p : ℕ) → p ≤ 4 → i ≡ 0 → All P (take p table) → All P (take p row)
-  row-first p l z h = rw (is, z, take-take p 4 table l) h
 
 -- row i written anew
 abbrev pub withRow : List ℕ → ℕ → List ℕ → List ℕ

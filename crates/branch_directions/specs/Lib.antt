@@ -1,3 +1,3 @@
--- Directions: the objectives and weighted sums of them; shares, from which weights are made.
+-- Directions: the objectives and weighted sums of them; what weights are made from.
 pub mod Directions
 pub mod Shares

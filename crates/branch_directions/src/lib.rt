@@ -10,23 +10,33 @@ ghost use Rattle.model.specs.Archive.{weighted};
 ghost use Rattle.branch_archive.specs.Changes.{maxWeight};
 ghost use Rattle.branch_directions.specs.Directions.{maxSums, maxDirections, weightsOf, directionsOf};
 ghost use Rattle.branch_directions.specs.Directions.{leadWeights, leadAt, Sensible};
-ghost use Rattle.branch_directions.specs.Shares.{maxShare};
+ghost use Rattle.branch_directions.specs.Shares.{maxShare, maxRange};
 
 // What a rate is scaled by; with the largest share it does not wrap.
-const RATE_SCALE: u64 = 1152921504606846976;
+const RATE_SCALE: u64 = 17592186044416;
 
-// The rate that is worth a weight of 1, unless a weight gets too large: RATE_SCALE / 2^24, so that
-// most sums fit the 32 bits in which corners of zones and messages keep them.
-const RATE_UNIT: u64 = 68719476736;
+// The rate that is worth a weight of 1, unless a weight gets too large: that of a share of 4,096 in a range of 2^24, so
+// that most sums fit the 32 bits in which corners of zones and messages keep them.
+const RATE_UNIT: u64 = 4294967296;
 
-// A larger spread counts as this one. No sum of entries reaches it.
-const MAX_SPREAD: u64 = 1099511627776;
+// A larger share counts as this one.
+const MAX_SHARE: u64 = 65536;
+
+// A larger range counts as this one. No sum of entries reaches it.
+const MAX_RANGE: u64 = 1099511627776;
 
 // So many objectives, so many sums, and four weights for each sum. The first sum leads.
 pub struct Directions {
     pub objectives: usize,
     pub sums: usize,
     pub weights: [u64; 16],
+}
+
+// What the weights of the four sums are made from, four numbers in a row: the share of each objective in each sum, and
+// the range that it is divided by.
+pub struct Sums {
+    pub shares: [u64; 16],
+    pub ranges: [u64; 16],
 }
 
 // The first `p` costs of `v`, and zeros.
@@ -101,20 +111,6 @@ pub fn lead_weights(d: Directions) -> [u64; 4]
     row_of(weights, 0)
 }
 
-// The share of each objective in each sum, four numbers in a row. The first sum leads, so it leaves none out.
-fn shares_for(p: usize) -> [u64; 16]
-    requires { ⌜ (2 ≤ p) × (p ≤ maxObjectives) ⌝ }
-    ensures { λ r. ⌜ All (λ s. s ≤ maxShare) r × All (λ s. 1 ≤ s) (take p r) ⌝ }
-{
-    if p == 2 {
-        return [1, 1, 0, 0, 3, 1, 0, 0, 1, 3, 0, 0, 1, 10, 0, 0];
-    }
-    if p == 3 {
-        return [1, 1, 1, 0, 1, 0, 1, 0, 1, 1, 0, 0, 0, 1, 1, 0];
-    }
-    [1, 1, 1, 1, 1, 0, 1, 0, 1, 0, 0, 1, 1, 1, 0, 0]
-}
-
 // The lesser of two numbers.
 pub fn lesser(a: u64, b: u64) -> u64
     ensures { λ r. ⌜ (r ≤ a) × (r ≤ b) ⌝ }
@@ -135,26 +131,66 @@ pub fn larger(a: u64, b: u64) -> u64
     a
 }
 
-// How far apart the costs of an objective are, for its weight: at least 1. Where they are not apart at all
-// its weight does not matter, and it counts as the largest spread, so that the others' weights stay large.
-fn range_of(spread: u64) -> u64
-    ensures { λ r. ⌜ (1 ≤ r) × (r ≤ coreSumEnd) ⌝ }
+// The least share that an objective has in sum `i`. The first sum leads, so it leaves none out.
+fn least_share(i: usize) -> u64
+    ensures { λ r. ⌜ (r ≤ maxShare) × (i ≡ 0 → 1 ≤ r) ⌝ }
 {
-    if spread == 0 {
-        return MAX_SPREAD;
+    if 0 < i {
+        return 0;
     }
-    if MAX_SPREAD < spread {
-        return MAX_SPREAD;
-    }
-    spread
+    1
 }
 
-// What the weight of an objective is in proportion to: its share, divided by how far apart its costs are.
-fn rate_of(share: u64, spread: u64) -> u64
+// A share that counts: at least `least`, and not above the largest.
+fn clamped(share: u64, least: u64) -> u64
+    requires { ⌜ least ≤ maxShare ⌝ }
+    ensures { λ r. ⌜ (r ≤ maxShare) × (least ≤ r) ⌝ }
+{
+    if share < least {
+        return least;
+    }
+    if MAX_SHARE < share {
+        return MAX_SHARE;
+    }
+    share
+}
+
+// The shares of the objectives in sum `i`.
+fn shares_at(sums: Sums, i: usize) -> [u64; 4]
+    requires { ⌜ i < maxSums ⌝ }
+    ensures { λ r. ⌜ All (λ s. s ≤ maxShare) r × (i ≡ 0 → All (λ s. 1 ≤ s) r) ⌝ }
+{
+    let shares = sums.shares;
+    let row = row_of(shares, i);
+    let least = least_share(i);
+    [
+        clamped(row[0], least),
+        clamped(row[1], least),
+        clamped(row[2], least),
+        clamped(row[3], least),
+    ]
+}
+
+// What a share is divided by: at least 1. Where an objective's costs are not apart at all its weight does not matter,
+// and it counts as the largest range, so that the others' weights stay large.
+fn range_of(range: u64) -> u64
+    ensures { λ r. ⌜ (1 ≤ r) × (r ≤ maxRange) ⌝ }
+{
+    if range == 0 {
+        return MAX_RANGE;
+    }
+    if MAX_RANGE < range {
+        return MAX_RANGE;
+    }
+    range
+}
+
+// What the weight of an objective is in proportion to: its share, divided by its range.
+fn rate_of(share: u64, range: u64) -> u64
     requires { ⌜ share ≤ maxShare ⌝ }
     ensures { λ r. ⌜ (1 ≤ share → 1 ≤ r) ⌝ }
 {
-    share * RATE_SCALE / range_of(spread)
+    share * RATE_SCALE / range_of(range)
 }
 
 // A weight for a rate: only one that would be 0 is raised to 1.
@@ -177,15 +213,15 @@ fn weight_of(rate: u64, unit: u64) -> u64
 
 // The weights of a sum, from the shares of the objectives in it.
 // One unit for all keeps their ratios where the largest would be too large.
-fn sum_weights(shares: [u64; 4], spreads: [u64; 4]) -> [u64; 4]
+fn sum_weights(shares: [u64; 4], ranges: [u64; 4]) -> [u64; 4]
     requires { ⌜ All (λ s. s ≤ maxShare) shares ⌝ }
     ensures { λ r. ⌜ All (λ w. w ≤ maxWeight) r
         × ((p : ℕ) → All (λ s. 1 ≤ s) (take p shares) → All (λ w. 1 ≤ w) (take p r)) ⌝ }
 {
-    let a = rate_of(shares[0], spreads[0]);
-    let b = rate_of(shares[1], spreads[1]);
-    let c = rate_of(shares[2], spreads[2]);
-    let d = rate_of(shares[3], spreads[3]);
+    let a = rate_of(shares[0], ranges[0]);
+    let b = rate_of(shares[1], ranges[1]);
+    let c = rate_of(shares[2], ranges[2]);
+    let d = rate_of(shares[3], ranges[3]);
     let most = larger(larger(a, b), larger(c, d));
     let unit = larger(most / branch_archive::MAX_WEIGHT + 1, RATE_UNIT);
     [
@@ -196,16 +232,15 @@ fn sum_weights(shares: [u64; 4], spreads: [u64; 4]) -> [u64; 4]
     ]
 }
 
-// The weights of every sum for `p` objectives.
-fn weights_for(p: usize, spreads: [u64; 4]) -> [u64; 16]
-    requires { ⌜ (2 ≤ p) × (p ≤ maxObjectives) ⌝ }
-    ensures { λ r. ⌜ All (λ w. w ≤ maxWeight) r × All (λ w. 1 ≤ w) (take p r) ⌝ }
+// The weights of every sum.
+fn weights_for(sums: Sums) -> [u64; 16]
+    ensures { λ r. ⌜ All (λ w. w ≤ maxWeight) r × All (λ w. 1 ≤ w) (take 4 r) ⌝ }
 {
-    let shares = shares_for(p);
+    let ranges = sums.ranges;
     let mut weights = [0u64; 16];
     let mut i: usize = 0;
     while i < 4 {
-        let row = sum_weights(row_of(shares, i), spreads);
+        let row = sum_weights(shares_at(sums, i), row_of(ranges, i));
         let at = 4 * i;
         weights[at] = row[0];
         weights[at + 1] = row[1];
@@ -216,9 +251,8 @@ fn weights_for(p: usize, spreads: [u64; 4]) -> [u64; 16]
     weights
 }
 
-// Directions for `p` objectives. `spreads` says how far apart the costs of each objective are,
-// and only the speed depends on it.
-pub fn choose_directions(p: usize, spreads: [u64; 4]) -> Directions
+// Directions for `p` objectives with these sums, of which one objective has none. Only the speed depends on them.
+pub fn choose_directions(p: usize, sums: Sums) -> Directions
     requires { ⌜ (1 ≤ p) × (p ≤ maxObjectives) ⌝ }
     ensures { λ d. ⌜ Sensible d × (d .objectives ≡ p) ⌝ }
 {
@@ -230,7 +264,7 @@ pub fn choose_directions(p: usize, spreads: [u64; 4]) -> Directions
             weights: one,
         };
     }
-    let weights = weights_for(p, spreads);
+    let weights = weights_for(sums);
     Directions {
         objectives: p,
         sums: 4,

@@ -32,11 +32,11 @@ module _ {task : DT.Task} {ds s work : List ℕ} (source : Source task ds s work
     long = source .long;
   }
 
-  -- what measuring how far apart costs lie asks for
-  pub spreads-asked :
+  -- what adding up the tables' least and largest entries asks for
+  pub extents-asked :
       All DomainSize ds × (r ≤ maxTables) × (r ≤ length (behindAt work sourceAt))
       × All (Whole ds s) (take r (behindAt work sourceAt))
-  spreads-asked =
+  extents-asked =
       let inside : sourceAt ≤ length work = omega (arith, source .long) in
       let all : behindAt work sourceAt ≡ drop sourceAt work = behind-all work sourceAt inside (behindAt work sourceAt)
       refl in (

@@ -95,6 +95,7 @@ fn plan_source(
     sizes: &[u8],
     r: usize,
     d: branch_directions::Directions,
+    kind: usize,
     work: &mut [u32],
 ) -> bool
     requires { ⌜ Plannable r (now sizes) (now s) (now work) × Sensible d ⌝ }
@@ -103,7 +104,7 @@ fn plan_source(
         × (ok ≡ true → PlanSays d r (now (sizes .entry)) (now (s .entry)) (now (work .entry)) (now (work .exit))) ⌝ }
 {
     groups::copy_numbers(layout::SOURCE_AT, layout::PLAN_AT, r, work);
-    plan_making::make_plan(s, sizes, r, d, &mut work[layout::PLAN_AT..]);
+    plan_making::make_plan(s, sizes, r, d, kind, &mut work[layout::PLAN_AT..]);
     plan_test::is_sound(s, sizes, r, d, &work[layout::PLAN_AT..])
 }
 
@@ -112,7 +113,7 @@ fn search_turn(
     s: &[u8],
     sizes: &[u8],
     task: groups::Task,
-    ranges: [u64; 4],
+    ranges: plan_sums::Ranges,
     kind: usize,
     from: branch_search::Resume,
     work: &mut [u32],
@@ -121,8 +122,9 @@ fn search_turn(
         × Between (sourceProblem task (now sizes) (now s) (now work)) (task .room) (now work) (from .points) ⌝ }
     ensures { λ e. ⌜ Turned task (now (sizes .entry)) (now (s .entry)) (now (work .entry)) (now (work .exit)) e ⌝ }
 {
-    let d = branch_directions::choose_directions(task.objectives, ranges);
-    if !plan_source(s, sizes, task.records, d, work) {
+    let p = task.objectives;
+    let d = branch_directions::choose_directions(p, plan_sums::sums_of(kind, p, ranges));
+    if !plan_source(s, sizes, task.records, d, kind, work) {
         return branch_search::given_up(from.points, 0, 0);
     }
     branch_search::explore(from, s, sizes, task, d, work)
@@ -133,7 +135,7 @@ fn take_turns(
     s: &[u8],
     sizes: &[u8],
     task: groups::Task,
-    ranges: [u64; 4],
+    ranges: plan_sums::Ranges,
     work: &mut [u32],
 ) -> branch_search::Explored
     requires { ⌜ Explorable task (now sizes) (now s) (now work) ⌝ }
@@ -180,7 +182,8 @@ fn explore_source(
         return branch_search::given_up(0, 0, 0);
     }
     let r = task.records;
-    let ranges = plan_spreads::spreads_of(s, sizes, r, ceilings, &work[layout::SOURCE_AT..]);
+    let extents = plan_spreads::extents_of(s, sizes, r, ceilings, &work[layout::SOURCE_AT..]);
+    let ranges = plan_sums::ranges_of(task.objectives, extents, ceilings);
     take_turns(s, sizes, task, ranges, work)
 }
 

@@ -318,12 +318,13 @@ fn end_messages(made: Made, plan: &mut [u32])
     }
 }
 
-// Makes a plan of `r` records, whose places are its first numbers.
+// Makes a plan of `r` records, whose places are its first numbers. Its kind says which order it has.
 pub fn make_plan(
     s: &[u8],
     sizes: &[u8],
     r: usize,
     d: branch_directions::Directions,
+    kind: usize,
     plan: &mut [u32],
 )
     requires { ⌜ Planned d r (now sizes) (now s) (now plan) × (numbersAt ≤ length (now plan)) ⌝ }
@@ -333,6 +334,6 @@ pub fn make_plan(
         × Rearranged (countFrom 0 maxMessages) (take maxMessages (drop childrenAt (now (plan .exit)))) ⌝ }
 {
     plan_memory::fill_slots(plan);
-    plan_order::set_order(s, sizes.len(), r, plan);
+    plan_order::set_order(s, sizes, r, kind, plan);
     make_buckets(s, sizes, r, d, plan);
 }

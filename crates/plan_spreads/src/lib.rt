@@ -1,4 +1,4 @@
-// How far apart the entries of each objective's tables lie.
+// What is known of each objective's costs before the search: the sums of its tables' least and of their largest entries.
 ghost use Prim.Native.Nat.{_≤_};
 ghost use lib.ListN.{length, take};
 ghost use Rattle.model.specs.Basics.{All};
@@ -6,41 +6,56 @@ ghost use Rattle.model.specs.Limits.{maxTables};
 ghost use Rattle.model.specs.Problems.{DomainSize};
 ghost use Rattle.problem.specs.Records.{Whole};
 
-// The largest less the least entry of the record at `at` that is below the ceiling.
-fn spread_at(s: &[u8], at: usize, sizes: &[u8], ceiling: u64) -> u64
+// For each objective the sum over its records of the least, and of the largest, entry below the ceiling.
+pub struct Extents {
+    pub lows: [u64; 4],
+    pub mosts: [u64; 4],
+}
+
+// The least and the largest entry of a record.
+struct Extent {
+    low: u64,
+    most: u64,
+}
+
+// The least and the largest entry of the record at `at` that is below the ceiling; zeros where none is.
+fn extent_at(s: &[u8], at: usize, sizes: &[u8], ceiling: u64) -> Extent
     requires { ⌜ Whole (now sizes) (now s) at × All DomainSize (now sizes) ⌝ }
 {
     let count = costs::entries_of(s, at, sizes);
-    let mut least = ceiling;
+    let mut low = ceiling;
     let mut most: u64 = 0;
     let mut i: usize = 0;
     while i < count {
         let cost = costs::table_entry(s, at, i, sizes);
         if cost < ceiling {
-            least = branch_directions::lesser(cost, least);
+            low = branch_directions::lesser(cost, low);
             most = branch_directions::larger(cost, most);
         }
         i += 1;
     }
-    if most < least {
-        return 0;
+    if most < low {
+        return Extent { low: 0, most: 0 };
     }
-    most - least
+    Extent { low, most }
 }
 
-// How far apart the entries of each objective's tables lie, added up; entries from the ceiling on do not count.
-pub fn spreads_of(s: &[u8], sizes: &[u8], r: usize, ceilings: [u64; 4], places: &[u32]) -> [u64; 4]
+// What each objective costs at least and at most by its tables alone; entries from the ceiling on do not count.
+pub fn extents_of(s: &[u8], sizes: &[u8], r: usize, ceilings: [u64; 4], places: &[u32]) -> Extents
     requires { ⌜ All DomainSize (now sizes) × (r ≤ maxTables) × (r ≤ length (now places))
         × All (Whole (now sizes) (now s)) (take r (now places)) ⌝ }
 {
-    let mut sums = [0u64; 4];
+    let mut lows = [0u64; 4];
+    let mut mosts = [0u64; 4];
     let mut i: usize = 0;
     while i < r {
         let at = places[i] as usize;
         let t = problem::record_at(s, at, sizes);
         let o = t.objective as usize;
-        sums[o] = std::num::wrapping_add_u64(sums[o], spread_at(s, at, sizes, ceilings[o]));
+        let extent = extent_at(s, at, sizes, ceilings[o]);
+        lows[o] = std::num::wrapping_add_u64(lows[o], extent.low);
+        mosts[o] = std::num::wrapping_add_u64(mosts[o], extent.most);
         i += 1;
     }
-    sums
+    Extents { lows, mosts }
 }

@@ -1,6 +1,10 @@
 -- `branch_directions::choose_directions` meets its contract.
 use mathlib.Core.Path.{refl}
+use Prim.Native.Nat.{_≤_}
 use native.Mathlib.Omega.{arith}
+use lib.ListN.{take}
+use lib.Seq.{take-take}
+use Rattle.model.proofs.Elements.{all-take}
 use borrow.Author.Needs.{needs}
 use Rattle.branch_directions.proofs.choose_directions.Statement.{statement}
 use Rattle.branch_directions.proofs.choose_directions.Tie as tie
@@ -20,13 +24,16 @@ returns c = (
 
 returns-2 : tie.Need-returns-2
 returns-2 c =
-    let s = c .before .before in (
+    let s = c .before .before in
+    let p = s .args .p in (
       record {
         some = s .pre .0;
         few = s .pre .1;
         few-sums = omega arith;
         small = c .weights-for .ensures .0;
-        every = c .weights-for .ensures .1;
+        every =
+            rw (take-take p 4 (c .weights-for .result) (s .pre .1)) at
+            (all-take (λ w. 1 ≤ w) p (take 4 (c .weights-for .result)) (c .weights-for .ensures .1));
         alone = λ z. absurd (omega arith);
       },
       refl,

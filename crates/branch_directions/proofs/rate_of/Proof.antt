@@ -1,4 +1,4 @@
--- `branch_directions::rate_of` meets its contract: no spread is above what the scale is.
+-- `branch_directions::rate_of` meets its contract: no range is above what the scale is.
 use Prim.Native.Nat.{_*_, _<_}
 use native.Mathlib.Omega.{arith}
 use native.Mathlib.Nat.{le-div-iff-mul-le}
@@ -10,7 +10,7 @@ returns : tie.Need-returns
 returns c =
     λ h.
     let some : 0 < c .range-of .result = omega arith in
-    le-div-iff-mul-le {x = 1} {y = c .before .args .share * 1152921504606846976} some .1
+    le-div-iff-mul-le {x = 1} {y = c .before .args .share * 17592186044416} some .1
     (omega (arith, c .range-of .ensures .1))
 
 pub rate-of-spec : {M : Type 1} → statement M

@@ -7,44 +7,35 @@ use native.Mathlib.Omega.{arith}
 use borrow.Author.Needs.{needs}
 use lib.ListN.{length, take, length-set}
 use Rattle.model.specs.Basics.{All}
+use Rattle.model.proofs.Elements.{all-take}
 use Rattle.branch_archive.specs.Changes.{maxWeight}
-use Rattle.branch_directions.specs.Shares.{maxShare}
-use Rattle.branch_directions.proofs.TableRows.{row-all, row-first, row-written, with-row-all, with-row-first}
+use Rattle.branch_directions.proofs.TableRows.{row-written, with-row-all, with-row-first}
 use Rattle.branch_directions.proofs.weights_for.Statement.{statement}
 use Rattle.branch_directions.proofs.weights_for.Tie as tie
 
 abbrev Inv-loop : tie.InvT-loop
-Inv-loop p spreads shares weights₀ i₀ weights i =
-    (i ≤ 4) × (length weights ≡ 16) × All (λ w. w ≤ maxWeight) weights × (1 ≤ i → All (λ w. 1 ≤ w) (take p weights))
+Inv-loop sums ranges weights₀ i₀ weights i =
+    (i ≤ 4) × (length weights ≡ 16) × All (λ w. w ≤ maxWeight) weights × (1 ≤ i → All (λ w. 1 ≤ w) (take 4 weights))
 
 abbrev μ-loop : tie.MeasureT-loop
-μ-loop p spreads shares weights₀ i₀ weights i = 4 - i
-
-sum-weights-requires : tie.Need-sum-weights-requires Inv-loop μ-loop
-sum-weights-requires c κs =
-    let shares = c .before .before .before .shares-for in
-    row-all (λ x. x ≤ maxShare) (shares .result) (c .row-of .result) (c .before .before .loop .i) (c .row-of .ensures)
-    (shares .ensures .0)
+μ-loop sums ranges weights₀ i₀ weights i = 4 - i
 
 loop-again : tie.Need-loop-again Inv-loop μ-loop
 loop-again c =
-    let w = c .before .before .before .loop in
-    let shares = c .before .before .before .before .shares-for in
-    let s = c .before .before .before .before .before in
-    let p = s .args .p in
+    let shares = c .before .before .shares-at in
+    let w = c .before .before .before .before .loop in
     let row = c .sum-weights .result in
     let new = c .sum-weights .ensures in
     let four : length row ≡ 4 = omega (arith, c .sum-weights .ok) in
     let is = sym (row-written (w .weights) row (4 * w .i) (omega (arith, w .inv .1)) four) in
-    let led : w .i ≡ 0 → All (λ x. 1 ≤ x) (take p row) = λ z. new .1 p
-    (row-first (λ x. 1 ≤ x) (shares .result) (c .before .row-of .result) (w .i) (c .before .row-of .ensures) p
-    (s .pre .1) z (shares .ensures .1)) in (
+    let led : w .i ≡ 0 → All (λ x. 1 ≤ x) (take 4 row) = λ z. new .1 4
+    (all-take (λ x. 1 ≤ x) 4 (shares .result) (shares .ensures .1 z)) in (
       omega arith,
       simp length-set (w .inv .1),
       subst (λ (l : List ℕ). All (λ x. x ≤ maxWeight) l) is
           (with-row-all (λ x. x ≤ maxWeight) (w .weights) row (w .i) (w .inv .2) (new .0)),
-      λ h. subst (λ (l : List ℕ). All (λ x. 1 ≤ x) (take p l)) is
-          (with-row-first (λ x. 1 ≤ x) (w .weights) row (w .i) p (s .pre .1) four (w .inv .1) (omega arith) (w .inv .3)
+      λ h. subst (λ (l : List ℕ). All (λ x. 1 ≤ x) (take 4 l)) is
+          (with-row-first (λ x. 1 ≤ x) (w .weights) row (w .i) 4 (omega arith) four (w .inv .1) (omega arith) (w .inv .3)
           led),
     )
 
@@ -57,10 +48,10 @@ weights-for-spec =
     (tie.spec
     Inv-loop
     μ-loop
-    (λ c κs. c .pre)  -- shares-for-requires
     (λ c. (omega arith, refl, search needs, λ h. absurd (omega arith)))  -- loop-holds
+    (λ c κs. omega arith)  -- shares-at-requires
     (λ c κs. omega arith)  -- row-of-requires
-    sum-weights-requires
+    (λ c κs. c .before .shares-at .ensures .0)  -- sum-weights-requires
     (λ c. omega arith)  -- mul-at
     (λ c. omega arith)  -- array-read-weights
     (λ c. omega arith)  -- mul-weights

@@ -3,7 +3,7 @@
 use native.Mathlib.Omega.{arith}
 use borrow.Author.Needs.{needs}
 use borrow.Author.Tests.{not-false}
-use Rattle.listing.proofs.Forms.{spreads-asked}
+use Rattle.listing.proofs.Forms.{extents-asked}
 use Rattle.listing.proofs.Turns.{turned-none}
 use Rattle.listing.proofs.explore_source.Statement.{statement}
 use Rattle.listing.proofs.explore_source.Tie as tie
@@ -21,8 +21,11 @@ choosing c = c .before .before
 abbrev costly : tie.Else3 → tie.Else2
 costly c = c .before .before
 
-abbrev short : tie.After-spreads-of → tie.Else3
+abbrev short : tie.After-extents-of → tie.Else3
 short c = c .before .before .before
+
+abbrev summed : tie.After-ranges-of → tie.After-extents-of
+summed c = c .before
 
 returns : tie.Need-returns
 returns c = rw (c .given-up .ensures) (turned-none _ _ _ _)
@@ -33,9 +36,12 @@ returns-2 c = rw (c .given-up2 .ensures) (turned-none _ _ _ _)
 returns-3 : tie.Need-returns-3
 returns-3 c = rw (c .given-up3 .ensures) (turned-none _ _ _ _)
 
+ranges-of-requires : tie.Need-ranges-of-requires
+ranges-of-requires c κs = begun (choosing (costly (short c))) .pre .0 .objectives
+
 take-turns-requires : tie.Need-take-turns-requires
 take-turns-requires c κs =
-    let fit = short (c .before) in
+    let fit = short (summed (c .before)) in
     let some = costly fit in
     let s = begun (choosing some) in
     record {
@@ -57,10 +63,11 @@ explore-source-spec =
     (λ c κs. search needs)  -- are-short-requires
     (λ c κs. search needs)  -- given-up-requires-3
     returns-3
-    (λ c. search needs)  -- sub-spreads-of
-    (λ c. search needs)  -- part-spreads-of-start
-    (λ c. search needs)  -- part-spreads-of-end
-    (λ c κs. spreads-asked (begun (choosing (costly (c .before .before))) .pre .0))  -- spreads-of-requires
+    (λ c. search needs)  -- sub-extents-of
+    (λ c. search needs)  -- part-extents-of-start
+    (λ c. search needs)  -- part-extents-of-end
+    (λ c κs. extents-asked (begun (choosing (costly (c .before .before))) .pre .0))  -- extents-of-requires
+    ranges-of-requires
     take-turns-requires
     (λ c. search needs)  -- same-length
     (λ c. search needs))  -- returns-4

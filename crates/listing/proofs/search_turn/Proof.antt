@@ -9,10 +9,13 @@ use Rattle.listing.proofs.search_turn.Tie as tie
 
 -- ## the places: directions, a plan, a plan that passed its test
 
-abbrev begun : tie.After-choose-directions → tie.Start
-begun c =
+abbrev start : tie.After-sums-of → tie.Start
+start c =
     let known : tie.After-slice-known = c .before in
     known .before .before .before
+
+abbrev begun : tie.After-choose-directions → tie.Start
+begun c = start (c .before)
 
 abbrev aimed : tie.After-plan-source → tie.After-choose-directions
 aimed c = c .before .before
@@ -25,7 +28,7 @@ sound c = c .before
 
 choose-directions-requires : tie.Need-choose-directions-requires
 choose-directions-requires c κs =
-    let h = c .before .before .before .pre .0 in
+    let h = start c .pre .0 in
     (h .some-objective, h .source .objectives)
 
 plan-source-requires : tie.Need-plan-source-requires
@@ -66,6 +69,7 @@ pub search-turn-spec : {M : Type 1} → statement M
 search-turn-spec =
     tie.close
     (tie.spec
+    (λ c κs. search needs)  -- sums-of-requires
     choose-directions-requires
     plan-source-requires
     (λ c κs. search needs)  -- given-up-requires

@@ -11,28 +11,33 @@ use Rattle.plan_order.proofs.set_order.Statement.{statement}
 use Rattle.plan_order.proofs.set_order.Tie as tie
 
 abbrev Inv-loop : tie.InvT-loop
-Inv-loop s n r plan₀ links₀ left₀ k₀ plan links left k = Loose plan₀ plan × (length links ≡ 24) × (k ≤ n)
+Inv-loop s sizes r kind plan₀ n links₀ left₀ k₀ plan links left k =
+    Loose plan₀ plan × (length links ≡ 24) × (k ≤ n) × (n ≤ 24)
 
 abbrev μ-loop : tie.MeasureT-loop
-μ-loop s n r plan₀ links₀ left₀ k₀ plan links left k = k
+μ-loop s sizes r kind plan₀ n links₀ left₀ k₀ plan links left k = k
 
 loop-again : tie.Need-loop-again Inv-loop μ-loop
 loop-again c =
-    let w = c .before .before .before .before .before .before .before .before .before .before .before .before .loop in (
-      loose-trans (loose-trans (w .inv .0) (c .before .before .before .before .before .before .put .ensures))
-          (c .before .before .put2 .ensures),
+    let second = c .before .before in
+    let first = second .before .before .before .before in
+    let read = first .before .before .before .before in
+    let w = read .before .before .loop in (
+      loose-trans (loose-trans (w .inv .0) (first .put .ensures)) (second .put2 .ensures),
       search needs,
       omega arith,
+      w .inv .3,
     )
 
 same-length : tie.Need-same-length Inv-loop μ-loop
 same-length c =
-    loose-trans (c .before .before .before .before .before .before .number-positions .ensures)
-    (c .before .loop .inv .0) .long
+    let known = c .before .before .before .before in
+    loose-trans (known .before .before .number-positions .ensures) (c .before .loop .inv .0) .long
 
 returns : tie.Need-returns Inv-loop μ-loop
 returns c =
-    loose-trans (c .before .before .before .before .before .before .number-positions .ensures) (c .before .loop .inv .0)
+    let known = c .before .before .before .before in
+    loose-trans (known .before .before .number-positions .ensures) (c .before .loop .inv .0)
 
 pub set-order-spec : {M : Type 1} → statement M
 set-order-spec =
@@ -42,9 +47,9 @@ set-order-spec =
     μ-loop
     (λ c κs. search needs)  -- number-positions-requires
     (λ c κs. search needs)  -- links-of-requires
-    (λ c. (loose-refl _, search needs, search needs))  -- loop-holds
+    (λ c. (loose-refl _, search needs, search needs, search needs))  -- loop-holds
     (λ c. search needs)  -- sub-k
-    (λ c κs. search needs)  -- fewest-requires
+    (λ c κs. search needs)  -- best-of-requires
     (λ c κs. search needs)  -- bit-requires
     (λ c. search needs)  -- mul-linked
     (λ c. search needs)  -- array-read-linked

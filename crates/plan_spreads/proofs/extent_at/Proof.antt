@@ -1,16 +1,16 @@
--- `plan_spreads::spread_at` meets its contract. The loop needs no invariant: what its bound is, the call before it
+-- `plan_spreads::extent_at` meets its contract. The loop needs no invariant: what its bound is, the call before it
 -- says.
 use Prim.Native.Nat.{_-_}
 use native.Mathlib.Omega.{arith}
 use borrow.Author.Needs.{needs}
-use Rattle.plan_spreads.proofs.spread_at.Statement.{statement}
-use Rattle.plan_spreads.proofs.spread_at.Tie as tie
+use Rattle.plan_spreads.proofs.extent_at.Statement.{statement}
+use Rattle.plan_spreads.proofs.extent_at.Tie as tie
 
 abbrev Inv-loop : tie.InvT-loop
-Inv-loop s at sizes ceiling count least₀ most₀ i₀ least most i = Unit
+Inv-loop s at sizes ceiling count low₀ most₀ i₀ low most i = Unit
 
 abbrev μ-loop : tie.MeasureT-loop
-μ-loop s at sizes ceiling count least₀ most₀ i₀ least most i = count - i
+μ-loop s at sizes ceiling count low₀ most₀ i₀ low most i = count - i
 
 table-entry-requires : tie.Need-table-entry-requires Inv-loop μ-loop
 table-entry-requires c κs =
@@ -18,8 +18,8 @@ table-entry-requires c κs =
     let start = counted .before .before .before in
     (start .pre .0, omega (arith, counted .entries-of .ensures))
 
-pub spread-at-spec : {M : Type 1} → statement M
-spread-at-spec =
+pub extent-at-spec : {M : Type 1} → statement M
+extent-at-spec =
     tie.close
     (tie.spec
     Inv-loop

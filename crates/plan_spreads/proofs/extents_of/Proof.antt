@@ -1,5 +1,5 @@
--- `plan_spreads::spreads_of` meets its contract. The invariant: there are four sums. A record whose place is listed is
--- whole, so that its objective has a sum.
+-- `plan_spreads::extents_of` meets its contract. The invariant: there are four sums of each kind. A record whose place
+-- is listed is whole, so that its objective has sums.
 use mathlib.Core.Path.{_≡_}
 use mathlib.Core.List.{List}
 use Prim.Native.Nat.{ℕ, _-_}
@@ -10,14 +10,14 @@ use denote.Ref.{now}
 use borrow.Author.Needs.{needs}
 use Rattle.model.proofs.Elements.{all-below}
 use Rattle.problem.specs.Records.{Whole}
-use Rattle.plan_spreads.proofs.spreads_of.Statement.{statement}
-use Rattle.plan_spreads.proofs.spreads_of.Tie as tie
+use Rattle.plan_spreads.proofs.extents_of.Statement.{statement}
+use Rattle.plan_spreads.proofs.extents_of.Tie as tie
 
 abbrev Inv-loop : tie.InvT-loop
-Inv-loop s sizes r places ceilings sums₀ i₀ sums i = length sums ≡ 4
+Inv-loop s sizes r places ceilings lows₀ mosts₀ i₀ lows mosts i = (length lows ≡ 4) × (length mosts ≡ 4)
 
 abbrev μ-loop : tie.MeasureT-loop
-μ-loop s sizes r places ceilings sums₀ i₀ sums i = r - i
+μ-loop s sizes r places ceilings lows₀ mosts₀ i₀ lows mosts i = r - i
 
 -- in the loop: the domain sizes, the bytes, and the place of the record
 abbrev domains : tie.In-loop Inv-loop μ-loop → List ℕ
@@ -54,27 +54,38 @@ record-at-requires c κs =
     let known = c .before .before .before in
     (whole (c .before), known .before .before .before .pre .0)
 
-array-read-wrapping-add-u64 : tie.Need-array-read-wrapping-add-u64 Inv-loop μ-loop
-array-read-wrapping-add-u64 c =
+array-read-extent-at : tie.Need-array-read-extent-at Inv-loop μ-loop
+array-read-extent-at c =
     omega (arith, c .before .record-at .ensures .objective, whole (c .before .before .before) .owner)
 
-array-read-spread-at : tie.Need-array-read-spread-at Inv-loop μ-loop
-array-read-spread-at c =
-    omega (arith, c .before .record-at .ensures .objective, whole (c .before .before .before) .owner)
-
-spread-at-requires : tie.Need-spread-at-requires Inv-loop μ-loop
-spread-at-requires c κs =
+extent-at-requires : tie.Need-extent-at-requires Inv-loop μ-loop
+extent-at-requires c κs =
     let inside = c .before .before .before in
     let known = inside .before .before .before .before in
     (whole inside, known .before .pre .0)
 
-array-write-sums : tie.Need-array-write-sums Inv-loop μ-loop
-array-write-sums c =
+array-read-wrapping-add-u64 : tie.Need-array-read-wrapping-add-u64 Inv-loop μ-loop
+array-read-wrapping-add-u64 c =
+    let read = c .before .before in
+    omega (arith, read .record-at .ensures .objective, whole (read .before .before) .owner)
+
+array-write-lows : tie.Need-array-write-lows Inv-loop μ-loop
+array-write-lows c =
     let read = c .before .before .before in
     omega (arith, read .record-at .ensures .objective, whole (read .before .before) .owner)
 
-pub spreads-of-spec : {M : Type 1} → statement M
-spreads-of-spec =
+array-read-wrapping-add-u64-2 : tie.Need-array-read-wrapping-add-u64-2 Inv-loop μ-loop
+array-read-wrapping-add-u64-2 c =
+    let read = c .before .before .before in
+    omega (arith, read .record-at .ensures .objective, whole (read .before .before) .owner)
+
+array-write-mosts : tie.Need-array-write-mosts Inv-loop μ-loop
+array-write-mosts c =
+    let read = c .before .before .before .before in
+    omega (arith, read .record-at .ensures .objective, whole (read .before .before) .owner)
+
+pub extents-of-spec : {M : Type 1} → statement M
+extents-of-spec =
     tie.close
     (tie.spec
     Inv-loop
@@ -85,14 +96,19 @@ spreads-of-spec =
     cast-at
     record-at-requires
     (λ c. search needs)  -- cast-o
+    (λ c. search needs)  -- mul-extent-at
+    array-read-extent-at
+    extent-at-requires
     (λ c. search needs)  -- mul-wrapping-add-u64
     array-read-wrapping-add-u64
-    (λ c. search needs)  -- mul-spread-at
-    array-read-spread-at
-    spread-at-requires
     (λ c κs. search needs)  -- wrapping-add-u64-requires
-    (λ c. search needs)  -- mul-sums
-    array-write-sums
+    (λ c. search needs)  -- mul-lows
+    array-write-lows
+    (λ c. search needs)  -- mul-wrapping-add-u64-2
+    array-read-wrapping-add-u64-2
+    (λ c κs. search needs)  -- wrapping-add-u64-requires-2
+    (λ c. search needs)  -- mul-mosts
+    array-write-mosts
     (λ c. search needs)  -- add-i
     (λ c. search needs)  -- loop-less
     (λ c. search needs)  -- loop-again

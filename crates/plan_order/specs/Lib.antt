@@ -1,0 +1,2 @@
+-- What the scores of variables stay below.
+pub mod Fill
