@@ -7,7 +7,8 @@ use Rattle.plan_numbers.proofs.with_share.Statement.{statement}
 use Rattle.plan_numbers.proofs.with_share.Tie as tie
 
 abbrev Inv-loop : tie.InvT-loop
-Inv-loop sharing among least total₀ rest₀ i₀ total rest i = (length least ≡ 64) × (length total ≡ 64) × (length rest ≡ 64)
+Inv-loop sharing among least total₀ rest₀ i₀ total rest i =
+    (length least ≡ 64) × (length total ≡ 64) × (length rest ≡ 64)
 
 abbrev μ-loop : tie.MeasureT-loop
 μ-loop sharing among least total₀ rest₀ i₀ total rest i = 64 - i
