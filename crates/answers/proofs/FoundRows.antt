@@ -19,7 +19,8 @@ use Rattle.model.proofs.Flat.{divided-fits}
 use Rattle.model.proofs.Frontier.{listed-words}
 use Rattle.model.proofs.Reading.{accepted-rules}
 use Rattle.layout.specs.Layout.{listEnd}
-use Rattle.rows.specs.Rows.{listIn, WordCosts, RowsHold}
+use Rattle.rows.specs.Rows.{listIn}
+use Rattle.rows_out.specs.Records.{WordCosts, RowsHold}
 use Rattle.problem.specs.declared.Reading as DG
 use Rattle.problem.proofs.Accepted.{AcceptedReading}
 use Rattle.problem.proofs.Readings.{objectives-are, variables-are}

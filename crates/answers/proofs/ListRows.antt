@@ -14,7 +14,8 @@ use Rattle.model.specs.Encoding.{Byte}
 use Rattle.model.specs.Reading.{problemOf}
 use Rattle.model.specs.Frontiers.{Point, frontier}
 use Rattle.model.specs.Calls.{workAfter}
-use Rattle.rows.specs.Rows.{listIn, RowsHold}
+use Rattle.rows.specs.Rows.{listIn}
+use Rattle.rows_out.specs.Records.{RowsHold}
 use Rattle.problem.specs.declared.Refusal as DR
 use Rattle.problem.specs.declared.Reading as DG
 use Rattle.problem.specs.Says.{RefusalSays}

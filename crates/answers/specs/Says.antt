@@ -14,7 +14,8 @@ use Rattle.model.specs.Frontiers.{frontier}
 use Rattle.model.specs.Calls.{over, divided, flatCosts, flatChoices, SolveOutcome, answers, workAfter, solveVerdict}
 use Rattle.model.specs.declared.Header as DM
 use Rattle.layout.specs.Layout.{listEnd}
-use Rattle.rows.specs.Rows.{listIn, RowsHold}
+use Rattle.rows.specs.Rows.{listIn}
+use Rattle.rows_out.specs.Records.{RowsHold}
 use Rattle.pass_list.specs.declared.Found as DF
 use Rattle.answers.specs.declared.Answer as DA
 use Rattle.answers.specs.declared.Listed as DI

@@ -64,7 +64,7 @@ pub fn flat_room(head: model::Header, costs: usize, choices: usize) -> usize
 {
     let n = head.variables as usize;
     let p = head.objectives as usize;
-    rows::room_of(costs, choices, p, n)
+    rows_out::room_of(costs, choices, p, n)
 }
 
 // The first `count` rows of work memory in the flat buffers: costs, then choices, of one point after another.
@@ -83,9 +83,9 @@ pub fn copy_out(
 {
     let n = head.variables as usize;
     let p = head.objectives as usize;
-    rows::copy_costs(work, count, n, p, costs);
-    rows::copy_choices(work, count, n, p, choices);
-    rows::clear(work);
+    rows_out::copy_costs(work, count, n, p, costs);
+    rows_out::copy_choices(work, count, n, p, choices);
+    rows_out::clear(work);
 }
 
 // 15 where a list is longer than the room, else 0.
@@ -159,7 +159,7 @@ pub fn found_rows(head: model::Header, found: pass_list::Found, work: &mut [u32]
         variables: head.variables as usize,
     };
     if found.full {
-        rows::clear(work);
+        rows_out::clear(work);
         return list;
     }
     list
@@ -179,7 +179,7 @@ pub fn settle(found: Listed, work: &mut [u32]) -> Answer
         count,
     };
     if found.number == 0 {
-        rows::clear(work);
+        rows_out::clear(work);
         return answer;
     }
     answer

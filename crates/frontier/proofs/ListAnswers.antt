@@ -11,8 +11,9 @@ use Rattle.model.specs.Reading.{problemOf}
 use Rattle.model.specs.Frontiers.{Point, frontier}
 use Rattle.model.specs.Calls.{over, pointRecords, answers, solveVerdict, ListOutcome, listOutcome}
 use Rattle.model.specs.declared.Point as DP
-use Rattle.rows.specs.Rows.{listIn, recordOf, recordsOf}
+use Rattle.rows.specs.Rows.{listIn}
 use Rattle.rows.proofs.RowParts.{rows-length}
+use Rattle.rows_out.specs.Records.{recordOf, recordsOf}
 use Rattle.answers.specs.declared.Answer as DA
 use Rattle.answers.specs.declared.Listed as DI
 use Rattle.answers.specs.Says.{listVerdict, ListedSays}

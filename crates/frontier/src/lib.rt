@@ -86,7 +86,7 @@ pub fn list_points(problem: &[u8], points: &mut [model::Point], work: &mut [u32]
         (now (points .exit)) (now (work .exit)) (r .number) (r .place) (r .count) ⌝ }
 {
     let found = solve_call::list_rows(problem, points.len(), work);
-    rows::copy_points(work, found.count, found.variables, found.objectives, points);
+    rows_out::copy_points(work, found.count, found.variables, found.objectives, points);
     answers::settle(found, work)
 }
 

@@ -1,6 +1,7 @@
 -- The laws that the functions' proofs share.
 pub mod SumsOver
 pub mod Overwritten
+pub mod Copied
 pub mod Keeping
 pub mod Adding
 pub mod PlacedRecords

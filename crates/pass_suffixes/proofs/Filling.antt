@@ -7,7 +7,7 @@ use native.Mathlib.Nat.{sub-self}
 use lib.ListN.{length, set, replicate, length-replicate, getD-replicate}
 use lib.Seq.{take-all}
 use Rattle.groups.proofs.Overwritten.{over}
-use Rattle.rows.proofs.Copied.{Copied, copied-start, copied-length, copied-next, copied-end}
+use Rattle.groups.proofs.Copied.{Copied, copied-start, copied-length, copied-next, copied-end}
 
 pub record Filling (old : List ℕ) (from end a : ℕ) (new : List ℕ) (at : ℕ) : Type 0 where
   pub rising : from ≤ end

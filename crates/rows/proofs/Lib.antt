@@ -2,9 +2,7 @@
 pub mod Arrays
 pub mod Tabulated
 pub mod RowNumbers
-pub mod Copied
 pub mod PaddedParts
-pub mod RowsOut
 pub mod RowParts
 pub mod RowPlaces
 pub mod Changing
@@ -12,4 +10,3 @@ pub mod Packing
 pub mod RowWrites
 pub mod RowsKept
 pub mod RowLists
-pub mod RecordsOut

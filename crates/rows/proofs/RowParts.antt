@@ -1,5 +1,4 @@
--- The rows of the list: how many, one more, what each has of what all have; their costs and values as the buffers take
--- them.
+-- The rows of the list: how many, one more, and what each has of what all have.
 use mathlib.Core.Path.{_≡_, refl, ap}
 use mathlib.Core.List.{List, [], _∷_, _++_}
 use Prim.Native.Nat.{ℕ, zero, suc, _+_, _<_}
@@ -8,21 +7,9 @@ use native.Mathlib.Nat.{add-zero}
 use lib.ListN.{length}
 use Rattle.model.specs.Basics.{All}
 use Rattle.model.specs.Frontiers.{Point}
-use Rattle.model.specs.Calls.{flatCosts, flatChoices}
-use Rattle.rows.specs.Rows.{costsIn, valuesIn, pointIn, listIn}
-use Rattle.rows.proofs.RowsOut.{joined}
+use Rattle.rows.specs.Rows.{pointIn, listIn}
 
 module _ (p n : ℕ) (work : List ℕ) where
-  pub flat-costs : (i k : ℕ) → flatCosts (listIn p n work i k) ≡ joined (costsIn p work) i k
-  unfolding flatCosts listIn joined
-  flat-costs i zero = refl
-  flat-costs i (suc k) = ap (_++_ (costsIn p work i)) (flat-costs (i + 1) k)
-
-  pub flat-choices : (i k : ℕ) → flatChoices (listIn p n work i k) ≡ joined (valuesIn n work) i k
-  unfolding flatChoices listIn joined
-  flat-choices i zero = refl
-  flat-choices i (suc k) = ap (_++_ (valuesIn n work i)) (flat-choices (i + 1) k)
-
   -- how many, and one more
   pub rows-length : (i k : ℕ) → length (listIn p n work i k) ≡ k
   unfolding listIn

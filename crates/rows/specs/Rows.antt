@@ -1,5 +1,5 @@
 -- The listed points in work memory, a row of 14 numbers each: four costs of two numbers, and 24 values of a byte, four
--- to a number. And points as records.
+-- to a number.
 use mathlib.Core.Path.{_≡_}
 use mathlib.Core.Logic.{_⊎_}
 use mathlib.Core.List.{List, [], _∷_}
@@ -7,10 +7,7 @@ use Prim.Native.Nat.{ℕ, zero, suc, _+_, _*_, _/_, _%_, _^_, _≤_, _<_}
 use lib.ListN.{length, getD, take, drop}
 use Rattle.model.specs.Basics.{All}
 use Rattle.model.specs.Limits.{maxObjectives, maxVariables, maxPoints, wordEnd}
-use Rattle.model.specs.Problems.{Word}
 use Rattle.model.specs.Frontiers.{Point, point}
-use Rattle.model.specs.Calls.{padded}
-use Rattle.model.specs.declared.Point as DP
 use Rattle.layout.specs.Layout.{listAt, rowWidth, listEnd}
 
 -- where row i starts
@@ -79,23 +76,3 @@ pub record RowWritten (work : List ℕ) (k : ℕ) (row : Point) (work′ : List 
   pub frame : Framed work work′
   pub written : rowIn work′ k ≡ row
   pub others : (j : ℕ) → j ≤ maxPoints → (j ≡ k → ⊥) → rowIn work′ j ≡ rowIn work j
-
--- a point as a record of four costs and 24 choices, the unused ones zero
-abbrev pub recordOf : Point → DP.Point
-recordOf t = record { costs = padded maxObjectives (t .costs); choice = padded maxVariables (t .choice) }
-
-unfoldable pub recordsOf : List Point → List DP.Point
-recordsOf [] = []
-recordsOf (t ∷ ts) = recordOf t ∷ recordsOf ts
-
--- a point whose costs leave as 32-bit numbers
-abbrev pub WordCosts : Point → Type 0
-WordCosts t = All Word (t .costs)
-
--- what copying k rows out as records asks of work memory
-pub record RowsHold (p n k : ℕ) (work : List ℕ) : Type 0 where
-  pub objectives : p ≤ maxObjectives
-  pub variables : n ≤ maxVariables
-  pub few : k ≤ maxPoints
-  pub memory : 0 < k → listEnd ≤ length work
-  pub words : All WordCosts (listIn p n work 0 k)

@@ -37,7 +37,7 @@ pub fn list_rows(problem: &[u8], room: usize, work: &mut [u32]) -> answers::List
     if early.number != 0 {
         return answers::not_listed(early);
     }
-    let found = listing::find_list(problem, g, rows::room_for(room), false, work);
+    let found = listing::find_list(problem, g, rows_out::room_for(room), false, work);
     let head = g.head;
     answers::found_rows(head, found, work)
 }

@@ -3,7 +3,7 @@ use mathlib.Core.List.{map}
 use Prim.Native.Nat.{_*_, _-_, _<_}
 use native.Mathlib.Omega.{arith}
 use denote.Ref.{now}
-use Rattle.rows.proofs.Copied.{Copied, copied-start, copied-length, copied-next, copied-end}
+use Rattle.groups.proofs.Copied.{Copied, copied-start, copied-length, copied-next, copied-end}
 use Rattle.branch_zones.specs.Zones.{zoneWidth, clamped}
 use Rattle.branch_zones.proofs.RowWritten.{row-long, row-written}
 use mathlib.Core.Path.{_≡_, sym, _∙_}

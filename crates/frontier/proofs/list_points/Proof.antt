@@ -50,11 +50,12 @@ use Rattle.model.specs.Calls.{over, listOutcome}
 use Rattle.model.specs.declared.Point.{Point}
 use Rattle.model.proofs.Point as P
 use Rattle.problem.proofs.Walks.{sliceOf, OwnedSlice, number, twice}
-use Rattle.rows.specs.Rows.{listIn, recordsOf, RowsHold}
-use Rattle.rows.proofs.copy_points as copy
-use Rattle.rows.proofs.copy_points.Symbol as copy-def
-use Rattle.rows.proofs.copy_points.Symbol.{name as #copy-points}
-use Rattle.rows.proofs.copy_points.Met as copy-thm
+use Rattle.rows.specs.Rows.{listIn}
+use Rattle.rows_out.specs.Records.{recordsOf, RowsHold}
+use Rattle.rows_out.proofs.copy_points as copy
+use Rattle.rows_out.proofs.copy_points.Symbol as copy-def
+use Rattle.rows_out.proofs.copy_points.Symbol.{name as #copy-points}
+use Rattle.rows_out.proofs.copy_points.Met as copy-thm
 use Rattle.answers.specs.declared.Answer.{Answer}
 use Rattle.answers.specs.declared.Listed.{Listed}
 use Rattle.answers.specs.Says.{answerOf, ListedSays}
@@ -465,7 +466,7 @@ list-points-spec 𝓤 H 𝓜 𝓖 𝓡 =
     (meets 𝓤 H A W (𝓜 .mem) (𝓡 .run) (tablesOf 𝓤 H 𝓜 (tables 𝓤 H 𝓜 𝓡 code.env))
     (cited 𝓤 H (Find 𝓤 H A W (𝓜 .mem) (𝓡 .run)) 𝓜 𝓡 code.env #list-rows find-def.routine code.calls-solve-call·list-rows
     (find-thm.met 𝓤 H 𝓜 𝓖 𝓡))
-    (cited 𝓤 H (Copy 𝓤 H A W (𝓜 .mem) (𝓡 .run)) 𝓜 𝓡 code.env #copy-points copy-def.routine code.calls-rows·copy-points
-    (copy-thm.met 𝓤 H 𝓜 𝓖 𝓡))
+    (cited 𝓤 H (Copy 𝓤 H A W (𝓜 .mem) (𝓡 .run)) 𝓜 𝓡 code.env #copy-points copy-def.routine
+    code.calls-rows-out·copy-points (copy-thm.met 𝓤 H 𝓜 𝓖 𝓡))
     (cited 𝓤 H (End 𝓤 H A W (𝓜 .mem) (𝓡 .run)) 𝓜 𝓡 code.env #settle end-def.routine code.calls-answers·settle
     (end-thm.met 𝓤 H 𝓜 𝓖 𝓡)))

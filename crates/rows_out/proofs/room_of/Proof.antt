@@ -1,11 +1,11 @@
--- `rows::room_of` meets its contract.
+-- `rows_out::room_of` meets its contract.
 use mathlib.Core.Path.{_≡_, refl, ap, _∙_}
 use Prim.Native.Nat.{ℕ, zero, suc, _/_, _≤_, min}
 use native.Mathlib.Omega.{arith}
 use borrow.Author.Needs.{needs}
 use Rattle.model.specs.Calls.{divided}
-use Rattle.rows.proofs.room_of.Statement.{statement}
-use Rattle.rows.proofs.room_of.Tie as tie
+use Rattle.rows_out.proofs.room_of.Statement.{statement}
+use Rattle.rows_out.proofs.room_of.Tie as tie
 
 -- nothing is divided by 0
 divided-is : (a b : ℕ) → 1 ≤ b → divided a b ≡ a / b

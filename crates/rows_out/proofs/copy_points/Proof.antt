@@ -1,5 +1,5 @@
--- `rows::copy_points` meets its contract, by hand: a loop, in its turn a call of `point_at` and a store of the record
--- that it gives.
+-- `rows_out::copy_points` meets its contract, by hand: a loop, in its turn a call of `point_at` and a store of the
+-- record that it gives.
 -- The invariant: the records of the rows passed are written, and the rest is as it was. The borrow of the records is
 -- closed between turns; a turn opens it, takes one record out, stores to it, and closes it at the new list.
 use mathlib.Core.Path.{_≡_, refl, sym, _∙_, ap, subst}
@@ -62,18 +62,19 @@ use Rattle.model.proofs.Point as P
 use Rattle.model.proofs.Point.Laws as P′
 use Rattle.problem.proofs.Walks.{sliceOf, OwnedSlice, number, twice}
 use Rattle.layout.specs.Layout.{listEnd}
-use Rattle.rows.specs.Rows.{pointIn, recordOf, WordCosts, RowsHold}
+use Rattle.rows.specs.Rows.{pointIn}
 use Rattle.rows.proofs.RowParts.{row-has}
-use Rattle.rows.proofs.RecordsOut.{written, written-none, written-length, written-next}
-use Rattle.rows.proofs.point_at as callee
-use Rattle.rows.proofs.point_at.Symbol as callee-def
-use Rattle.rows.proofs.point_at.Symbol.{name as #point-at}
-use Rattle.rows.proofs.point_at.Met as callee-thm
-use Rattle.rows.proofs.copy_points.Key.{name as #copy-points}
-use Rattle.rows.proofs.copy_points as f
-use Rattle.rows.proofs.copy_points.Statement as stated
-use Rattle.rows.proofs.copy_points.Code as code
-use Rattle.rows.proofs.copy_points.Code.Mir as body
+use Rattle.rows_out.specs.Records.{recordOf, WordCosts, RowsHold}
+use Rattle.rows_out.proofs.RecordsOut.{written, written-none, written-length, written-next}
+use Rattle.rows_out.proofs.point_at as callee
+use Rattle.rows_out.proofs.point_at.Symbol as callee-def
+use Rattle.rows_out.proofs.point_at.Symbol.{name as #point-at}
+use Rattle.rows_out.proofs.point_at.Met as callee-thm
+use Rattle.rows_out.proofs.copy_points.Key.{name as #copy-points}
+use Rattle.rows_out.proofs.copy_points as f
+use Rattle.rows_out.proofs.copy_points.Statement as stated
+use Rattle.rows_out.proofs.copy_points.Code as code
+use Rattle.rows_out.proofs.copy_points.Code.Mir as body
 
 abbrev R : RattleType
 R = P.the-row
@@ -394,4 +395,4 @@ copy-points-spec 𝓤 H 𝓜 𝓖 𝓡 =
     (tables 𝓤 H 𝓜 𝓡 code.env .C) (tables 𝓤 H 𝓜 𝓡 code.env .Λ) #copy-points code.function (code.unfolded 𝓤 H 𝓜 𝓡)
     (meets 𝓤 H (𝓖 .A) (givenOf 𝓤 H 𝓜 𝓖) (𝓜 .mem) (𝓡 .run) (tablesOf 𝓤 H 𝓜 (tables 𝓤 H 𝓜 𝓡 code.env))
     (cited 𝓤 H (PointAt 𝓤 H (𝓖 .A) (givenOf 𝓤 H 𝓜 𝓖) (𝓜 .mem) (𝓡 .run)) 𝓜 𝓡 code.env #point-at callee-def.routine
-    code.calls-rows·point-at (callee-thm.met 𝓤 H 𝓜 𝓖 𝓡)))
+    code.calls-rows-out·point-at (callee-thm.met 𝓤 H 𝓜 𝓖 𝓡)))

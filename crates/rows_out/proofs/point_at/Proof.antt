@@ -1,15 +1,15 @@
--- `rows::point_at` meets its contract: costs and values are written over zeros.
+-- `rows_out::point_at` meets its contract: costs and values are written over zeros.
 use mathlib.Core.Path.{_≡_}
 use native.Mathlib.Omega.{arith}
 use lib.ListN.{take}
 use denote.Ref.{now}
 use borrow.Author.Needs.{needs}
 use Rattle.model.specs.Limits.{maxObjectives, maxVariables}
 use Rattle.rows.specs.Rows.{costsIn, valuesIn}
-use Rattle.rows.proofs.PaddedParts.{front-over-zeros}
 use Rattle.rows.proofs.RowNumbers.{costs-long, costs-front, values-long, values-front}
-use Rattle.rows.proofs.point_at.Statement.{statement}
-use Rattle.rows.proofs.point_at.Tie as tie
+use Rattle.rows_out.proofs.OverZeros.{front-over-zeros}
+use Rattle.rows_out.proofs.point_at.Statement.{statement}
+use Rattle.rows_out.proofs.point_at.Tie as tie
 
 put-costs-requires : tie.Need-put-costs-requires
 put-costs-requires c κs =

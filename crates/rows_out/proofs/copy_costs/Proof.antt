@@ -1,4 +1,4 @@
--- `rows::copy_costs` meets its contract. The invariant: the costs of the rows passed are written.
+-- `rows_out::copy_costs` meets its contract. The invariant: the costs of the rows passed are written.
 use mathlib.Core.Path.{_≡_}
 use Prim.Native.Nat.{_-_, _≤_}
 use native.Mathlib.Omega.{arith}
@@ -7,12 +7,14 @@ use lib.ListN.{length, take}
 use denote.Ref.{now}
 use Rattle.model.specs.Limits.{maxObjectives}
 use Rattle.model.proofs.Numbers.{row-room}
-use Rattle.rows.specs.Rows.{costsIn, WordCosts}
-use Rattle.rows.proofs.RowsOut.{Out, out-start, out-length, out-next}
-use Rattle.rows.proofs.RowParts.{flat-costs, row-has}
+use Rattle.rows.specs.Rows.{costsIn}
+use Rattle.rows.proofs.RowParts.{row-has}
 use Rattle.rows.proofs.RowNumbers.{costs-long, costs-front}
-use Rattle.rows.proofs.copy_costs.Statement.{statement}
-use Rattle.rows.proofs.copy_costs.Tie as tie
+use Rattle.rows_out.specs.Records.{WordCosts}
+use Rattle.rows_out.proofs.RowsOut.{Out, out-start, out-length, out-next}
+use Rattle.rows_out.proofs.FlatRows.{flat-costs}
+use Rattle.rows_out.proofs.copy_costs.Statement.{statement}
+use Rattle.rows_out.proofs.copy_costs.Tie as tie
 
 abbrev Inv-loop : tie.InvT-loop
 Inv-loop work k n p costs₀ row₀ costs row = (row ≤ k) × Out (costsIn p work) p costs₀ costs row

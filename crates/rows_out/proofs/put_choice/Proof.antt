@@ -1,14 +1,14 @@
--- `rows::put_choice` meets its contract. The invariant: the values passed are written.
+-- `rows_out::put_choice` meets its contract. The invariant: the values passed are written.
 use mathlib.Core.Path.{refl}
 use Prim.Native.Nat.{_-_}
 use native.Mathlib.Omega.{arith}
 use mir.Syntax.{w8}
 use denote.Ref.{now}
 use Rattle.model.specs.Limits.{maxVariables}
+use Rattle.groups.proofs.Copied.{Copied, copied-start, copied-length, copied-next, copied-end}
 use Rattle.rows.proofs.Arrays.{array-length}
-use Rattle.rows.proofs.Copied.{Copied, copied-start, copied-length, copied-next, copied-end}
-use Rattle.rows.proofs.put_choice.Statement.{statement}
-use Rattle.rows.proofs.put_choice.Tie as tie
+use Rattle.rows_out.proofs.put_choice.Statement.{statement}
+use Rattle.rows_out.proofs.put_choice.Tie as tie
 
 abbrev Inv-loop : tie.InvT-loop
 Inv-loop count choices₀ to row i₀ choices i = Copied choices₀ to row count choices i

@@ -1,4 +1,4 @@
--- `rows::put_costs` meets its contract. The invariant: the costs passed are written.
+-- `rows_out::put_costs` meets its contract. The invariant: the costs passed are written.
 use mathlib.Core.Path.{refl}
 use Prim.Native.Nat.{_-_, _≤_}
 use native.Mathlib.Omega.{arith}
@@ -8,10 +8,10 @@ use denote.Ref.{now}
 use Rattle.model.specs.Limits.{maxObjectives}
 use Rattle.model.specs.Problems.{Word}
 use Rattle.model.proofs.Elements.{front-each}
+use Rattle.groups.proofs.Copied.{Copied, copied-start, copied-length, copied-next, copied-end}
 use Rattle.rows.proofs.Arrays.{array-length}
-use Rattle.rows.proofs.Copied.{Copied, copied-start, copied-length, copied-next, copied-end}
-use Rattle.rows.proofs.put_costs.Statement.{statement}
-use Rattle.rows.proofs.put_costs.Tie as tie
+use Rattle.rows_out.proofs.put_costs.Statement.{statement}
+use Rattle.rows_out.proofs.put_costs.Tie as tie
 
 abbrev Inv-loop : tie.InvT-loop
 Inv-loop count costs₀ to row i₀ costs i = Copied costs₀ to row count costs i

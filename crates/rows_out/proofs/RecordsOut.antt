@@ -10,8 +10,9 @@ use lib.Seq.{set-at, drop-cons}
 use Rattle.model.specs.Frontiers.{Point}
 use Rattle.model.specs.Calls.{over}
 use Rattle.model.specs.declared.Point as DP
-use Rattle.rows.specs.Rows.{pointIn, listIn, recordOf, recordsOf}
+use Rattle.rows.specs.Rows.{pointIn, listIn}
 use Rattle.rows.proofs.RowParts.{rows-length, rows-more}
+use Rattle.rows_out.specs.Records.{recordOf, recordsOf}
 
 records-count : (ts : List Point) → length (recordsOf ts) ≡ length ts
 unfolding recordsOf

@@ -1,4 +1,4 @@
--- `rows::clear` meets its contract. The invariant: zeros are written from the start on.
+-- `rows_out::clear` meets its contract. The invariant: zeros are written from the start on.
 use mathlib.Core.Path.{_≡_, sym, _∙_}
 use mathlib.Core.List.{List, append-nil}
 use Prim.Native.Nat.{ℕ, _-_, _<_}
@@ -7,9 +7,9 @@ use native.Mathlib.Nat.{zero-add}
 use lib.ListN.{length, replicate, length-replicate, getD-replicate}
 use lib.Seq.{paste, drop-length, take-all}
 use denote.Ref.{now}
-use Rattle.rows.proofs.Copied.{Copied, copied-start, copied-length, copied-next, copied-end}
-use Rattle.rows.proofs.clear.Statement.{statement}
-use Rattle.rows.proofs.clear.Tie as tie
+use Rattle.groups.proofs.Copied.{Copied, copied-start, copied-length, copied-next, copied-end}
+use Rattle.rows_out.proofs.clear.Statement.{statement}
+use Rattle.rows_out.proofs.clear.Tie as tie
 
 abbrev Inv-loop : tie.InvT-loop
 Inv-loop work₀ i₀ work i = Copied work₀ 0 (replicate (length work₀) 0) (length work₀) work i

@@ -1,4 +1,4 @@
--- `rows::copy_choices` meets its contract. The invariant: the values of the rows passed are written.
+-- `rows_out::copy_choices` meets its contract. The invariant: the values of the rows passed are written.
 use mathlib.Core.Path.{_≡_}
 use Prim.Native.Nat.{_-_, _≤_}
 use native.Mathlib.Omega.{arith}
@@ -6,12 +6,12 @@ use lib.ListN.{length, take}
 use denote.Ref.{now}
 use Rattle.model.specs.Limits.{maxVariables}
 use Rattle.model.proofs.Numbers.{row-room}
 use Rattle.rows.specs.Rows.{valuesIn}
-use Rattle.rows.proofs.RowsOut.{Out, out-start, out-length, out-next}
-use Rattle.rows.proofs.RowParts.{flat-choices}
 use Rattle.rows.proofs.RowNumbers.{values-long, values-front}
-use Rattle.rows.proofs.copy_choices.Statement.{statement}
-use Rattle.rows.proofs.copy_choices.Tie as tie
+use Rattle.rows_out.proofs.RowsOut.{Out, out-start, out-length, out-next}
+use Rattle.rows_out.proofs.FlatRows.{flat-choices}
+use Rattle.rows_out.proofs.copy_choices.Statement.{statement}
+use Rattle.rows_out.proofs.copy_choices.Tie as tie
 
 abbrev Inv-loop : tie.InvT-loop
 Inv-loop work k n p choices₀ row₀ choices row = (row ≤ k) × Out (valuesIn n work) n choices₀ choices row

@@ -1,0 +1,2 @@
+-- The listed points as they leave work memory.
+pub mod Records
