@@ -65,14 +65,17 @@ fn kind_of(turn: usize, best: Best) -> usize {
 
 // How many partial choices a turn may open; the last more than it ever will.
 fn budget_of(turn: usize) -> u64 {
+    if turn == 0 {
+        return 100000;
+    }
     if turn < 3 {
-        return 25000;
+        return 50000;
     }
     if turn == 3 {
-        return 300000;
+        return 400000;
     }
     if turn < 7 {
-        return 150000;
+        return 200000;
     }
     9223372036854775808
 }
