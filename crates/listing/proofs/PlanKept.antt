@@ -54,7 +54,7 @@ module _ (work : List ℕ) (from : ℕ) (inside : from ≤ length work) (kept : 
       (rw whole (take-append-le (a + k) (take from work) kept (omega (arith, front)) ∙ take-take (a + k) from work h))
       ∙ sym (take-drop k a work)
 
-module _ {r : ℕ} {ds s work : List ℕ} (p : Plannable r ds s work) (d : DD.Directions) (sensible : Sensible d) where
+module _ {r : ℕ} {ds s work : List ℕ} (p : Plannable r ds s work) where
   count : length (sourceIn work r) ≡ r
   count = length-take-le r (drop sourceAt work) (omega (arith, length-drop sourceAt work, p .few, p .long))
 
@@ -88,83 +88,89 @@ module _ {r : ℕ} {ds s work : List ℕ} (p : Plannable r ds s work) (d : DD.Di
     inside : listEnd ≤ length copied
     inside = omega (arith, copied-long, p .long)
 
-    -- what making a plan asks for
     behind : behindAt copied listEnd ≡ drop listEnd copied
     behind = behind-all copied listEnd inside (behindAt copied listEnd) refl
 
-    pub plan-asked : Planned d r ds s (behindAt copied listEnd) × (numbersAt ≤ length (behindAt copied listEnd))
-    plan-asked =
-        rw behind (
-          record {
-            sensible = sensible;
-            small = p .small;
-            variables = p .variables;
-            few = p .few;
-            whole = rw copied-places (p .whole);
-            long = omega (arith, length-drop listEnd copied, copied-long, p .long);
-          },
-          omega (arith, length-drop listEnd copied, copied-long, p .long),
-        )
+    -- what making plans asks for: the records' places come first, and there is room
+    pub places-whole : All (Whole ds s) (take r (behindAt copied listEnd))
+    places-whole = rw (behind, copied-places) (p .whole)
 
-    -- the plan is made
-    module _ (plan : List ℕ)
-        (made : (length plan ≡ length (behindAt copied listEnd)) × All (Whole ds s) (take r plan)
-        × Rearranged (take r (behindAt copied listEnd)) (take r plan)
-        × Rearranged (countFrom 0 maxMessages) (take maxMessages (drop childrenAt plan))) where
+    pub plan-long : numbersAt ≤ length (behindAt copied listEnd)
+    plan-long = rw behind (omega (arith, length-drop listEnd copied, copied-long, p .long))
+
+    pub plan-asked :
+        (d : DD.Directions) → Sensible d →
+        Planned d r ds s (behindAt copied listEnd) × (numbersAt ≤ length (behindAt copied listEnd))
+    plan-asked d sensible = (
+      record {
+        sensible = sensible;
+        small = p .small;
+        variables = p .variables;
+        few = p .few;
+        whole = places-whole;
+        long = omega (arith, plan-long);
+      },
+      plan-long,
+    )
+
+    -- plans are made: the problem's records and the archive stand before them
+    module _ (plan : List ℕ) (same : length plan ≡ length (behindAt copied listEnd)) where
       abbrev after : List ℕ
       after = written copied listEnd plan
 
       after-plan : planIn after ≡ plan
-      after-plan = written-here copied listEnd inside plan (made .0)
+      after-plan = written-here copied listEnd inside plan same
 
       after-source : sourceIn after r ≡ sourceIn work r
       after-source =
-          written-front copied listEnd inside plan (made .0) r sourceAt (omega (arith, p .few)) ∙ copied-source
+          written-front copied listEnd inside plan same r sourceAt (omega (arith, p .few)) ∙ copied-source
 
       pub plan-kept : Kept r work after
       plan-kept = record {
-        long = written-long copied listEnd inside plan (made .0) ∙ copied-long;
+        long = written-long copied listEnd inside plan same ∙ copied-long;
         source = after-source;
       }
 
-      -- the plan begins behind the archive
       pub rows-kept : rowsIn (written copied listEnd plan) ≡ rowsIn work
       rows-kept =
-          written-front copied listEnd inside plan (made .0) (listEnd - listAt) listAt (omega arith) ∙ copied-rows
+          written-front copied listEnd inside plan same (listEnd - listAt) listAt (omega arith) ∙ copied-rows
 
-      after-planned : Planned d r ds s plan
-      after-planned =
-          record {
-            sensible = sensible;
-            small = p .small;
-            variables = p .variables;
-            few = p .few;
-            whole = made .1;
-            long = omega (arith, made .0, ap length behind, length-drop listEnd copied, copied-long, p .long);
-          }
+      -- the last of them is tested
+      module _ (d : DD.Directions) (sensible : Sensible d)
+          (made : All (Whole ds s) (take r plan)
+          × Rearranged (take r (behindAt copied listEnd)) (take r plan)
+          × Rearranged (countFrom 0 maxMessages) (take maxMessages (drop childrenAt plan))) where
+        after-planned : Planned d r ds s plan
+        after-planned =
+            record {
+              sensible = sensible;
+              small = p .small;
+              variables = p .variables;
+              few = p .few;
+              whole = made .0;
+              long = omega (arith, same, plan-long);
+            }
 
-      tested : behindAt after listEnd ≡ plan
-      tested =
-          behind-all after listEnd (omega (arith, written-long copied listEnd inside plan (made .0), inside))
-          (behindAt after listEnd) refl
-          ∙ after-plan
+        tested : behindAt after listEnd ≡ plan
+        tested =
+            behind-all after listEnd (omega (arith, written-long copied listEnd inside plan same, inside))
+            (behindAt after listEnd) refl
+            ∙ after-plan
 
-      -- what testing it asks for
-      pub test-asked : Planned d r ds s (behindAt after listEnd) × (numbersAt ≤ length (behindAt after listEnd))
-      test-asked =
-          rw tested
-          (after-planned, omega (arith, made .0, ap length behind, length-drop listEnd copied, copied-long, p .long))
+        -- what testing it asks for
+        pub test-asked : Planned d r ds s (behindAt after listEnd) × (numbersAt ≤ length (behindAt after listEnd))
+        test-asked = rw tested (after-planned, omega (arith, same, plan-long))
 
-      pub plan-says : Tested d r ds s (behindAt after listEnd) → PlanSays d r ds s work after
-      plan-says passed =
-          record {
-            planned = rw after-plan after-planned;
-            sound =
-                rw (after-source, after-plan)
-                (record {
-                  tested = rw tested at passed;
-                  whole = made .1;
-                  records = rw (behind, copied-places) at (made .2);
-                  messages = made .3;
-                });
-          }
+        pub plan-says : Tested d r ds s (behindAt after listEnd) → PlanSays d r ds s work after
+        plan-says passed =
+            record {
+              planned = rw after-plan after-planned;
+              sound =
+                  rw (after-source, after-plan)
+                  (record {
+                    tested = rw tested at passed;
+                    whole = made .0;
+                    records = rw (behind, copied-places) at (made .1);
+                    messages = made .2;
+                  });
+            }

@@ -111,7 +111,66 @@ fn plan_source(
     plan_test::is_sound(s, sizes, r, d, &work[layout::PLAN_AT..])
 }
 
-// One turn: a plan of this kind is made, tested and searched by. Where it fails its test the archive is as it was.
+// The sums of a plan of this kind. Where a ceiling binds, the fourth of each kind but the first is adapted to the
+// ceilings: that takes plans of its own, which no problem pays for that the first plan answers. The archive stays.
+fn turn_sums(
+    s: &[u8],
+    sizes: &[u8],
+    task: groups::Task,
+    ranges: plan_sums::Ranges,
+    kind: usize,
+    work: &mut [u32],
+) -> branch_directions::Sums
+    requires { ⌜ Explorable task (now sizes) (now s) (now work) ⌝ }
+    ensures { λ _. ⌜ Kept (task .records) (now (work .entry)) (now (work .exit))
+        × (rowsIn (now (work .exit)) ≡ rowsIn (now (work .entry))) ⌝ }
+{
+    let p = task.objectives;
+    let sums = plan_sums::sums_of(kind, p, ranges);
+    if kind == 0 {
+        return sums;
+    }
+    if p < 2 {
+        return sums;
+    }
+    if !ranges.binds {
+        return sums;
+    }
+    groups::copy_numbers(layout::SOURCE_AT, layout::PLAN_AT, task.records, work);
+    let shares = plan_adapting::adapted_shares(
+        s,
+        sizes,
+        task,
+        ranges,
+        kind,
+        &mut work[layout::PLAN_AT..],
+    );
+    plan_sums::with_fourth(sums, shares, ranges)
+}
+
+// A plan with these sums and the order of this kind is made, tested and searched by. Where it fails its test the
+// archive is as it was.
+fn search_by(
+    s: &[u8],
+    sizes: &[u8],
+    task: groups::Task,
+    sums: branch_directions::Sums,
+    kind: usize,
+    from: branch_search::Resume,
+    work: &mut [u32],
+) -> branch_search::Explored
+    requires { ⌜ Explorable task (now sizes) (now s) (now work)
+        × Between (sourceProblem task (now sizes) (now s) (now work)) (task .room) (now work) (from .points) ⌝ }
+    ensures { λ e. ⌜ Turned task (now (sizes .entry)) (now (s .entry)) (now (work .entry)) (now (work .exit)) e ⌝ }
+{
+    let d = branch_directions::choose_directions(task.objectives, sums);
+    if !plan_source(s, sizes, task.records, d, kind, work) {
+        return branch_search::given_up(from.points, 0, 0);
+    }
+    branch_search::explore(from, s, sizes, task, d, work)
+}
+
+// One turn: the sums of a plan of this kind are found, and it is searched by.
 fn search_turn(
     s: &[u8],
     sizes: &[u8],
@@ -125,12 +184,8 @@ fn search_turn(
         × Between (sourceProblem task (now sizes) (now s) (now work)) (task .room) (now work) (from .points) ⌝ }
     ensures { λ e. ⌜ Turned task (now (sizes .entry)) (now (s .entry)) (now (work .entry)) (now (work .exit)) e ⌝ }
 {
-    let p = task.objectives;
-    let d = branch_directions::choose_directions(p, plan_sums::sums_of(kind, p, ranges));
-    if !plan_source(s, sizes, task.records, d, kind, work) {
-        return branch_search::given_up(from.points, 0, 0);
-    }
-    branch_search::explore(from, s, sizes, task, d, work)
+    let sums = turn_sums(s, sizes, task, ranges, kind, work);
+    search_by(s, sizes, task, sums, kind, from, work)
 }
 
 // The turns of a search, each with the archive that the turn before has left.

@@ -22,20 +22,22 @@ making c = c .before .before .before .before
 copy-numbers-requires : tie.Need-copy-numbers-requires
 copy-numbers-requires c κs =
     let s = c .before .before .before .before in
-    copy-asked (s .pre .0) (s .args .d) (s .pre .1)
+    copy-asked (s .pre .0)
 
 make-plan-requires : tie.Need-make-plan-requires
 make-plan-requires c κs =
     let copied : tie.After-copy-numbers = c .before .before .before in
     let s = begun copied in
-    plan-asked (s .pre .0) (s .args .d) (s .pre .1) _ (copied .copy-numbers .ensures)
+    plan-asked (s .pre .0) _ (copied .copy-numbers .ensures) (s .args .d) (s .pre .1)
 
 is-sound-requires : tie.Need-is-sound-requires
 is-sound-requires c κs =
     let made = making c in
     let copied = copying made in
     let s = begun copied in
-    test-asked (s .pre .0) (s .args .d) (s .pre .1) _ (copied .copy-numbers .ensures) _ (made .make-plan .ensures)
+    let plan = made .make-plan .ensures in
+    test-asked (s .pre .0) _ (copied .copy-numbers .ensures) _ (plan .0) (s .args .d) (s .pre .1)
+    (plan .1, plan .2, plan .3)
 
 returns : tie.Need-returns
 returns c =
@@ -44,9 +46,11 @@ returns c =
     let s = begun copied in
     let copy = copied .copy-numbers .ensures in
     let plan = made .make-plan .ensures in (
-      plan-kept (s .pre .0) (s .args .d) (s .pre .1) _ copy _ plan,
-      rows-kept (s .pre .0) (s .args .d) (s .pre .1) _ copy _ plan,
-      λ ok. plan-says (s .pre .0) (s .args .d) (s .pre .1) _ copy _ plan (c .is-sound .ensures ok),
+      plan-kept (s .pre .0) _ copy _ (plan .0),
+      rows-kept (s .pre .0) _ copy _ (plan .0),
+      λ ok.
+          plan-says (s .pre .0) _ copy _ (plan .0) (s .args .d) (s .pre .1) (plan .1, plan .2, plan .3)
+          (c .is-sound .ensures ok),
     )
 
 pub plan-source-spec : {M : Type 1} → statement M
