@@ -125,11 +125,11 @@ module _ (c : Ran) where
   -- what an answer says of the memory before this pass, it says of the memory at the start
   from-start :
       (work : List ℕ) (e : DE.Explored) →
-      ExploredSays (begun .args .task) (length ds) (coreFrontier (sourceProblem (begun .args .task) ds bytes before-pass))
-      before-pass work e →
       ExploredSays (begun .args .task) (length ds)
-      (coreFrontier (sourceProblem (begun .args .task) ds bytes (now (begun .args .work)))) (now (begun .args .work)) work
-      e
+      (coreFrontier (sourceProblem (begun .args .task) ds bytes before-pass)) before-pass work e →
+      ExploredSays (begun .args .task) (length ds)
+      (coreFrontier (sourceProblem (begun .args .task) ds bytes (now (begun .args .work)))) (now (begun .args .work))
+      work e
   from-start = explored-still kept ds bytes
 
   -- the archive that it leaves
