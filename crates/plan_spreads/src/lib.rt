@@ -1,4 +1,4 @@
-// What is known of each objective's costs before the search: the sums of its tables' least and of their largest entries.
+// What is known of each objective's costs before the search: its tables' least and largest entries, added up.
 ghost use Prim.Native.Nat.{_≤_};
 ghost use lib.ListN.{length, take};
 ghost use Rattle.model.specs.Basics.{All};

@@ -35,8 +35,8 @@ loop-again c =
       subst (λ (l : List ℕ). All (λ x. x ≤ maxWeight) l) is
           (with-row-all (λ x. x ≤ maxWeight) (w .weights) row (w .i) (w .inv .2) (new .0)),
       λ h. subst (λ (l : List ℕ). All (λ x. 1 ≤ x) (take 4 l)) is
-          (with-row-first (λ x. 1 ≤ x) (w .weights) row (w .i) 4 (omega arith) four (w .inv .1) (omega arith) (w .inv .3)
-          led),
+          (with-row-first (λ x. 1 ≤ x) (w .weights) row (w .i) 4 (omega arith) four (w .inv .1) (omega arith)
+          (w .inv .3) led),
     )
 
 returns : tie.Need-returns Inv-loop μ-loop

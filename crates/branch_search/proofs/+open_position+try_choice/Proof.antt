@@ -117,7 +117,8 @@ Inv-loop node s sizes task d work₀ n k bound v size rows away leads₀ a₀ le
     × Trying d task sizes s work₀ t₀ node work t leads
 
 abbrev μ-loop : open-lts.MeasureT-loop
-μ-loop node s sizes task d work₀ n k bound v size rows away leads₀ a₀ left t₀ finished₀ work leads a t finished = untried leads
+μ-loop node s sizes task d work₀ n k bound v size rows away leads₀ a₀ left t₀ finished₀ work leads a t finished =
+    untried leads
 
 module _ (t : ℕ) where
   -- ## the places of open_position, each with a name
