@@ -114,7 +114,8 @@ module _ {r : ℕ} {ds s work : List ℕ} (p : Plannable r ds s work) where
     )
 
     -- plans are made: the problem's records and the archive stand before them
-    module _ (plan : List ℕ) (same : length plan ≡ length (behindAt copied listEnd)) where
+    module _ (plan : List ℕ) (same : length plan ≡ length (behindAt copied listEnd))
+        (whole : All (Whole ds s) (take r plan)) where
       abbrev after : List ℕ
       after = written copied listEnd plan
 
@@ -137,8 +138,7 @@ module _ {r : ℕ} {ds s work : List ℕ} (p : Plannable r ds s work) where
 
       -- the last of them is tested
       module _ (d : DD.Directions) (sensible : Sensible d)
-          (made : All (Whole ds s) (take r plan)
-          × Rearranged (take r (behindAt copied listEnd)) (take r plan)
+          (made : Rearranged (take r (behindAt copied listEnd)) (take r plan)
           × Rearranged (countFrom 0 maxMessages) (take maxMessages (drop childrenAt plan))) where
         after-planned : Planned d r ds s plan
         after-planned =
@@ -147,7 +147,7 @@ module _ {r : ℕ} {ds s work : List ℕ} (p : Plannable r ds s work) where
               small = p .small;
               variables = p .variables;
               few = p .few;
-              whole = made .0;
+              whole = whole;
               long = omega (arith, same, plan-long);
             }
 
@@ -169,8 +169,8 @@ module _ {r : ℕ} {ds s work : List ℕ} (p : Plannable r ds s work) where
                   rw (after-source, after-plan)
                   (record {
                     tested = rw tested at passed;
-                    whole = made .0;
-                    records = rw (behind, copied-places) at (made .1);
-                    messages = made .2;
+                    whole = whole;
+                    records = rw (behind, copied-places) at (made .0);
+                    messages = made .1;
                   });
             }

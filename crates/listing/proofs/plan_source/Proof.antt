@@ -36,8 +36,8 @@ is-sound-requires c κs =
     let copied = copying made in
     let s = begun copied in
     let plan = made .make-plan .ensures in
-    test-asked (s .pre .0) _ (copied .copy-numbers .ensures) _ (plan .0) (s .args .d) (s .pre .1)
-    (plan .1, plan .2, plan .3)
+    test-asked (s .pre .0) _ (copied .copy-numbers .ensures) _ (plan .0) (plan .1) (s .args .d) (s .pre .1)
+    (plan .2, plan .3)
 
 returns : tie.Need-returns
 returns c =
@@ -46,10 +46,10 @@ returns c =
     let s = begun copied in
     let copy = copied .copy-numbers .ensures in
     let plan = made .make-plan .ensures in (
-      plan-kept (s .pre .0) _ copy _ (plan .0),
-      rows-kept (s .pre .0) _ copy _ (plan .0),
+      plan-kept (s .pre .0) _ copy _ (plan .0) (plan .1),
+      rows-kept (s .pre .0) _ copy _ (plan .0) (plan .1),
       λ ok.
-          plan-says (s .pre .0) _ copy _ (plan .0) (s .args .d) (s .pre .1) (plan .1, plan .2, plan .3)
+          plan-says (s .pre .0) _ copy _ (plan .0) (plan .1) (s .args .d) (s .pre .1) (plan .2, plan .3)
           (c .is-sound .ensures ok),
     )
 
