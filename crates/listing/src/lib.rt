@@ -14,11 +14,11 @@ ghost use Rattle.branch_directions.specs.Directions.{Sensible};
 ghost use Rattle.branch_search.specs.States.{rowsIn, Between};
 ghost use Rattle.listing.specs.Says.{Searchable, Plannable, Kept, PlanSays, Explorable, Turned};
 
-// A search of the second form has so many turns: 0, 1 and 2 try the three kinds of plan, 3 goes on with the kind that
-// came furthest; 4, 5 and 6 try again with more, and the last goes on with the best as long as it takes.
-const TURNS: usize = 8;
+// A search of the second form has so many turns: the first three try a kind of plan each, and the last goes on with the
+// kind that came furthest, as long as it takes.
+const TURNS: usize = 4;
 
-// The kind of plan that came furthest since turn 0 or 4, and how far.
+// The kind of plan that came furthest, and how far.
 struct Best {
     kind: usize,
     done: u64,
@@ -57,32 +57,27 @@ fn are_short(ceilings: [u64; 4]) -> bool
 
 // The kind of a turn's plan.
 fn kind_of(turn: usize, best: Best) -> usize {
-    if turn % 4 == 3 {
-        return best.kind;
+    if turn < 3 {
+        return turn;
     }
-    turn % 4
+    best.kind
 }
 
-// How many partial choices a turn may open; the last more than it ever will.
+// How many partial choices a turn may open: the first so many that most problems end with it, and the last more than it
+// ever will.
 fn budget_of(turn: usize) -> u64 {
     if turn == 0 {
-        return 100000;
+        return 200000;
     }
     if turn < 3 {
         return 50000;
-    }
-    if turn == 3 {
-        return 400000;
-    }
-    if turn < 7 {
-        return 200000;
     }
     9223372036854775808
 }
 
 // The best kind after a turn by a plan of this kind that came so far.
 fn best_after(best: Best, turn: usize, kind: usize, done: u64) -> Best {
-    if turn % 4 == 0 {
+    if turn == 0 {
         return Best { kind, done };
     }
     if done <= best.done {

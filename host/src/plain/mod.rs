@@ -115,14 +115,13 @@ struct Task<'a> {
 }
 
 /// Positions that may be opened in each turn but the last, in parts of the setting `budget`: three
-/// kinds of plan in turn, the one that came furthest for longer, the three again, and then the best
-/// of these to its end. The first one answers most problems, and all that come before the last cost
-/// no more than a fraction of a second.
-const BUDGETS: [u64; MOST_TURNS - 1] = [2, 1, 1, 8, 4, 4, 4];
+/// kinds of plan in turn, and then the one that came furthest to its end. The first one answers most
+/// problems, and the three together cost no more than a fraction of a second.
+const BUDGETS: [u64; MOST_TURNS - 1] = [4, 1, 1];
 
-/// Which plan of a round came furthest, and how far.
-struct Round {
-    best: usize,
+/// Which kind of plan came furthest, and how far.
+struct Furthest {
+    kind: usize,
     done: f64,
 }
 
@@ -131,9 +130,9 @@ impl Task<'_> {
     fn run<const D: usize>(&self, costs: &mut [u32], choices: &mut [u8]) -> Outcome {
         let mut points: Vec<Point<D>> = Vec::new();
         let mut nodes = 0;
-        let mut round = Round { best: 0, done: 0.0 };
+        let mut furthest = Furthest { kind: 0, done: 0.0 };
         for turn in 0..self.settings.turns {
-            let kind = self.kind(turn, &round);
+            let kind = self.kind(turn, &furthest);
             let directions = self.directions(kind);
             let (buckets, base) = self.plan::<D>(&directions, self.rule(kind));
             let mut search = Search::new(&buckets, &directions, self.settings, self.room, self.end);
@@ -152,8 +151,8 @@ impl Task<'_> {
                 let answer = Some(self.write(points, costs, choices));
                 return Outcome { answer, nodes };
             }
-            if turn % 4 == 0 || done > round.done {
-                round = Round { best: kind, done };
+            if done > furthest.done {
+                furthest = Furthest { kind, done };
             }
         }
         Outcome {
@@ -163,11 +162,11 @@ impl Task<'_> {
     }
 
     /// The kind of plan in a turn: each in turn, and then the one that came furthest.
-    fn kind(&self, turn: usize, round: &Round) -> usize {
-        match (self.settings.kinds, turn % 4) {
+    fn kind(&self, turn: usize, furthest: &Furthest) -> usize {
+        match (self.settings.kinds, turn) {
             (false, _) => 0,
-            (true, 3) => round.best,
-            (true, trial) => trial,
+            (true, 0..=2) => turn,
+            (true, _) => furthest.kind,
         }
     }
 

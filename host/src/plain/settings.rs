@@ -42,7 +42,7 @@ pub struct Settings {
 pub const MOST_WIDTH: usize = 2;
 
 /// There are at most this many turns.
-pub const MOST_TURNS: usize = 8;
+pub const MOST_TURNS: usize = 4;
 
 /// There are at most this many sums.
 pub const MOST_SUMS: usize = 4;
@@ -56,7 +56,7 @@ pub const SETTINGS: &str =
   width=0|1|2        a message is over at most so many variables (2)
   parts=shared|alone what the parts of a bucket have at least is shared alike (shared)
   order=min-degree|natural
-  turns=1..8         so many plans in turn, the last one without a budget (8)
+  turns=1..4         so many plans in turn, the last one without a budget (4)
   budget=N           a plan in turn may open N positions, or a few times as many (50000)
   kinds=three|one    plans in turn have other orders and weights (three)
   slacks=yes|no      a sum by what the ceilings leave, where one binds (yes)

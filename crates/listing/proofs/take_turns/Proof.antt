@@ -14,10 +14,10 @@ use Rattle.listing.proofs.take_turns.Tie as tie
 
 abbrev Inv-loop : tie.InvT-loop
 Inv-loop s sizes task ranges work₀ best₀ points₀ turn₀ work best points turn =
-    (turn ≤ 8) × Kept (task .records) work₀ work × Between (sourceProblem task sizes s work₀) (task .room) work points
+    (turn ≤ 4) × Kept (task .records) work₀ work × Between (sourceProblem task sizes s work₀) (task .room) work points
 
 abbrev μ-loop : tie.MeasureT-loop
-μ-loop s sizes task ranges work₀ best₀ points₀ turn₀ work best points turn = 8 - turn
+μ-loop s sizes task ranges work₀ best₀ points₀ turn₀ work best points turn = 4 - turn
 
 -- ## the places, each with a name: at the start, between turns, after a turn, which did not end the search
 
