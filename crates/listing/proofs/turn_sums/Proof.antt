@@ -1,4 +1,4 @@
--- `listing::turn_sums` meets its contract: the plans by which a sum is adapted stand behind the records and the archive.
+-- `listing::turn_sums` meets its contract: plans by which a sum is adapted stand behind the records and the archive.
 use native.Mathlib.Omega.{arith}
 use borrow.Author.Needs.{needs}
 use Rattle.listing.proofs.Forms.{source-plannable}
