@@ -137,8 +137,8 @@ impl Task<'_> {
             let (buckets, base) = self.plan::<D>(&directions, self.rule(kind));
             let mut search = Search::new(&buckets, &directions, self.settings, self.room, self.end);
             search.archive.points = with_sums(points, &directions);
-            if turn + 1 < self.settings.turns {
-                search.budget = BUDGETS[turn] * self.settings.budget as u64;
+            if let (true, Some(parts)) = (turn + 1 < self.settings.turns, BUDGETS.get(turn)) {
+                search.budget = parts * self.settings.budget as u64;
             }
             search.run(&self.problem.ceilings, &base);
             nodes += search.nodes;
