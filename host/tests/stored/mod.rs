@@ -16,7 +16,7 @@ use frontier_host::reading::read_problem;
 pub const NIGHTLY: &str = concat!(env!("CARGO_MANIFEST_DIR"), "/data/nightly");
 pub const STRESS: &str = concat!(env!("CARGO_MANIFEST_DIR"), "/data/stress");
 
-/// The harder problems that take the plain call more than two seconds. For seven of them no answer
+/// The harder problems that took the plain call more than two seconds once. For seven of them no answer
 /// is known.
 const SLOW: [&str; 12] = [
     "place_m_2",
