@@ -33,6 +33,7 @@ use Rattle.branch_buckets.specs.Bounds.{baseAt, boundAt}
 use Rattle.branch_buckets.proofs.Bounds.{bound-limit}
 use Rattle.branch_pruning.specs.declared.Progress as DP
 use Rattle.branch_search.specs.declared.Explored as DE
+use Rattle.branch_search.specs.declared.Effort as DF
 use Rattle.branch_search.specs.declared.Node as DN
 use Rattle.branch_search.specs.States.{noLimit, planIn, archiveIn, problemOf}
 use Rattle.branch_search.specs.States.{Ready, Running, Partial, Still}
@@ -189,10 +190,10 @@ module _ {d : DD.Directions} {task : DT.Task} {ds s work : List ℕ} (h : Ready 
 
       -- more points than room
       pub passed-full :
-          1 ≤ run .left → length (d .weights) ≡ 16 → task .room < run .points →
+          1 ≤ run .left → length (d .weights) ≡ 16 → task .room < run .points → (effort : DF.Effort) →
           ExploredSays task (length ds) (coreFrontier (sourceProblem task ds s work)) work work′
-          (record { decided = true; full = true; count = 0; left = run .left; done = 0 })
-      passed-full some weights more =
+          (record { decided = true; full = true; count = 0; effort = effort })
+      passed-full some weights more effort =
           let long : length (leadWeights d) ≡ d .objectives =
           length-take-le (d .objectives) (drop (4 * 0) (d .weights)) (omega (arith, sensible .few)) in
           let held =
@@ -213,9 +214,10 @@ module _ {d : DD.Directions} {task : DT.Task} {ds s work : List ℕ} (h : Ready 
           (Distinct (listIn (d .objectives) (length ds) work′ 0 (run .points)) →
           listIn (d .objectives) (length ds) work″ 0 (run .points)
           ≡ sorted (listIn (d .objectives) (length ds) work′ 0 (run .points))) →
+          (effort : DF.Effort) →
           ExploredSays task (length ds) (coreFrontier (sourceProblem task ds s work)) work work″
-          (record { decided = true; full = false; count = run .points; left = run .left; done = 0 })
-      passed-list some few none work″ framed order =
+          (record { decided = true; full = false; count = run .points; effort = effort })
+      passed-list some few none work″ framed order effort =
           let distinct = passed .running .distinct in
           let is : sorted archive ≡ coreFrontier problem =
           archive-frontier (passed .running .archived) (passed .covered some) (λ y m. rw none (sum-below y m)) in
@@ -246,11 +248,11 @@ explored-still {task} {work} {work′} k ds s work″ e h =
 
 -- no pass ended it: what is left is an archive
 pub undecided :
-    (task : DT.Task) (n : ℕ) (fs : List Point) (q : Problem) (budget : ℕ) (work work′ : List ℕ) (points left done : ℕ) →
-    Still task work work′ → Between q (task .room) work′ points → left ≤ budget →
-    ExploredSays task n fs work work′ (unended points left done)
-    × LeftOver q (task .room) budget work′ (unended points left done)
-undecided task n fs q budget work work′ points left done k b less = (
+    (task : DT.Task) (n : ℕ) (fs : List Point) (q : Problem) (budget : ℕ) (work work′ : List ℕ) (points : ℕ)
+    (effort : DF.Effort) → Still task work work′ → Between q (task .room) work′ points → effort .left ≤ budget →
+    ExploredSays task n fs work work′ (unended points effort)
+    × LeftOver q (task .room) budget work′ (unended points effort)
+undecided task n fs q budget work work′ points effort k b less = (
   record {
     full = λ e. absurd (true-false e refl);
     count = λ e. absurd (true-false e refl);
@@ -262,6 +264,6 @@ undecided task n fs q budget work work′ points left done k b less = (
 
 -- an end: nothing is left to go on from
 pub ended-left :
-    (q : Problem) (room budget : ℕ) (work : List ℕ) (e : DE.Explored) → e .decided ≡ true → e .left ≤ budget →
-    LeftOver q room budget work e
+    (q : Problem) (room budget : ℕ) (work : List ℕ) (e : DE.Explored) → e .decided ≡ true →
+    e .effort .left ≤ budget → LeftOver q room budget work e
 ended-left q room budget work e is less = record { between = λ no. absurd (true-false is no); fewer = less }

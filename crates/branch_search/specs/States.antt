@@ -30,6 +30,7 @@ use Rattle.branch_pruning.specs.declared.Progress as DP
 use Rattle.branch_pruning.specs.Tests.{zonesOf}
 use Rattle.branch_search.specs.declared.Node as DN
 use Rattle.branch_search.specs.declared.Explored as DE
+use Rattle.branch_search.specs.declared.Effort as DF
 
 -- the plan begins behind the archive
 abbrev pub planIn : List ℕ → List ℕ
@@ -172,10 +173,10 @@ pub record ExploredSays
   pub still : Still task work work′
 
 -- what is said of a search that was given up
-abbrev pub unended : ℕ → ℕ → ℕ → DE.Explored
-unended points left done = record { decided = false; full = false; count = points; left = left; done = done }
+abbrev pub unended : ℕ → DF.Effort → DE.Explored
+unended points effort = record { decided = false; full = false; count = points; effort = effort }
 
 -- what it leaves: an archive, from which the next one may go on, and what is left of the budget
 pub record LeftOver (q : Problem) (room budget : ℕ) (work′ : List ℕ) (e : DE.Explored) : Type 0 where
   pub between : e .decided ≡ false → Between q room work′ (e .count)
-  pub fewer : e .left ≤ budget
+  pub fewer : e .effort .left ≤ budget

@@ -33,15 +33,21 @@ pub struct Resume {
     pub budget: u64,
 }
 
+// What a search took, for those who choose the next plan or measure: how many partial choices may still be opened, how
+// far the last pass came where there are none, and how many passes there were.
+pub struct Effort {
+    pub left: u64,
+    pub done: u64,
+    pub passes: u64,
+}
+
 // Whether the search came to an end, whether the list is longer than the room, and else how many points it has; those
-// of the archive where it was given up. And how many partial choices may still be opened, or how far the last pass
-// came where there are none: for those who choose the next plan.
+// of the archive where it was given up.
 pub struct Explored {
     pub decided: bool,
     pub full: bool,
     pub count: usize,
-    pub left: u64,
-    pub done: u64,
+    pub effort: Effort,
 }
 
 // A partial choice: values for the variables at the first `depth` positions, and its bound in every direction.
@@ -321,16 +327,27 @@ fn run_pass(
 }
 
 // What is said of a search that was given up.
-pub fn given_up(points: usize, left: u64, done: u64) -> Explored
-    ensures { λ e. ⌜ e ≡ unended points left done ⌝ }
+pub fn given_up(points: usize, effort: Effort) -> Explored
+    ensures { λ e. ⌜ e ≡ unended points effort ⌝ }
 {
     Explored {
         decided: false,
         full: false,
         count: points,
-        left,
-        done,
+        effort,
     }
+}
+
+// What is said of a search that was not made.
+pub fn not_made(points: usize) -> Explored
+    ensures { λ e. ⌜ e ≡ unended points (record { left = 0; done = 0; passes = 0 }) ⌝ }
+{
+    let effort = Effort {
+        left: 0,
+        done: 0,
+        passes: 0,
+    };
+    given_up(points, effort)
 }
 
 // The frontier list of the problem whose records stand in the plan, in the archive's rows; or, where the budget or the
@@ -356,16 +373,21 @@ pub fn explore(
     let mut pass: usize = 0;
     while pass < MAX_PASSES {
         let t = run_pass(points, left, s, sizes, task, d, work);
+        pass += 1;
+        let effort = Effort {
+            left: t.left,
+            done: t.done,
+            passes: pass as u64,
+        };
         if t.left == 0 {
-            return given_up(t.points, t.left, t.done);
+            return given_up(t.points, effort);
         }
         if t.points > task.room {
             return Explored {
                 decided: true,
                 full: true,
                 count: 0,
-                left: t.left,
-                done: 0,
+                effort,
             };
         }
         if t.limit == NO_LIMIT {
@@ -374,13 +396,16 @@ pub fn explore(
                 decided: true,
                 full: false,
                 count: t.points,
-                left: t.left,
-                done: 0,
+                effort,
             };
         }
         points = t.points;
         left = t.left;
-        pass += 1;
     }
-    given_up(points, left, 0)
+    let effort = Effort {
+        left,
+        done: 0,
+        passes: pass as u64,
+    };
+    given_up(points, effort)
 }

@@ -11,6 +11,7 @@ use Rattle.groups.specs.declared.Task as DT
 use Rattle.branch_directions.specs.declared.Directions as DD
 use Rattle.branch_search.specs.States.{rowsIn, Ready, Between, ExploredSays, LeftOver, unended}
 use Rattle.branch_search.specs.declared.Explored as DE
+use Rattle.branch_search.specs.declared.Effort as DF
 use Rattle.branch_search.proofs.Archives.{empty-between, between-moved, between-source, between-framed}
 use Rattle.listing.specs.Says.{Kept, PlanSays, Explorable, Turned, foundOf}
 use Rattle.listing.proofs.Forms.{source-kept, first-after}
@@ -24,16 +25,17 @@ kept-trans k l = record { long = l .long ∙ k .long; source = l .source ∙ k .
 -- no turn ended the search: its archive is left
 pub turned-undecided :
     (task : DT.Task) (ds s : List ℕ) {work work′ : List ℕ} {points : ℕ} → Kept (task .records) work work′ →
-    Between (sourceProblem task ds s work) (task .room) work′ points → (left done : ℕ) →
-    Turned task ds s work work′ (unended points left done)
-turned-undecided task ds s k b left done =
+    Between (sourceProblem task ds s work) (task .room) work′ points → (effort : DF.Effort) →
+    Turned task ds s work work′ (unended points effort)
+turned-undecided task ds s k b effort =
     record { kept = k; found = λ t. absurd (true-false t refl); between = λ f. b }
 
 -- and none at all was taken
-pub turned-none : (task : DT.Task) (ds s work : List ℕ) → Turned task ds s work work (unended 0 0 0)
-turned-none task ds s work =
+pub turned-none :
+    (task : DT.Task) (ds s work : List ℕ) (effort : DF.Effort) → Turned task ds s work work (unended 0 effort)
+turned-none task ds s work effort =
     turned-undecided task ds s (kept-same (task .records) work)
-    (empty-between (sourceProblem task ds s work) (task .room) work) 0 0
+    (empty-between (sourceProblem task ds s work) (task .room) work) effort
 
 module _ {task : DT.Task} {ds s work : List ℕ} (h : Explorable task ds s work) where
   -- memory in which the records are kept
@@ -67,10 +69,10 @@ module _ {task : DT.Task} {ds s work : List ℕ} (h : Explorable task ds s work)
           (h .room-small) rows b
 
       -- one that failed it leaves the archive as it was
-      pub plan-failed : Turned task ds s work work′ (unended points 0 0)
-      plan-failed =
+      pub plan-failed : (effort : DF.Effort) → Turned task ds s work work′ (unended points effort)
+      plan-failed effort =
           turned-undecided task ds s kept
-          (between-moved (h .source .objectives) (h .source .variables) (h .room-small) rows b) 0 0
+          (between-moved (h .source .objectives) (h .source .variables) (h .room-small) rows b) effort
 
     pub plan-ready :
         (d : DD.Directions) → d .objectives ≡ task .objectives → PlanSays d (task .records) ds s work work′ →

@@ -11,7 +11,7 @@ ghost use Rattle.model.specs.Views.{view};
 ghost use Rattle.groups.specs.Sources.{Source, sourceProblem};
 ghost use Rattle.pass_list.specs.Says.{FoundSays, CoreFound, FoundFor};
 ghost use Rattle.branch_directions.specs.Directions.{Sensible};
-ghost use Rattle.branch_search.specs.States.{rowsIn, Between};
+ghost use Rattle.branch_search.specs.States.{rowsIn, Between, unended};
 ghost use Rattle.listing.specs.Says.{Searchable, Plannable, Kept, PlanSays, Explorable, Turned};
 
 // A search of the second form has so many turns: the first three try a kind of plan each, and the last goes on with the
@@ -22,6 +22,29 @@ const TURNS: usize = 4;
 struct Best {
     kind: usize,
     done: u64,
+}
+
+// What a search of the second form took, for those who measure: how many plans were made, how many of them failed their
+// test, how many passes were made by the others, and how many partial choices these opened. Whether the first form
+// answered, after it or alone. Nothing relies on it.
+pub struct Measures {
+    pub plans: u64,
+    pub failed: u64,
+    pub passes: u64,
+    pub opened: u64,
+    pub first_form: bool,
+}
+
+// What the turns of a search found, and what they took.
+pub struct Taken {
+    pub explored: branch_search::Explored,
+    pub measures: Measures,
+}
+
+// What a search found, and what it took.
+pub struct Searched {
+    pub found: pass_list::Found,
+    pub measures: Measures,
 }
 
 // The core's ceiling, which a cost stays below, in eight bytes as the sums are.
@@ -84,6 +107,52 @@ fn best_after(best: Best, turn: usize, kind: usize, done: u64) -> Best {
         return best;
     }
     Best { kind, done }
+}
+
+// Before the first plan is made.
+pub fn unmeasured(first_form: bool) -> Measures {
+    Measures {
+        plans: 0,
+        failed: 0,
+        passes: 0,
+        opened: 0,
+        first_form,
+    }
+}
+
+// One where a plan failed its test, so that no pass was made by it.
+fn failed_by(passes: u64) -> u64 {
+    if passes == 0 {
+        return 1;
+    }
+    0
+}
+
+// With one more plan, which was searched by within a budget.
+fn measured(m: Measures, budget: u64, effort: branch_search::Effort) -> Measures {
+    let failed = failed_by(effort.passes);
+    let mut opened: u64 = 0;
+    if failed == 0 {
+        opened = std::num::wrapping_sub_u64(budget, effort.left);
+    }
+    Measures {
+        plans: std::num::wrapping_add_u64(m.plans, 1),
+        failed: std::num::wrapping_add_u64(m.failed, failed),
+        passes: std::num::wrapping_add_u64(m.passes, effort.passes),
+        opened: std::num::wrapping_add_u64(m.opened, opened),
+        first_form: m.first_form,
+    }
+}
+
+// The same, and the first form answered.
+fn by_first_form(m: Measures) -> Measures {
+    Measures {
+        plans: m.plans,
+        failed: m.failed,
+        passes: m.passes,
+        opened: m.opened,
+        first_form: true,
+    }
 }
 
 // Plans the search of the `r` records whose places stand where a problem's records are,
@@ -160,7 +229,7 @@ fn search_by(
 {
     let d = branch_directions::choose_directions(task.objectives, sums);
     if !plan_source(s, sizes, task.records, d, kind, work) {
-        return branch_search::given_up(from.points, 0, 0);
+        return branch_search::not_made(from.points);
     }
     branch_search::explore(from, s, sizes, task, d, work)
 }
@@ -190,26 +259,40 @@ fn take_turns(
     task: groups::Task,
     ranges: plan_sums::Ranges,
     work: &mut [u32],
-) -> branch_search::Explored
+) -> Taken
     requires { ⌜ Explorable task (now sizes) (now s) (now work) ⌝ }
-    ensures { λ e. ⌜ Turned task (now (sizes .entry)) (now (s .entry)) (now (work .entry)) (now (work .exit)) e ⌝ }
+    ensures { λ t. ⌜ Turned task (now (sizes .entry)) (now (s .entry)) (now (work .entry)) (now (work .exit))
+        (t .explored) ⌝ }
 {
     let mut best = Best { kind: 0, done: 0 };
+    let mut measures = unmeasured(false);
     let mut points: usize = 0;
     let mut turn: usize = 0;
     while turn < TURNS {
         let kind = kind_of(turn, best);
         let budget = budget_of(turn);
         let from = branch_search::Resume { points, budget };
-        let e = search_turn(s, sizes, task, ranges, kind, from, work);
-        if e.decided {
-            return e;
+        let explored = search_turn(s, sizes, task, ranges, kind, from, work);
+        let effort = explored.effort;
+        measures = measured(measures, budget, effort);
+        if explored.decided {
+            return Taken { explored, measures };
         }
-        points = e.count;
-        best = best_after(best, turn, kind, e.done);
+        points = explored.count;
+        best = best_after(best, turn, kind, effort.done);
         turn += 1;
     }
-    branch_search::given_up(points, 0, 0)
+    let explored = branch_search::not_made(points);
+    Taken { explored, measures }
+}
+
+// Nothing is planned and searched.
+fn not_taken() -> Taken
+    ensures { λ t. ⌜ t .explored ≡ unended 0 (record { left = 0; done = 0; passes = 0 }) ⌝ }
+{
+    let explored = branch_search::not_made(0);
+    let measures = unmeasured(false);
+    Taken { explored, measures }
 }
 
 // The second form of the search. It gives up where there is nothing to plan, where a ceiling is too large for it, or
@@ -219,20 +302,21 @@ fn explore_source(
     sizes: &[u8],
     task: groups::Task,
     work: &mut [u32],
-) -> branch_search::Explored
+) -> Taken
     requires { ⌜ Source task (now sizes) (now s) (now work) × (task .room ≤ maxPoints) ⌝ }
-    ensures { λ e. ⌜ Turned task (now (sizes .entry)) (now (s .entry)) (now (work .entry)) (now (work .exit)) e ⌝ }
+    ensures { λ t. ⌜ Turned task (now (sizes .entry)) (now (s .entry)) (now (work .entry)) (now (work .exit))
+        (t .explored) ⌝ }
 {
     let ceilings = task.ceilings;
     let n = sizes.len();
     if n == 0 {
-        return branch_search::given_up(0, 0, 0);
+        return not_taken();
     }
     if task.objectives == 0 {
-        return branch_search::given_up(0, 0, 0);
+        return not_taken();
     }
     if !are_short(ceilings) {
-        return branch_search::given_up(0, 0, 0);
+        return not_taken();
     }
     let r = task.records;
     let extents = plan_spreads::extents_of(s, sizes, r, ceilings, &work[layout::SOURCE_AT..]);
@@ -248,22 +332,29 @@ pub fn find_source(
     task: groups::Task,
     by_passes: bool,
     work: &mut [u32],
-) -> pass_list::Found
+) -> Searched
     requires { ⌜ Source task (now sizes) (now s) (now work) × (task .room ≤ maxPoints) ⌝ }
-    ensures { λ f. ⌜ CoreFound (sourceProblem task (now (sizes .entry)) (now (s .entry)) (now (work .entry)))
-        (task .room) (now (work .entry)) (now (work .exit)) f ⌝ }
+    ensures { λ r. ⌜ CoreFound (sourceProblem task (now (sizes .entry)) (now (s .entry)) (now (work .entry)))
+        (task .room) (now (work .entry)) (now (work .exit)) (r .found) ⌝ }
 {
     if by_passes {
-        return pass_list::find_source(s, sizes, task, work);
+        let found = pass_list::find_source(s, sizes, task, work);
+        let measures = unmeasured(true);
+        return Searched { found, measures };
     }
-    let e = explore_source(s, sizes, task, work);
+    let t = explore_source(s, sizes, task, work);
+    let e = t.explored;
+    let measures = t.measures;
     if e.decided {
-        return pass_list::Found {
+        let found = pass_list::Found {
             full: e.full,
             count: e.count,
         };
+        return Searched { found, measures };
     }
-    pass_list::find_source(s, sizes, task, work)
+    let found = pass_list::find_source(s, sizes, task, work);
+    let measures = by_first_form(measures);
+    Searched { found, measures }
 }
 
 // The frontier list of a problem that was read, in work memory; only by the first form where that is asked for.
@@ -273,9 +364,9 @@ pub fn find_list(
     room: usize,
     by_passes: bool,
     work: &mut [u32],
-) -> pass_list::Found
+) -> Searched
     requires { ⌜ Searchable (now s) g (now work) × (room ≤ maxPoints) ⌝ }
-    ensures { λ f. ⌜ FoundFor (problemOf (now (s .entry))) room (now (work .entry)) (now (work .exit)) f ⌝ }
+    ensures { λ r. ⌜ FoundFor (problemOf (now (s .entry))) room (now (work .entry)) (now (work .exit)) (r .found) ⌝ }
 {
     let head = g.head;
     let n = head.variables as usize;
@@ -338,5 +429,6 @@ pub fn find_half(
         ceilings,
         room: 64,
     };
-    find_source(s, &narrow[..n], task, false, work)
+    let searched = find_source(s, &narrow[..n], task, false, work);
+    searched.found
 }

@@ -174,7 +174,7 @@ returns c =
     let a = begun p .args in
     let still = still-trans (kept p) (p .run-pass .ensures .still) in
     rw (c .given-up .ensures)
-    (undecided (a .task) (length (ds p)) _ _ (a .from .budget) (now (a .work)) (after-pass p) _ _ _ still (next p)
+    (undecided (a .task) (length (ds p)) _ _ (a .from .budget) (now (a .work)) (after-pass p) _ _ still (next p)
     (fewer p))
 
 same-length-2 : tie.Need-same-length-2 Inv-loop μ-loop
@@ -188,7 +188,7 @@ returns-2 c =
     let p = ran (left w) in
     let weights = weights-long (begun p .args .d) _ (begun p .good .1 .1 .1 .1 .0) in
     let full = passed-full (ready p) (four p) (p .run-pass .ensures) (some-left w) weights (c .if2 .taken) in
-    (from-start p (after-pass p) _ full, ended-left _ _ _ _ _ refl (fewer p))
+    (from-start p (after-pass p) _ (full _), ended-left _ _ _ _ _ refl (fewer p))
 
 sort-points-requires : tie.Need-sort-points-requires Inv-loop μ-loop
 sort-points-requires c κs =
@@ -215,7 +215,7 @@ returns-3 c =
     let some = some-left (whole few) in
     let listed = passed-list (ready p) (four p) (p .run-pass .ensures) some (few .if2 .left) (e .if3 .taken) in
     let list = listed _ (order .0) (order .1 (length (ds p)) (ready p .planned .variables)) in
-    (from-start p _ _ list, ended-left _ _ _ _ _ refl (fewer p))
+    (from-start p _ _ (list _), ended-left _ _ _ _ _ refl (fewer p))
 
 loop-again : tie.Need-loop-again Inv-loop μ-loop
 loop-again c =
@@ -227,7 +227,7 @@ returns-4 c =
     let w : Looping = c .before .before in
     let a = start (known w) .args in
     rw (c .given-up2 .ensures)
-    (undecided (a .task) (length (now (a .sizes))) _ _ (a .from .budget) (now (a .work)) (w .loop .work) _ _ _
+    (undecided (a .task) (length (now (a .sizes))) _ _ (a .from .budget) (now (a .work)) (w .loop .work) _ _
     (w .loop .inv .1) (w .loop .inv .2) (w .loop .inv .3))
 
 pub explore-spec : {M : Type 1} → statement M
@@ -238,6 +238,7 @@ explore-spec =
     μ-loop
     loop-holds
     run-pass-requires
+    (λ c. search needs)  -- add-pass
     (λ c κs. search needs)  -- given-up-requires
     same-length
     returns
@@ -246,7 +247,6 @@ explore-spec =
     sort-points-requires
     same-length-3
     returns-3
-    (λ c. search needs)  -- add-pass
     (λ c. search needs)  -- loop-less
     loop-again
     (λ c κs. search needs)  -- given-up-requires-2

@@ -28,13 +28,13 @@ abbrev summed : tie.After-ranges-of → tie.After-extents-of
 summed c = c .before
 
 returns : tie.Need-returns
-returns c = rw (c .given-up .ensures) (turned-none _ _ _ _)
+returns c = rw (c .not-taken .ensures) (turned-none _ _ _ _ _)
 
 returns-2 : tie.Need-returns-2
-returns-2 c = rw (c .given-up2 .ensures) (turned-none _ _ _ _)
+returns-2 c = rw (c .not-taken2 .ensures) (turned-none _ _ _ _ _)
 
 returns-3 : tie.Need-returns-3
-returns-3 c = rw (c .given-up3 .ensures) (turned-none _ _ _ _)
+returns-3 c = rw (c .not-taken3 .ensures) (turned-none _ _ _ _ _)
 
 ranges-of-requires : tie.Need-ranges-of-requires
 ranges-of-requires c κs = begun (choosing (costly (short c))) .pre .0 .objectives
@@ -56,12 +56,12 @@ pub explore-source-spec : {M : Type 1} → statement M
 explore-source-spec =
     tie.close
     (tie.spec
-    (λ c κs. search needs)  -- given-up-requires
+    (λ c κs. search needs)  -- not-taken-requires
     returns
-    (λ c κs. search needs)  -- given-up-requires-2
+    (λ c κs. search needs)  -- not-taken-requires-2
     returns-2
     (λ c κs. search needs)  -- are-short-requires
-    (λ c κs. search needs)  -- given-up-requires-3
+    (λ c κs. search needs)  -- not-taken-requires-3
     returns-3
     (λ c. search needs)  -- sub-extents-of
     (λ c. search needs)  -- part-extents-of-start

@@ -138,7 +138,7 @@ find-source-requires c κs =
 
 returns : tie.Need-returns
 returns c =
-    let found : tie.After-find-source = c .before .before in
+    let found : tie.After-find-source = c .before .before .before in
     let chosen : tie.After-slice-known3 = found .before .before .before in
     let narrow = narrowing (sided chosen) in
     let placed = kept narrow in
@@ -147,7 +147,7 @@ returns c =
     let f = found .find-source in
     half-found _ _ (accepted head) (start head .args .side) (now (start head .args .sides)) (start head .args .ceilings)
     (side-says _ _ _ (start head .args .side) _ (now (start head .args .sides)) _ _ (records head) (same head) _ says
-    _ _ (sided chosen .keep-records .ensures) _ _ (narrow-is narrow) _ (f .result) (f .ensures))
+    _ _ (sided chosen .keep-records .ensures) _ _ (narrow-is narrow) _ (f .result .found) (f .ensures))
 
 pub find-half-spec : {M : Type 1} → statement M
 find-half-spec =
@@ -165,7 +165,7 @@ find-half-spec =
     array-share-prefix-sizes-2
     slice-aggregate-narrow
     narrow-requires
-    (λ c. search needs)  -- cast-t22
+    (λ c. search needs)  -- cast-t23
     array-share-prefix-sizes-3
     slice-aggregate-keep-records
     keep-records-requires

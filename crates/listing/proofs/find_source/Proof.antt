@@ -13,12 +13,15 @@ begun c =
     known .before .before .before
 
 abbrev explored : tie.Else2 → tie.After-explore-source
-explored c = c .before .before .before
+explored c =
+    let copied : tie.After-measures = c .before in
+    copied .before .before .before .before
 
 returns-2 : tie.Need-returns-2
 returns-2 c =
-    let says = c .before .before .before .explore-source .ensures in
-    says .found (c .if2 .taken)
+    let copied : tie.After-measures = c .before in
+    let e : tie.After-explore-source = copied .before .before .before .before in
+    e .explore-source .ensures .found (c .if2 .taken)
 
 find-source-requires-2 : tie.Need-find-source-requires-2
 find-source-requires-2 c κs =
@@ -28,7 +31,7 @@ find-source-requires-2 c κs =
 
 returns-3 : tie.Need-returns-3
 returns-3 c =
-    let found : tie.After-find-source2 = c .before .before in
+    let found : tie.After-find-source2 = c .before .before .before in
     let e = explored (found .before .before) in
     let f = found .find-source2 in
     first-after (begun e .pre .0) (e .explore-source .ensures .kept) _ (f .result) (f .ensures)
@@ -38,11 +41,13 @@ find-source-spec =
     tie.close
     (tie.spec
     (λ c κs. search needs)  -- find-source-requires
+    (λ c κs. search needs)  -- unmeasured-requires
     (λ c. search needs)  -- same-length
     (λ c. search needs)  -- returns
     (λ c κs. search needs)  -- explore-source-requires
     (λ c. search needs)  -- same-length-2
     returns-2
     find-source-requires-2
+    (λ c κs. search needs)  -- by-first-form-requires
     (λ c. search needs)  -- same-length-3
     returns-3)

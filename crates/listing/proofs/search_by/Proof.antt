@@ -39,7 +39,7 @@ returns c =
     let p = planned (failed .before) in
     let s = begun (aimed p) in
     let made = p .plan-source .ensures in
-    rw (c .given-up .ensures) (plan-failed (s .pre .0) (made .0) (made .1) (s .pre .1))
+    rw (c .not-made .ensures) (plan-failed (s .pre .0) (made .0) (made .1) (s .pre .1) _)
 
 explore-requires : tie.Need-explore-requires
 explore-requires c κs =
@@ -68,7 +68,7 @@ search-by-spec =
     (tie.spec
     choose-directions-requires
     plan-source-requires
-    (λ c κs. search needs)  -- given-up-requires
+    (λ c κs. search needs)  -- not-made-requires
     (λ c. search needs)  -- same-length
     returns
     explore-requires

@@ -1,6 +1,6 @@
 -- `listing::take_turns` meets its contract. The invariant: between turns the records are where they were, and there is
 -- an archive.
-use Prim.Native.Nat.{_≤_, _-_}
+use Prim.Native.Nat.{_+_, _≤_, _-_}
 use native.Mathlib.Omega.{arith}
 use borrow.Author.Needs.{needs}
 use denote.Ref.{now}
@@ -13,13 +13,13 @@ use Rattle.listing.proofs.take_turns.Statement.{statement}
 use Rattle.listing.proofs.take_turns.Tie as tie
 
 abbrev Inv-loop : tie.InvT-loop
-Inv-loop s sizes task ranges work₀ best₀ points₀ turn₀ work best points turn =
+Inv-loop s sizes task ranges work₀ best₀ measures₀ points₀ turn₀ work best measures points turn =
     (turn ≤ 4) × Kept (task .records) work₀ work × Between (sourceProblem task sizes s work₀) (task .room) work points
 
 abbrev μ-loop : tie.MeasureT-loop
-μ-loop s sizes task ranges work₀ best₀ points₀ turn₀ work best points turn = 4 - turn
+μ-loop s sizes task ranges work₀ best₀ measures₀ points₀ turn₀ work best measures points turn = 4 - turn
 
--- ## the places, each with a name: at the start, between turns, after a turn, which did not end the search
+-- ## the places, each with a name: at the start, between turns, after a turn, whose effort is counted
 
 abbrev Begun : Type 0
 Begun = tie.Start Inv-loop μ-loop
@@ -33,11 +33,13 @@ Turning = tie.After-search-turn Inv-loop μ-loop
 abbrev Left : Type 0
 Left = tie.After-slice-known2 Inv-loop μ-loop
 
-abbrev Next : Type 0
-Next = tie.After-best-after Inv-loop μ-loop
+abbrev Measured : Type 0
+Measured = tie.After-measured Inv-loop μ-loop
 
 abbrev begun : Looping → Begun
-begun c = c .before .before .before .before
+begun c =
+    let known : tie.After-slice-known Inv-loop μ-loop = c .before .before in
+    known .before .before .before
 
 abbrev looping : Turning → Looping
 looping c =
@@ -46,6 +48,9 @@ looping c =
 
 abbrev turning : Left → Turning
 turning c = c .before .before
+
+abbrev counted : Measured → Turning
+counted c = turning (c .before .before)
 
 -- what a turn left says of the memory at the start
 since :
@@ -57,9 +62,16 @@ since c =
     let w = looping c in
     turned-since (begun w .pre) (w .loop .inv .1) _ (c .search-turn .result) (c .search-turn .ensures)
 
+-- there was a turn to take
+below : (c : Turning) → looping c .loop .turn + 1 ≤ 4
+below c =
+    let chosen = c .before .before .before in
+    omega (arith, chosen .before .loop-test .taken)
+
 loop-holds : tie.Need-loop-holds Inv-loop μ-loop
 loop-holds c =
-    let a = c .before .before .before .args in
+    let known : tie.After-slice-known Inv-loop μ-loop = c .before in
+    let a = known .before .before .before .args in
     (omega arith, kept-same (a .task .records) (now (a .work)), empty-between _ _ _)
 
 search-turn-requires : tie.Need-search-turn-requires Inv-loop μ-loop
@@ -74,23 +86,23 @@ search-turn-requires c κs =
     )
 
 same-length : tie.Need-same-length Inv-loop μ-loop
-same-length c = since (turning (c .before)) .kept .long
+same-length c = since (counted (c .before)) .kept .long
 
 returns : tie.Need-returns Inv-loop μ-loop
-returns c = since (turning (c .before))
+returns c = since (counted (c .before))
 
 loop-again : tie.Need-loop-again Inv-loop μ-loop
 loop-again c =
     let unended : tie.Else1 Inv-loop μ-loop = c .before in
-    let t = since (turning (unended .before)) in
-    (omega arith, t .kept, t .between (unended .if1 .left))
+    let t = since (counted (unended .before)) in
+    (below (counted (unended .before)), t .kept, t .between (unended .if1 .left))
 
 returns-2 : tie.Need-returns-2 Inv-loop μ-loop
 returns-2 c =
     let w : Looping = c .before .before in
     let a = begun w .args in
-    rw (c .given-up .ensures)
-    (turned-undecided (a .task) (now (a .sizes)) (now (a .s)) (w .loop .inv .1) (w .loop .inv .2) 0 0)
+    rw (c .not-made .ensures)
+    (turned-undecided (a .task) (now (a .sizes)) (now (a .s)) (w .loop .inv .1) (w .loop .inv .2) _)
 
 pub take-turns-spec : {M : Type 1} → statement M
 take-turns-spec =
@@ -98,16 +110,18 @@ take-turns-spec =
     (tie.spec
     Inv-loop
     μ-loop
+    (λ c κs. search needs)  -- unmeasured-requires
     loop-holds
     (λ c κs. search needs)  -- kind-of-requires
     (λ c κs. search needs)  -- budget-of-requires
     search-turn-requires
+    (λ c κs. search needs)  -- measured-requires
     same-length
     returns
     (λ c κs. search needs)  -- best-after-requires
     (λ c. search needs)  -- add-turn
     (λ c. search needs)  -- loop-less
     loop-again
-    (λ c κs. search needs)  -- given-up-requires
+    (λ c κs. search needs)  -- not-made-requires
     (λ c. c .before .before .loop .inv .1 .long)  -- same-length-2
     returns-2)

@@ -52,8 +52,10 @@ enough c =
 abbrev roomed : tie.After-find-list → tie.After-room-for
 roomed c = c .before .before
 
-abbrev searched : tie.After-slice-known2 → tie.After-find-list
-searched c = c .before .before
+abbrev searched : tie.After-found → tie.After-find-list
+searched c =
+    let known : tie.After-slice-known2 = c .before in
+    known .before .before
 
 -- ## refused before the search
 
@@ -99,7 +101,7 @@ returns-2 c =
     (told open-at .early-refusal .ensures) (open-at .if1 .left) in
     rw (listed .found-rows .ensures .0)
     (rows-end (now (a .problem)) (a .room) (now (a .work)) (bytes (read open-at)) (g .result) (accepted open-at)
-    (enough open-at) none _ (roomed found .room-for .ensures) (found .find-list .result) _ (found .find-list .ensures)
+    (enough open-at) none _ (roomed found .room-for .ensures) (found .find-list .result .found) _ (found .find-list .ensures)
     _ (listed .found-rows .ensures .1))
 
 pub list-rows-spec : {M : Type 1} → statement M

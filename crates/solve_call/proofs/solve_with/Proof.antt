@@ -59,8 +59,10 @@ opened c = c .before .before
 abbrev roomed : tie.After-find-list → tie.After-flat-room
 roomed c = c .before .before
 
-abbrev searched : tie.After-slice-known4 → tie.After-find-list
-searched c = c .before .before
+abbrev searched : tie.After-measures → tie.After-find-list
+searched c =
+    let known : tie.After-slice-known4 = c .before .before in
+    known .before .before
 
 abbrev copied : tie.After-slice-known7 → tie.After-copy-out
 copied c = let chosen : tie.After-slice-known5 = c .before .before .before .before in chosen .before .before
@@ -76,14 +78,15 @@ refused-requires c κs =
 
 returns : tie.Need-returns
 returns c =
-    let stopped : tie.Then1 = c .before in
+    let told-off : tie.After-refused = c .before in
+    let stopped : tie.Then1 = told-off .before in
     let early : tie.After-early-refusal = stopped .before .before in
     let g = early .before .read-problem in
     let a = start (early .before) .args in
     let said =
     early-said (bytes (early .before)) (length (memory (early .before))) (g .result) (g .ensures)
     (early .early-refusal .ensures) in
-    rw (c .refused .ensures)
+    rw (told-off .refused .ensures)
     (unchanged-solve (now (a .problem)) (now (a .costs)) (now (a .choices)) (now (a .work))
     (early .early-refusal .result) said (stopped .if1 .taken))
 
@@ -141,6 +144,7 @@ solve-with-spec =
     (λ c κs. search needs)  -- read-problem-requires
     (λ c κs. search needs)  -- early-refusal-requires
     refused-requires
+    (λ c κs. search needs)  -- unmeasured-requires
     returns
     flat-room-requires
     find-list-requires
