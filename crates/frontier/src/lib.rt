@@ -9,10 +9,11 @@ fn solve_as(
     choices: &mut [u8],
     work: &mut [u32],
     first_form: bool,
-) -> answers::Answer
+) -> solve_call::Solved
     ensures { λ r. ⌜ SolveExports (now (problem .entry))
         (solveOutcome (now (problem .entry)) (now (costs .entry)) (now (choices .entry)) (now (work .entry)))
-        (now (costs .exit)) (now (choices .exit)) (now (work .exit)) (r .number) (r .place) (r .count) ⌝ }
+        (now (costs .exit)) (now (choices .exit)) (now (work .exit))
+        (r .answer .number) (r .answer .place) (r .answer .count) ⌝ }
 {
     solve_call::solve_with(problem, costs, choices, work, first_form)
 }
@@ -28,7 +29,8 @@ pub fn solve_problem(
         (solveOutcome (now (problem .entry)) (now (costs .entry)) (now (choices .entry)) (now (work .entry)))
         (now (costs .exit)) (now (choices .exit)) (now (work .exit)) (r .number) (r .place) (r .count) ⌝ }
 {
-    solve_as(problem, costs, choices, work, false)
+    let solved = solve_as(problem, costs, choices, work, false);
+    solved.answer
 }
 
 // The plain call by the first form of the search alone: the same answer, later. Benchmarks compare with it.
@@ -42,7 +44,8 @@ pub fn solve_by_passes(
         (solveOutcome (now (problem .entry)) (now (costs .entry)) (now (choices .entry)) (now (work .entry)))
         (now (costs .exit)) (now (choices .exit)) (now (work .exit)) (r .number) (r .place) (r .count) ⌝ }
 {
-    solve_as(problem, costs, choices, work, true)
+    let solved = solve_as(problem, costs, choices, work, true);
+    solved.answer
 }
 
 #[no_mangle]
@@ -76,6 +79,29 @@ pub extern "C" fn frontier_solve_by_passes(
         (now (costs .exit)) (now (choices .exit)) (now (work .exit)) r (now (place .exit)) (now (count .exit)) ⌝ }
 {
     let answer = solve_by_passes(problem, costs, choices, work);
+    answers::tell(answer, place, count)
+}
+
+// The plain call, and what its search took, of which nothing is promised: which form answered, plans, those of them that
+// failed their test, passes, and opened partial choices.
+#[no_mangle]
+pub extern "C" fn frontier_solve_measured(
+    problem: &[u8],
+    costs: &mut [u32],
+    choices: &mut [u8],
+    work: &mut [u32],
+    place: &mut u32,
+    count: &mut u32,
+    measures: &mut [u64; 8],
+) -> u8
+    ensures { λ r. ⌜ SolveExports (now (problem .entry))
+        (solveOutcome (now (problem .entry)) (now (costs .entry)) (now (choices .entry)) (now (work .entry)))
+        (now (costs .exit)) (now (choices .exit)) (now (work .exit)) r (now (place .exit)) (now (count .exit)) ⌝ }
+{
+    let solved = solve_as(problem, costs, choices, work, false);
+    let answer = solved.answer;
+    let taken = solved.measures;
+    solve_call::tell_measures(taken, measures);
     answers::tell(answer, place, count)
 }
 

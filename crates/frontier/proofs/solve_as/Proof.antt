@@ -16,7 +16,7 @@ returns c =
     let a = known .before .args in
     let o = solveOutcome (now (a .problem)) (now (a .costs)) (now (a .choices)) (now (a .work)) in
     solve-promise (now (a .problem)) (λ i. omega (arith, known .shared-slice-known .given i)) o
-    (solved .solve-with .result) (solved .solve-with .ensures)
+    (solved .solve-with .result .answer) (solved .solve-with .ensures)
 
 pub solve-as-spec : {M : Type 1} → statement M
 solve-as-spec =
