@@ -1,0 +1,288 @@
+//! The calls with lent buffers: a safe wrapper for each call that `include/frontier.h` declares, with
+//! the same meaning.
+
+use crate::ffi::{frontier_bound, frontier_cut, frontier_points, frontier_solve, Solve};
+use crate::limits::{MAX_OBJECTIVES, MAX_VARIABLES};
+use crate::refusal::Refusal;
+
+/// What a call answers: number 0 and the count of points, or a refusal with count 0.
+#[derive(Clone, Copy, Debug, PartialEq, Eq)]
+pub struct Answer {
+    pub number: u8,
+    pub place: u32,
+    pub count: u32,
+}
+
+impl Answer {
+    /// An accepted problem with this many points.
+    pub fn accepted(count: usize) -> Answer {
+        Answer {
+            number: 0,
+            place: 0,
+            count: count as u32,
+        }
+    }
+}
+
+impl From<Refusal> for Answer {
+    fn from(refusal: Refusal) -> Answer {
+        Answer {
+            number: refusal.number,
+            place: refusal.place,
+            count: 0,
+        }
+    }
+}
+
+/// A point record of the call for host tools; unused costs and choices are zero.
+#[repr(C)]
+#[derive(Clone, Copy, Debug, PartialEq, Eq)]
+pub struct Point {
+    pub costs: [u32; MAX_OBJECTIVES],
+    pub choice: [u8; MAX_VARIABLES],
+}
+
+/// What the cut call answers: also the two halves' frontier sizes, 0 after a refusal.
+#[derive(Clone, Copy, Debug, PartialEq, Eq)]
+pub struct Halves {
+    pub answer: Answer,
+    pub first: u32,
+    pub second: u32,
+}
+
+impl From<Refusal> for Halves {
+    fn from(refusal: Refusal) -> Halves {
+        Halves {
+            answer: refusal.into(),
+            first: 0,
+            second: 0,
+        }
+    }
+}
+
+/// What the bound call answers: number 0 and the bound in each objective. Unused numbers are 0,
+/// and after a refusal all are.
+#[derive(Clone, Copy, Debug, PartialEq, Eq)]
+pub struct Least {
+    pub number: u8,
+    pub place: u32,
+    pub least: [u64; MAX_OBJECTIVES],
+}
+
+impl From<Refusal> for Least {
+    fn from(refusal: Refusal) -> Least {
+        Least {
+            number: refusal.number,
+            place: refusal.place,
+            least: [0; MAX_OBJECTIVES],
+        }
+    }
+}
+
+/// Lends the buffers to one of the plain calls.
+fn lend(
+    solve: Solve,
+    problem: &[u8],
+    costs: &mut [u32],
+    choices: &mut [u8],
+    work: &mut [u32],
+    place: &mut u32,
+    count: &mut u32,
+) -> u8 {
+    // SAFETY: each pointer comes from a reference, so it is aligned, never null (not even for an
+    // empty slice) and valid for the length beside it; the five that are written are exclusive,
+    // so they overlap neither each other nor the problem. The call keeps no pointer after it
+    // returns.
+    unsafe {
+        solve(
+            problem.as_ptr(),
+            problem.len(),
+            costs.as_mut_ptr(),
+            costs.len(),
+            choices.as_mut_ptr(),
+            choices.len(),
+            work.as_mut_ptr(),
+            work.len(),
+            place,
+            count,
+        )
+    }
+}
+
+/// What one of the plain calls answers.
+pub(crate) fn answer_of(
+    solve: Solve,
+    problem: &[u8],
+    costs: &mut [u32],
+    choices: &mut [u8],
+    work: &mut [u32],
+) -> Answer {
+    let (mut place, mut count) = (0, 0);
+    let number = lend(solve, problem, costs, choices, work, &mut place, &mut count);
+    Answer {
+        number,
+        place,
+        count,
+    }
+}
+
+/// The plain call as C has it: the number of refusal is the result, and `place` and `count` are
+/// written whatever they held. Callers that only want the answer use `solve_problem`.
+pub fn write_solve(
+    problem: &[u8],
+    costs: &mut [u32],
+    choices: &mut [u8],
+    work: &mut [u32],
+    place: &mut u32,
+    count: &mut u32,
+) -> u8 {
+    lend(frontier_solve, problem, costs, choices, work, place, count)
+}
+
+/// Lists the frontier into the flat buffers.
+pub fn solve_problem(
+    problem: &[u8],
+    costs: &mut [u32],
+    choices: &mut [u8],
+    work: &mut [u32],
+) -> Answer {
+    answer_of(frontier_solve, problem, costs, choices, work)
+}
+
+/// The cut call as C has it: the number of refusal is the result, and `place`, `count`, `first` and
+/// `second` are written whatever they held. Callers that only want the answer use `solve_cut`.
+#[allow(clippy::too_many_arguments)] // they are C's, one for one
+pub fn write_cut(
+    problem: &[u8],
+    sides: &[u8],
+    costs: &mut [u32],
+    choices: &mut [u8],
+    work: &mut [u32],
+    place: &mut u32,
+    count: &mut u32,
+    first: &mut u32,
+    second: &mut u32,
+) -> u8 {
+    // SAFETY: as in `lend`; the side list is read only, as the problem is, and the seven
+    // that are written are exclusive.
+    unsafe {
+        frontier_cut(
+            problem.as_ptr(),
+            problem.len(),
+            sides.as_ptr(),
+            sides.len(),
+            costs.as_mut_ptr(),
+            costs.len(),
+            choices.as_mut_ptr(),
+            choices.len(),
+            work.as_mut_ptr(),
+            work.len(),
+            place,
+            count,
+            first,
+            second,
+        )
+    }
+}
+
+/// Lists the frontier of a problem without linked records by way of its two halves.
+pub fn solve_cut(
+    problem: &[u8],
+    sides: &[u8],
+    costs: &mut [u32],
+    choices: &mut [u8],
+    work: &mut [u32],
+) -> Halves {
+    let (mut place, mut count, mut first, mut second) = (0, 0, 0, 0);
+    let number = write_cut(
+        problem,
+        sides,
+        costs,
+        choices,
+        work,
+        &mut place,
+        &mut count,
+        &mut first,
+        &mut second,
+    );
+    let answer = Answer {
+        number,
+        place,
+        count,
+    };
+    Halves {
+        answer,
+        first,
+        second,
+    }
+}
+
+/// The bound call as C has it: the number of refusal is the result, and `least` and `place` are
+/// written whatever they held. Callers that only want the answer use `bound_prefix`.
+pub fn write_bound(
+    problem: &[u8],
+    prefix: &[u8],
+    least: &mut [u64; MAX_OBJECTIVES],
+    place: &mut u32,
+) -> u8 {
+    // SAFETY: each pointer comes from a reference, so it is aligned, never null (not even for an
+    // empty slice) and valid for the length beside it; the two that are written are exclusive.
+    // The call keeps no pointer after it returns.
+    unsafe {
+        frontier_bound(
+            problem.as_ptr(),
+            problem.len(),
+            prefix.as_ptr(),
+            prefix.len(),
+            least,
+            place,
+        )
+    }
+}
+
+/// Bounds the cost of every completion of a prefix: values for variables 0, 1, and so on.
+pub fn bound_prefix(problem: &[u8], prefix: &[u8]) -> Least {
+    let (mut least, mut place) = ([0; MAX_OBJECTIVES], 0);
+    let number = write_bound(problem, prefix, &mut least, &mut place);
+    Least {
+        number,
+        place,
+        least,
+    }
+}
+
+/// The call for point records as C has it: the number of refusal is the result, and `place` and
+/// `count` are written whatever they held. Callers that only want the answer use `list_points`.
+pub fn write_points(
+    problem: &[u8],
+    points: &mut [Point],
+    work: &mut [u32],
+    place: &mut u32,
+    count: &mut u32,
+) -> u8 {
+    // SAFETY: as in `lend`, with one list in place of two buffers. `Point` has C's layout,
+    // and every content of its fields is valid.
+    unsafe {
+        frontier_points(
+            problem.as_ptr(),
+            problem.len(),
+            points.as_mut_ptr(),
+            points.len(),
+            work.as_mut_ptr(),
+            work.len(),
+            place,
+            count,
+        )
+    }
+}
+
+/// Lists the frontier into point records.
+pub fn list_points(problem: &[u8], points: &mut [Point], work: &mut [u32]) -> Answer {
+    let (mut place, mut count) = (0, 0);
+    let number = write_points(problem, points, work, &mut place, &mut count);
+    Answer {
+        number,
+        place,
+        count,
+    }
+}
