@@ -1,7 +1,7 @@
 //! What `chooser solve`, `cut` and `bound` answer, as text and as JSON.
 
+use chooser::junk::Rng;
 use chooser::owned::Listed;
-use chooser::random::Rng;
 use frontier::refusal::Refusal;
 use testing::brute::bound_prefix;
 use testing::chooser_run::json::{parse, Value};

@@ -30,7 +30,7 @@ fn helps() -> Vec<String> {
 fn all_subcommands_are_listed() {
     let listed = subcommands();
     for name in [
-        "solve", "cut", "bound", "pack", "unpack", "plot", "night", "help",
+        "solve", "cut", "bound", "pack", "unpack", "plot", "batch", "help",
     ] {
         assert!(
             listed.iter().any(|listed| listed == name),

@@ -1,6 +1,6 @@
 //! How `chooser` tells refusals: number, word, place, what stands there, and what to mend.
 
-use chooser::random::Rng;
+use chooser::junk::Rng;
 use frontier::problem::Problem;
 use testing::chooser_run::json::{parse, Value};
 use testing::chooser_run::{run, run_with};

@@ -3,7 +3,7 @@
 
 use std::fs;
 
-use chooser::random::Rng;
+use chooser::junk::Rng;
 use chooser::text::{parse, write, Module, Named, Names};
 use frontier::problem::{Problem, Table, FORBIDDEN};
 use testing::chooser_run::{root, run, run_with};

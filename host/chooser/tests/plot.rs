@@ -5,8 +5,8 @@ use std::fs;
 use std::path::{Path, PathBuf};
 use std::process::Command;
 
+use chooser::junk::Rng;
 use chooser::owned::{frontier_by, Listed};
-use chooser::random::Rng;
 use frontier::lent::solve_problem;
 use frontier::problem::{Problem, Table};
 use testing::chooser_run::{run, Ended};

@@ -85,7 +85,7 @@ fn what_the_long_commands_name_is_there() {
         .collect();
     let expected = [
         "rt staticlib frontier && cargo build --release --offline --manifest-path host/Cargo.toml\n",
-        "host/target/release/chooser night host/data/nightly --limit 2\n",
+        "host/target/release/chooser batch host/data/nightly --limit 2\n",
         "rt check list && target/bin/list < examples/colours.bin\n",
         "bash .ci/run\n",
     ];

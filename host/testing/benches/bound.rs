@@ -8,7 +8,7 @@ use std::env;
 use std::hint::black_box;
 use std::time::{Duration, Instant};
 
-use chooser::random::Rng;
+use chooser::junk::Rng;
 use frontier::lent;
 use frontier::lent::Least;
 use frontier::problem::Problem;

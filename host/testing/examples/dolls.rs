@@ -6,11 +6,11 @@
 use std::path::Path;
 use std::process::ExitCode;
 
-use chooser::night::{read_bytes, read_night};
 use chooser::owned::Buffers;
 use frontier::lent;
 use frontier::limits::MAX_POINTS;
 use frontier::problem::{Problem, Table};
+use testing::night::{read_bytes, read_night};
 use testing::reading::read_problem;
 
 const NIGHT: &str = concat!(env!("CARGO_MANIFEST_DIR"), "/../data/nightly");

@@ -14,6 +14,7 @@ pub mod fence;
 pub mod guard;
 pub mod guarded;
 pub mod mixed;
+pub mod night;
 pub mod owned;
 pub mod plain;
 pub mod point_records;

@@ -12,9 +12,9 @@ use crate::random::{bad_sides, damage, random_choice, random_problem, random_sid
 use crate::random::{uncrossed_sides, Shape};
 use crate::reading::read_problem;
 use chooser::hex::to_hex;
+use chooser::junk::junk;
+use chooser::junk::Rng;
 use chooser::owned::Buffers;
-use chooser::random::junk;
-use chooser::random::Rng;
 use frontier::lent::Least;
 use frontier::lent::{Answer, Halves};
 use frontier::limits::{

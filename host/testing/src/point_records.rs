@@ -3,7 +3,7 @@
 use crate::brute::list_points;
 use crate::mixed::Mixed;
 use chooser::hex::to_hex;
-use chooser::random::Rng;
+use chooser::junk::Rng;
 use frontier::lent::{Answer, Point};
 
 /// A point record with random contents.

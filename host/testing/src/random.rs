@@ -1,7 +1,7 @@
 //! A seeded generator of small random problems, side lists, and damage to bytes.
 
 use crate::brute::cost_vector;
-use chooser::random::Rng;
+use chooser::junk::Rng;
 use frontier::problem::{Problem, Table, FORBIDDEN};
 
 /// The greatest sizes a random problem may have.

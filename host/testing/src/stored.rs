@@ -5,8 +5,8 @@ use std::fmt::Debug;
 use std::path::Path;
 use std::str::FromStr;
 
+use crate::night::{read_bytes, read_night, NightProblem};
 use crate::reading::read_problem;
-use chooser::night::{read_bytes, read_night, NightProblem};
 use chooser::owned::Listed;
 use frontier::limits::MAX_POINTS;
 use frontier::problem::Problem;

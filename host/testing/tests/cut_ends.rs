@@ -1,7 +1,7 @@
 //! What the cut call of the static library writes and what it leaves alone, for every way to end.
 
+use chooser::junk::{junk, Rng};
 use chooser::owned::Buffers;
-use chooser::random::{junk, Rng};
 use frontier::lent::{self, write_cut};
 use frontier::lent::{Answer, Halves};
 use frontier::limits::{LEAST_WORK, MAX_BYTES};

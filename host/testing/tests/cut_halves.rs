@@ -1,8 +1,8 @@
 //! The cut call of the static library on halves of every kind: unequal and empty ones, with arity-0
 //! records, with around 64 points, and with many more pairs than points.
 
+use chooser::junk::{junk, Rng};
 use chooser::owned::{cut_by, frontier_by, Cut, Listed};
-use chooser::random::{junk, Rng};
 use frontier::lent;
 use frontier::lent::Answer;
 use frontier::limits::{LEAST_WORK, MAX_OBJECTIVES, MAX_POINTS, MAX_VARIABLES};

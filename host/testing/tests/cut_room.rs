@@ -1,8 +1,8 @@
 //! The cut call of the static library with buffers of every length that matters: rooms 0 to 64,
 //! lengths around the need, work buffers around 8,192 numbers, and any junk in them.
 
+use chooser::junk::{junk, Rng};
 use chooser::owned::Buffers;
-use chooser::random::{junk, Rng};
 use frontier::lent;
 use frontier::lent::{Answer, Halves};
 use frontier::limits::{LEAST_WORK, MAX_POINTS};

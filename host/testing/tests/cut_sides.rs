@@ -1,8 +1,8 @@
 //! The side lists of the cut call of the static library: which ones are refused, where the first
 //! linked record is, and which refusals come before these.
 
+use chooser::junk::{junk, Rng};
 use chooser::owned::Buffers;
-use chooser::random::{junk, Rng};
 use frontier::lent;
 use frontier::lent::Halves;
 use frontier::limits::{LEAST_WORK, MAX_BYTES, MAX_VARIABLES};

@@ -3,8 +3,8 @@
 
 use std::ops::Range;
 
+use chooser::junk::{junk, Rng};
 use chooser::owned::SolveCall;
-use chooser::random::{junk, Rng};
 use frontier::lent::solve_problem;
 use frontier::lent::Answer;
 use frontier::limits::{LEAST_WORK, MAX_OBJECTIVES, MAX_POINTS, MAX_VARIABLES};

@@ -3,8 +3,8 @@
 
 use std::collections::BTreeMap;
 
+use chooser::junk::{junk, Rng};
 use chooser::owned::{frontier_by, SolveCall};
-use chooser::random::{junk, Rng};
 use frontier::lent;
 use frontier::limits::{LEAST_WORK, MAX_POINTS};
 use frontier::problem::Problem;

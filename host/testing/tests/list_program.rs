@@ -6,7 +6,7 @@ use std::path::Path;
 use std::process::{Command, Output, Stdio};
 use std::thread;
 
-use chooser::random::Rng;
+use chooser::junk::Rng;
 use frontier::limits::MAX_BYTES;
 use testing::examples::{
     brimful, colours, every_arity, lone, objects, pair, staircase, ten_problems, three,

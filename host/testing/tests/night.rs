@@ -4,8 +4,9 @@ use std::fs;
 use std::path::{Path, PathBuf};
 use std::process::{Command, Output};
 
-use chooser::night::{chosen_text, fill_with_junk, night_buffers, parse_expected};
+use chooser::junk::{fill_with_junk, junk_buffers};
 use frontier::limits::MAX_POINTS;
+use testing::night::{chosen_text, parse_expected};
 use testing::owned::list_text;
 use testing::stored::{nightly, Stored, NIGHTLY};
 
@@ -44,7 +45,7 @@ fn the_brute_force_gives_the_expected_texts_of_small_problems() {
 /// Each problem finds what the one before has left in the buffers.
 #[test]
 fn the_whole_night_through_one_set_of_buffers() {
-    let mut lent = night_buffers();
+    let mut lent = junk_buffers();
     for stored in nightly() {
         let text = chosen_text(&mut lent, &stored.bytes);
         assert_eq!(text, stored.expected, "{}", stored.name);
@@ -56,7 +57,7 @@ fn the_whole_night_through_one_set_of_buffers() {
 /// Backwards and with junk in the buffers before each call; the small ones, which are quick.
 #[test]
 fn small_problems_in_other_buffers() {
-    let mut lent = night_buffers();
+    let mut lent = junk_buffers();
     for small in small_problems().iter().rev() {
         fill_with_junk(&mut lent);
         let text = chosen_text(&mut lent, &small.bytes);

@@ -4,12 +4,13 @@ use std::ops::Range;
 use std::path::Path;
 use std::time::Duration;
 
-use chooser::night::{night_buffers, read_bytes};
+use chooser::junk::junk_buffers;
 use chooser::owned::answer_text;
 use frontier::lent::Answer;
 use frontier::limits::LEAST_WORK;
 use frontier::refusal::FULL;
 use testing::mixed::compare_seeds;
+use testing::night::read_bytes;
 use testing::plain::{solve_problem, solve_within, Settings};
 use testing::stored::{nightly, STRESS};
 
@@ -89,7 +90,7 @@ const NIGHT_NODES: u64 = 17_685_303;
 fn the_night_has_its_expected_texts() {
     let mut nodes = 0;
     for stored in nightly() {
-        let mut lent = night_buffers();
+        let mut lent = junk_buffers();
         let (costs, choices) = (&mut lent.costs, &mut lent.choices);
         let outcome = solve_within(
             None,
@@ -111,7 +112,7 @@ fn the_night_has_its_expected_texts() {
 #[test]
 fn a_search_can_be_given_up() {
     let bytes = read_bytes(Path::new(&format!("{STRESS}/tern_x_5.bin"))).expect("a problem");
-    let mut lent = night_buffers();
+    let mut lent = junk_buffers();
     let before = lent.clone();
     let limit = Some(Duration::from_millis(1));
     let (costs, choices) = (&mut lent.costs, &mut lent.choices);

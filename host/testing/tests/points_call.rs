@@ -7,8 +7,8 @@ use std::mem::{align_of, offset_of, size_of};
 use std::ops::Range;
 use std::thread;
 
+use chooser::junk::{junk, Rng};
 use chooser::owned::Buffers;
-use chooser::random::{junk, Rng};
 use frontier::lent::{self, write_points};
 use frontier::lent::{Answer, Point};
 use frontier::limits::{LEAST_WORK, MAX_BYTES, MAX_POINTS};

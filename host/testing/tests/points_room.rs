@@ -1,7 +1,7 @@
 //! The call for point records of the static library with lists of every length that matters, work
 //! buffers around 8,192 numbers, any junk in both, and changed bytes.
 
-use chooser::random::Rng;
+use chooser::junk::Rng;
 use frontier::lent;
 use frontier::lent::{Answer, Point};
 use frontier::limits::{LEAST_WORK, MAX_OBJECTIVES, MAX_POINTS, MAX_VARIABLES};

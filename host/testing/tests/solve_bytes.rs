@@ -1,8 +1,8 @@
 //! The plain call of the static library on changed bytes: every truncation, every change of one
 //! byte, and problems around 60,000 bytes.
 
+use chooser::junk::{junk, Rng};
 use chooser::owned::Buffers;
-use chooser::random::{junk, Rng};
 use frontier::lent;
 use frontier::limits::{LEAST_WORK, MAX_BYTES};
 use frontier::refusal::{CUT_SHORT, LEFTOVER, OVERSIZE, STRAY_MARK};

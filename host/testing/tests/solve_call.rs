@@ -5,8 +5,8 @@ use std::collections::BTreeSet;
 use std::ops::Range;
 use std::thread;
 
+use chooser::junk::{junk, Rng};
 use chooser::owned::Buffers;
-use chooser::random::{junk, Rng};
 use frontier::lent::Answer;
 use frontier::lent::{self, write_solve};
 use frontier::limits::{LEAST_WORK, MAX_BYTES};

@@ -5,12 +5,12 @@ use std::process::ExitCode;
 
 mod advice;
 mod answers;
+mod batch;
+mod batch_summary;
 mod bound;
 mod cut;
 mod files;
 mod help;
-mod night;
-mod night_summary;
 mod pack;
 mod plot;
 mod refused;
@@ -103,10 +103,10 @@ const SUBCOMMANDS: &[Subcommand] = &[
         run: plot::run,
     },
     Subcommand {
-        name: "night",
+        name: "batch",
         summary: "run every problem of a folder, and compare with an earlier run",
-        help: night::HELP,
-        run: night::run,
+        help: batch::HELP,
+        run: batch::run,
     },
     Subcommand {
         name: "help",
@@ -115,6 +115,9 @@ const SUBCOMMANDS: &[Subcommand] = &[
         run: help::run,
     },
 ];
+
+/// Old names of subcommands, which still work, and the names of today.
+const OLD_NAMES: &[(&str, &str)] = &[("night", "batch")];
 
 /// Runs the command on the words after its name.
 pub fn run(words: &[OsString]) -> ExitCode {
@@ -160,8 +163,15 @@ fn is_help(word: &OsStr) -> bool {
     word == "--help" || word == "-h"
 }
 
-/// The subcommand with this name, or what is wrong with it.
+/// The subcommand with this name, or what is wrong with it. Of an old name the new one is told.
 fn find_subcommand(word: &OsStr) -> Result<&'static Subcommand, Failure> {
+    let renamed = OLD_NAMES.iter().find(|(old, _)| word == *old);
+    if let Some((old, name)) = renamed {
+        print_error(&format!(
+            "chooser: the subcommand '{old}' is called '{name}' now; '{old}' still works\n"
+        ));
+    }
+    let word = renamed.map_or(word, |(_, name)| OsStr::new(name));
     let found = SUBCOMMANDS.iter().find(|known| word == known.name);
     found.ok_or_else(|| {
         let asked = word.to_string_lossy();

@@ -1,6 +1,6 @@
 //! Problems of 60,000 bytes, or a few less, in several shapes, with random entries.
 
-use chooser::random::Rng;
+use chooser::junk::Rng;
 use frontier::limits::{MAX_BYTES, MAX_TABLES, MAX_VARIABLES};
 use frontier::problem::{Problem, Table};
 use testing::examples::brimful;

@@ -9,10 +9,9 @@ use std::path::{Path, PathBuf};
 use std::process::ExitCode;
 use std::time::{Duration, Instant};
 
-use chooser::night::{
-    chosen_text, difference, night_buffers, read_bytes, read_night, NightProblem,
-};
+use chooser::junk::junk_buffers;
 use chooser::worker::{asked_limit, serve, Ending, Worker, WORKER};
+use testing::night::{chosen_text, difference, read_bytes, read_night, NightProblem};
 
 const USAGE: &str = "usage: night [--limit SECONDS] [FOLDER]
        night --one FILE
@@ -63,13 +62,13 @@ fn asked_task(arguments: &[String]) -> Result<Task, String> {
 /// What a worker does: for each problem's file the list's text. All problems go through one set of
 /// buffers, which starts with junk.
 fn work() -> Result<(), String> {
-    let mut lent = night_buffers();
+    let mut lent = junk_buffers();
     serve(|path| Ok(chosen_text(&mut lent, &read_bytes(Path::new(path))?)))
 }
 
 /// Prints the list of one problem.
 fn print_one(path: &Path) -> Result<(), String> {
-    let text = chosen_text(&mut night_buffers(), &read_bytes(path)?);
+    let text = chosen_text(&mut junk_buffers(), &read_bytes(path)?);
     print!("{text}");
     Ok(())
 }

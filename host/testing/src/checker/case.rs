@@ -5,7 +5,7 @@ use std::ops::Range;
 use crate::random::{
     bad_sides, parted_problem, random_problem, random_sides, uncrossed_sides, Shape,
 };
-use chooser::random::Rng;
+use chooser::junk::Rng;
 use frontier::problem::Problem;
 
 use super::Verdict;

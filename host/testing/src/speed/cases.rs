@@ -2,7 +2,7 @@
 
 use std::path::Path;
 
-use chooser::night::{read_bytes, read_night};
+use crate::night::{read_bytes, read_night};
 
 /// A problem to measure.
 pub struct Case {

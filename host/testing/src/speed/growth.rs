@@ -4,8 +4,8 @@
 use super::cases::Case;
 use crate::brute::cost_vector;
 use crate::plain::{solve_problem, Settings};
+use chooser::junk::Rng;
 use chooser::owned::Buffers;
-use chooser::random::Rng;
 use frontier::problem::{Problem, Table, FORBIDDEN};
 
 /// So many problems are generated of each size.

@@ -3,7 +3,7 @@
 
 use super::cases::Case;
 use crate::brute::cost_vector;
-use chooser::random::Rng;
+use chooser::junk::Rng;
 use frontier::limits::{MAX_DOMAIN, MAX_VARIABLES};
 use frontier::problem::{Problem, Table, FORBIDDEN};
 

@@ -6,8 +6,8 @@ use super::cases::Case;
 use super::sides::{Ending, Run};
 use super::table::table_text;
 use super::toulbar2::least_cost_listed;
+use crate::night::difference;
 use crate::reading::read_problem;
-use chooser::night::difference;
 
 /// Answers that take longer than this are counted.
 pub const SLOW: Duration = Duration::from_secs(2);

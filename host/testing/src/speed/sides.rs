@@ -8,7 +8,7 @@ use std::time::Duration;
 use crate::plain::{solve_within, Settings};
 use chooser::clock::thread_time;
 use chooser::hex::{from_hex, to_hex};
-use chooser::night::{fill_with_junk, night_buffers};
+use chooser::junk::{fill_with_junk, junk_buffers};
 use chooser::owned::{answer_text, Buffers};
 use chooser::worker::{self, serve, Worker};
 use frontier::{lent, measure};
@@ -114,7 +114,7 @@ impl ChooserSide {
 /// What the worker does: for each line with the length of work memory and a problem in hex a line
 /// with the nanoseconds of the call, and then the list's text.
 pub fn serve_chooser() -> Result<(), String> {
-    let mut lent = night_buffers();
+    let mut lent = junk_buffers();
     serve(|line| {
         let parts = line.split_once(' ');
         let asked = parts.and_then(|(work, rest)| Some((work.parse().ok()?, rest)));
@@ -149,7 +149,7 @@ pub struct PlainSide {
 
 impl PlainSide {
     pub fn new(settings: Settings, limit: Duration) -> PlainSide {
-        let lent = night_buffers();
+        let lent = junk_buffers();
         PlainSide {
             settings,
             limit,

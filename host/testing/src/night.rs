@@ -5,7 +5,8 @@ use std::collections::BTreeMap;
 use std::fs;
 use std::path::{Path, PathBuf};
 
-use crate::owned::{list_text_by, Buffers};
+use chooser::folder::{list_problems, opened, ProblemFile, EXTENSION};
+use chooser::owned::{list_text_by, Buffers};
 use frontier::lent;
 
 /// One of the night's problems: its file's name without the extension, the file, and the text that
@@ -16,9 +17,6 @@ pub struct NightProblem {
     pub path: PathBuf,
     pub expected: Option<String>,
 }
-
-/// The extension of a problem's file.
-const EXTENSION: &str = "bin";
 
 /// Starts a line of the expected texts with the name of a problem.
 const NAME_MARK: &str = "# ";
@@ -32,10 +30,12 @@ pub fn read_night(folder: &Path) -> Result<Vec<NightProblem>, String> {
         true => read_expected(&beside)?,
         false => BTreeMap::new(),
     };
-    let mut problems = list_night(&folder)?;
-    for problem in &mut problems {
-        problem.expected = expected.remove(&problem.name);
-    }
+    let with_text = |ProblemFile { name, path }| NightProblem {
+        expected: expected.remove(&name),
+        name,
+        path,
+    };
+    let problems = list_problems(&folder)?.into_iter().map(with_text).collect();
     match expected.keys().next() {
         None => Ok(problems),
         Some(name) => Err(format!(
@@ -47,61 +47,11 @@ pub fn read_night(folder: &Path) -> Result<Vec<NightProblem>, String> {
     }
 }
 
-/// All problems of a folder in the order of their names, with nothing expected.
-pub fn list_night(folder: &Path) -> Result<Vec<NightProblem>, String> {
-    let named = |path: PathBuf| {
-        Ok(NightProblem {
-            name: stem_of(&path)?,
-            path,
-            expected: None,
-        })
-    };
-    let files = problem_files(&opened(folder)?)?;
-    files.into_iter().map(named).collect()
-}
-
-/// The folder by its whole name.
-fn opened(folder: &Path) -> Result<PathBuf, String> {
-    fs::canonicalize(folder).map_err(|error| {
-        format!(
-            "the folder {} cannot be opened ({error}); name a folder of problem files",
-            folder.display()
-        )
-    })
-}
-
 /// The file with the expected texts of a folder.
 fn expected_beside(folder: &Path) -> PathBuf {
     let mut path = folder.as_os_str().to_owned();
     path.push(".expected");
     path.into()
-}
-
-/// The problem files of a folder, sorted; at least one.
-fn problem_files(folder: &Path) -> Result<Vec<PathBuf>, String> {
-    let unreadable = |error| format!("the folder {} cannot be read: {error}", folder.display());
-    let mut files = Vec::new();
-    for entry in fs::read_dir(folder).map_err(unreadable)? {
-        let path = entry.map_err(unreadable)?.path();
-        if path.extension().is_some_and(|end| end == EXTENSION) {
-            files.push(path);
-        }
-    }
-    if files.is_empty() {
-        return Err(format!(
-            "the folder {} has no problem file (NAME.{EXTENSION}); name a folder of such files",
-            folder.display()
-        ));
-    }
-    files.sort();
-    Ok(files)
-}
-
-/// A file's name without its extension.
-fn stem_of(path: &Path) -> Result<String, String> {
-    let stem = path.file_stem().and_then(|stem| stem.to_str());
-    let unnamed = || format!("the name of {} is no text; rename the file", path.display());
-    stem.map(String::from).ok_or_else(unnamed)
 }
 
 /// The expected texts by the names of their problems.
@@ -144,19 +94,6 @@ pub fn read_bytes(path: &Path) -> Result<Vec<u8>, String> {
             path.display()
         )
     })
-}
-
-/// Buffers with room for 64 points of any problem, full of junk.
-pub fn night_buffers() -> Buffers {
-    let mut lent = Buffers::full();
-    fill_with_junk(&mut lent);
-    lent
-}
-
-pub fn fill_with_junk(lent: &mut Buffers) {
-    lent.costs.fill(0xa5a5_a5a5);
-    lent.choices.fill(0xa5);
-    lent.work.fill(0xa5a5_a5a5);
 }
 
 /// What the list program prints for these bytes, by the static library's plain call. What the

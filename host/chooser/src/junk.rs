@@ -1,4 +1,4 @@
-//! A seeded generator of random numbers, and junk in buffers.
+//! Junk in buffers, and the seeded generator of random numbers that it comes from.
 
 use crate::owned::Buffers;
 
@@ -53,4 +53,18 @@ pub fn junk(rng: &mut Rng, costs: usize, choices: usize, work: usize) -> Buffers
         choices: (0..choices).map(|_| rng.bits() as u8).collect(),
         work: vec![fill; work],
     }
+}
+
+/// Buffers with room for 64 points of any problem, full of junk.
+pub fn junk_buffers() -> Buffers {
+    let mut lent = Buffers::full();
+    fill_with_junk(&mut lent);
+    lent
+}
+
+/// Fills all of the buffers with the same junk.
+pub fn fill_with_junk(lent: &mut Buffers) {
+    lent.costs.fill(0xa5a5_a5a5);
+    lent.choices.fill(0xa5);
+    lent.work.fill(0xa5a5_a5a5);
 }

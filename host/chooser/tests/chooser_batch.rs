@@ -1,13 +1,13 @@
-//! `chooser night`: its table, the comparison of runs, the second call, and every way to fail.
+//! `chooser batch`: its table, the comparison of runs, the second call, and every way to fail.
 
 use std::fs;
 use std::path::{Path, PathBuf};
 
+use chooser::batch_csv::{parse_rows, write_rows, Row, COLUMNS};
+use chooser::batch_worker::call_twice;
 use chooser::digest::fnv_1a;
-use chooser::night_csv::{parse_rows, write_rows, Row, COLUMNS};
-use chooser::night_worker::call_twice;
+use chooser::junk::Rng;
 use chooser::owned::{Buffers, SolveCall};
-use chooser::random::Rng;
 use frontier::lent::Answer;
 use testing::brute::solve_problem;
 use testing::chooser_run::{folder, run_in, Ended};
@@ -27,8 +27,8 @@ fn problems() -> Vec<(&'static str, Vec<u8>)> {
 }
 
 /// A folder with these problems, in a folder of its own in which tables can stand.
-fn night_folder(name: &str) -> PathBuf {
-    let folder = folder(&format!("night_{name}"));
+fn batch_folder(name: &str) -> PathBuf {
+    let folder = folder(&format!("batch_{name}"));
     fs::create_dir(folder.join("in")).expect("a folder can be made");
     for (problem, bytes) in problems() {
         let file = folder.join(format!("in/{problem}.bin"));
@@ -38,20 +38,20 @@ fn night_folder(name: &str) -> PathBuf {
 }
 
 /// Runs the command in a folder.
-fn night(folder: &Path, words: &[&str]) -> Ended {
-    run_in(folder, &[&["night"], words].concat(), &[])
+fn batch(folder: &Path, words: &[&str]) -> Ended {
+    run_in(folder, &[&["batch"], words].concat(), &[])
 }
 
 /// Asserts how a run ends and that it is quiet on standard error; what it prints.
 fn printed(folder: &Path, words: &[&str], status: i32) -> String {
-    let ended = night(folder, words).with(status);
+    let ended = batch(folder, words).with(status);
     assert_eq!(ended.err, "");
     ended.text().into()
 }
 
 /// Asserts the status and the words of a run that cannot be made.
 fn assert_complaint(folder: &Path, words: &[&str], status: i32, complaint: &str) {
-    let ended = night(folder, words).with(status).tells(&[complaint]);
+    let ended = batch(folder, words).with(status).tells(&[complaint]);
     assert_eq!(ended.text(), "", "{words:?}");
 }
 
@@ -66,7 +66,7 @@ fn timeless_rows(table: &Path) -> Vec<Row> {
 
 #[test]
 fn the_table_has_what_the_brute_force_answers() {
-    let folder = night_folder("table");
+    let folder = batch_folder("table");
     let text = printed(&folder, &["in", "--csv", "out.csv"], 0);
     let last = text.lines().last().unwrap();
     assert!(last.starts_with("6 in all: 3 answered, 3 refused, 0 without an answer; "));
@@ -101,7 +101,7 @@ fn the_table_has_what_the_brute_force_answers() {
 
 #[test]
 fn any_number_of_jobs_gives_the_same_table() {
-    let folder = night_folder("jobs");
+    let folder = batch_folder("jobs");
     for jobs in ["1", "2", "7"] {
         printed(&folder, &["in", "--jobs", jobs, "--csv", jobs], 0);
     }
@@ -112,7 +112,7 @@ fn any_number_of_jobs_gives_the_same_table() {
 
 #[test]
 fn an_equal_run_has_no_difference() {
-    let folder = night_folder("equal");
+    let folder = batch_folder("equal");
     printed(&folder, &["in", "--csv", "old.csv"], 0);
     let text = printed(&folder, &["in", "--compare", "old.csv", "--twice"], 0);
     assert!(
@@ -122,8 +122,27 @@ fn an_equal_run_has_no_difference() {
 }
 
 #[test]
+fn the_old_word_does_the_same_and_tells_the_new_one() {
+    let folder = batch_folder("renamed");
+    printed(&folder, &["in", "--csv", "new.csv"], 0);
+    let told = ["'night' is called 'batch' now"];
+    let words = ["night", "in", "--csv", "old.csv", "--compare", "new.csv"];
+    let ended = run_in(&folder, &words, &[]).with(0).tells(&told);
+    assert!(ended
+        .text()
+        .contains("\ncompared: 6 the same, 0 different\n"));
+    assert_eq!(
+        timeless_rows(&folder.join("old.csv")),
+        timeless_rows(&folder.join("new.csv"))
+    );
+    let due = run_in(&folder, &["help", "batch"], &[]).with(0).out;
+    let help = run_in(&folder, &["help", "night"], &[]).with(0);
+    assert_eq!(help.tells(&told).out, due);
+}
+
+#[test]
 fn every_difference_is_named() {
-    let folder = night_folder("different");
+    let folder = batch_folder("different");
     printed(&folder, &["in", "--csv", "old.csv"], 0);
     let mut rows: Vec<Row> = timeless_rows(&folder.join("old.csv"));
     rows[0].told.as_mut().unwrap().digest ^= 1;
@@ -147,7 +166,7 @@ fn every_difference_is_named() {
 
 #[test]
 fn a_problem_that_is_too_slow_is_given_up() {
-    let folder = night_folder("hurried");
+    let folder = batch_folder("hurried");
     let words = ["in", "--limit", "0.000001", "--csv", "out.csv"];
     let text = printed(&folder, &words, 1);
     assert!(text.contains("a: given up after 0.000001 s\n"), "{text}");
@@ -158,7 +177,7 @@ fn a_problem_that_is_too_slow_is_given_up() {
 
 #[test]
 fn what_cannot_be_run_is_complained_about() {
-    let folder = night_folder("complaints");
+    let folder = batch_folder("complaints");
     let [missing, empty] = ["no/such/folder", "empty"];
     fs::create_dir(folder.join(empty)).expect("a folder can be made");
     assert_complaint(&folder, &[], 2, "DIR is missing");
@@ -182,7 +201,7 @@ fn what_cannot_be_run_is_complained_about() {
 
 #[test]
 fn a_file_that_cannot_be_read_is_told_before_the_run() {
-    let folder = night_folder("unreadable");
+    let folder = batch_folder("unreadable");
     fs::create_dir(folder.join("in/folder.bin")).expect("a folder can be made");
     let complaint = "in/folder.bin cannot be read";
     assert_complaint(&folder, &["in", "--csv", "out.csv"], 2, complaint);
@@ -191,7 +210,7 @@ fn a_file_that_cannot_be_read_is_told_before_the_run() {
 
 #[test]
 fn the_earlier_table_is_not_replaced() {
-    let folder = night_folder("kept");
+    let folder = batch_folder("kept");
     printed(&folder, &["in", "--csv", "old.csv"], 0);
     let before = fs::read(folder.join("old.csv")).expect("a table");
     let words = ["in", "--compare", "old.csv", "--csv", "in/../old.csv"];
@@ -201,7 +220,7 @@ fn the_earlier_table_is_not_replaced() {
 
 #[test]
 fn a_table_that_is_none_is_told_with_its_line() {
-    let folder = night_folder("tables");
+    let folder = batch_folder("tables");
     let row = "a,155,0,0,2,7,00000000000000ff\n";
     for (text, complaint) in [
         (String::new(), "line 1: the columns name,bytes,"),

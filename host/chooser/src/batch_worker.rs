@@ -1,13 +1,12 @@
-//! What a worker of the night does with a problem: the plain call through one set of buffers, its
+//! What a worker of a batch does with a problem: the plain call through one set of buffers, its
 //! time and digest, and a second call from other junk.
 
+use crate::batch_csv::Told;
 use crate::clock::thread_time;
 use crate::digest::answer_digest;
 use crate::hex::{from_hex, to_hex};
-use crate::night::night_buffers;
-use crate::night_csv::Told;
+use crate::junk::{junk, junk_buffers, Rng};
 use crate::owned::{Buffers, SolveCall};
-use crate::random::{junk, Rng};
 use crate::worker::serve;
 use frontier::lent::solve_problem;
 use frontier::lent::Answer;
@@ -37,8 +36,8 @@ pub fn parse_answer(text: &str) -> Option<(Told, Option<String>)> {
 
 /// Answers questions until there are no more. All problems go through one set of buffers, which
 /// starts with junk.
-pub fn serve_night(twice: bool) -> Result<(), String> {
-    let (mut lent, mut rng) = (night_buffers(), Rng::new(0));
+pub fn serve_batch(twice: bool) -> Result<(), String> {
+    let (mut lent, mut rng) = (junk_buffers(), Rng::new(0));
     serve(|line| {
         let bytes = from_hex(line).ok_or("a problem in hexadecimal digits is due")?;
         let (told, checked) = match twice {

@@ -1,4 +1,4 @@
-//! A night's run as a table of comma-separated values: written, read back, and compared.
+//! A batch's run as a table of comma-separated values: written, read back, and compared.
 
 use std::collections::BTreeMap;
 

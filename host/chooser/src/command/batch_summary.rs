@@ -1,9 +1,9 @@
-//! What `chooser night` tells at the end of a run.
+//! What `chooser batch` tells at the end of a run.
 
 use std::collections::BTreeMap;
 use std::time::Duration;
 
-use crate::night_csv::{Comparison, Row, Told};
+use crate::batch_csv::{Comparison, Row, Told};
 use frontier::refusal::word_of;
 
 /// So many of the slowest problems are told.

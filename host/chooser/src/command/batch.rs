@@ -1,4 +1,4 @@
-//! `chooser night`: all problems of a folder, their times and answers, and the comparison with an
+//! `chooser batch`: all problems of a folder, their times and answers, and the comparison with an
 //! earlier run.
 
 use std::collections::BTreeMap;
@@ -11,19 +11,19 @@ use std::sync::mpsc::{self, Receiver, RecvTimeoutError, Sender};
 use std::thread;
 use std::time::{Duration, Instant};
 
-use super::night_summary::{seconds, summary};
+use super::batch_summary::{seconds, summary};
 use super::{
     check_target, print_out, read_file, sort_words, write_file, Asked, Failure, Known, Outcome,
 };
-use crate::night::list_night;
-use crate::night_csv::{compare_rows, parse_rows, write_rows, Row, Told};
-use crate::night_worker::{parse_answer, question, serve_night, TWICE};
+use crate::batch_csv::{compare_rows, parse_rows, write_rows, Row, Told};
+use crate::batch_worker::{parse_answer, question, serve_batch, TWICE};
+use crate::folder;
 use crate::progress::show_progress;
 use crate::worker::{parse_limit, Ending, Worker, WORKER};
 use frontier::limits::MAX_BYTES;
 
 pub const HELP: &str = "\
-usage: chooser night DIR [--jobs N] [--limit SECONDS] [--csv OUT]
+usage: chooser batch DIR [--jobs N] [--limit SECONDS] [--csv OUT]
                      [--compare FILE] [--twice]
 
 Runs every problem of the folder DIR (files NAME.bin, in the order of their
@@ -43,7 +43,7 @@ given up, differs in the second call, or is missing, new or different in
 --compare; 2 if the words are wrong or a file cannot be read or written.
 
 Example:
-    chooser night examples --twice
+    chooser batch examples --twice
 ";
 
 const OPTIONS: &[Known] = &[
@@ -70,7 +70,7 @@ const PROGRESS: Duration = Duration::from_millis(200);
 pub fn run(words: &[OsString]) -> Result<Outcome, Failure> {
     if let Some((first, rest)) = words.split_first() {
         if first == WORKER {
-            let served = serve_night(rest == [TWICE]);
+            let served = serve_batch(rest == [TWICE]);
             return served.map(|()| Outcome::Answered).map_err(Failure::misuse);
         }
     }
@@ -78,17 +78,17 @@ pub fn run(words: &[OsString]) -> Result<Outcome, Failure> {
     let plan = Plan::new(&asked)?;
     let problems = list_problems(asked.operands(["DIR"])?[0])?;
     let start = Instant::now();
-    let mut night = Night::default();
-    plan.run_all(&problems, &mut night);
-    let rows = night.rows(&problems);
+    let mut batch = Batch::default();
+    plan.run_all(&problems, &mut batch);
+    let rows = batch.rows(&problems);
     let compared = plan.earlier.map(|earlier| compare_rows(&rows, earlier));
-    let is_right = night.faults.is_empty()
+    let is_right = batch.faults.is_empty()
         && compared
             .as_ref()
             .is_none_or(|found| found.differences.is_empty());
     let text = summary(
         &rows,
-        night.faults.values(),
+        batch.faults.values(),
         compared.as_ref(),
         start.elapsed(),
     );
@@ -132,7 +132,7 @@ impl Plan {
     }
 
     /// Runs the problems on all workers and takes up how each ends.
-    fn run_all(&self, problems: &[Listed], night: &mut Night) {
+    fn run_all(&self, problems: &[Listed], batch: &mut Batch) {
         let (sender, endings) = mpsc::channel();
         let next = AtomicUsize::new(0);
         thread::scope(|scope| {
@@ -141,7 +141,7 @@ impl Plan {
                 scope.spawn(move || self.work(problems, next, &sender));
             }
             drop(sender);
-            night.take_all(problems, &endings);
+            batch.take_all(problems, &endings);
         });
     }
 
@@ -164,7 +164,7 @@ impl Plan {
     /// Asks a worker about a problem; one that does not answer is replaced by the next question.
     fn ask(&self, kept: &mut Option<Worker>, problem: &Listed) -> Result<End, String> {
         let (bytes, _) = read_problem(&problem.path)?;
-        let words = ["night", WORKER, TWICE];
+        let words = ["batch", WORKER, TWICE];
         let (words, limit) = match self.twice {
             true => (&words[..], self.limit.saturating_mul(2)),
             false => (&words[..2], self.limit),
@@ -207,8 +207,8 @@ struct Listed {
 }
 
 /// All problems of a folder. A file that cannot be read is told before the run and not in it.
-fn list_problems(folder: &OsStr) -> Result<Vec<Listed>, Failure> {
-    let problems = list_night(Path::new(folder)).map_err(Failure::misuse)?;
+fn list_problems(named: &OsStr) -> Result<Vec<Listed>, Failure> {
+    let problems = folder::list_problems(Path::new(named)).map_err(Failure::misuse)?;
     let listed = problems.into_iter().map(|problem| {
         // The bytes are read again when they are due, so that a folder may be larger than memory.
         let (_, length) = read_problem(&problem.path).map_err(Failure::misuse)?;
@@ -245,7 +245,7 @@ fn read_earlier(file: &OsStr) -> Result<BTreeMap<String, Row>, Failure> {
     let rows = text.and_then(|text| parse_rows(&text));
     rows.map_err(|complaint| {
         Failure::file(format!(
-            "{shown}: {complaint}; name a file that 'chooser night --csv' has written"
+            "{shown}: {complaint}; name a file that 'chooser batch --csv' has written"
         ))
     })
 }
@@ -266,7 +266,7 @@ fn check_csv(out: &OsStr, earlier: Option<&OsStr>) -> Result<(), Failure> {
 
 /// What has come of the problems.
 #[derive(Default)]
-struct Night {
+struct Batch {
     /// What each problem's call has told, by the problem's index.
     told: BTreeMap<usize, Told>,
     /// A line for each problem that was given up, whose worker died, or whose calls differ.
@@ -274,7 +274,7 @@ struct Night {
     slowest: Option<(u64, usize)>,
 }
 
-impl Night {
+impl Batch {
     /// Takes up the endings of all problems, as they come.
     fn take_all(&mut self, problems: &[Listed], endings: &Receiver<Sent>) {
         let start = Instant::now();
