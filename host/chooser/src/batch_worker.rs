@@ -3,13 +3,11 @@
 
 use crate::batch_csv::Told;
 use crate::clock::thread_time;
-use crate::digest::answer_digest;
+use crate::digest::list_digest;
 use crate::hex::{from_hex, to_hex};
 use crate::junk::{junk, junk_buffers, Rng};
-use crate::owned::{Buffers, SolveCall};
 use crate::worker::serve;
-use frontier::lent::solve_problem;
-use frontier::lent::Answer;
+use frontier::lent::{solve_problem, Answer, Buffers, SolveCall};
 use frontier::refusal::FULL;
 
 /// The option by which every call is made twice.
@@ -52,12 +50,10 @@ pub fn serve_batch(twice: bool) -> Result<(), String> {
     })
 }
 
-/// p and n, as the head of an accepted problem has them.
-fn sizes(bytes: &[u8], answer: Answer) -> [usize; 2] {
-    match (answer.number, bytes) {
-        (0, [_, _, n, p, ..]) => [*p, *n].map(usize::from),
-        _ => [0, 0],
-    }
+/// The costs and the choices that an answer has listed; nothing after a refusal.
+fn listed<'a>(lent: &'a Buffers, bytes: &[u8], answer: Answer) -> (&'a [u32], &'a [u8]) {
+    let list = lent.listed(bytes, answer);
+    list.map_or((&[], &[]), |list| (list.costs(), list.choices()))
 }
 
 /// A flat call once, and whether the buffers are as they must be.
@@ -66,32 +62,33 @@ pub fn call_once(call: SolveCall, lent: &mut Buffers, bytes: &[u8]) -> (Told, Re
     let start = thread_time();
     let answer = lent.lend(call, bytes);
     let time = thread_time().saturating_sub(start);
-    let sizes = sizes(bytes, answer);
+    let (costs, choices) = listed(lent, bytes, answer);
     let told = Told {
         number: answer.number,
         place: answer.place,
         count: answer.count,
         microseconds: time.as_micros() as u64,
-        digest: answer_digest(lent, answer, sizes),
+        digest: list_digest(costs, choices),
     };
-    (told, check_left(&before, lent, answer, sizes))
+    let written = [costs.len(), choices.len()];
+    (told, check_left(&before, lent, answer.number, written))
 }
 
-/// Whether a call has left unchanged what it may not write, and has cleared the work buffer.
+/// Whether a call that has written so many costs and choices has left the others unchanged, and has
+/// cleared the work buffer.
 fn check_left(
     before: &Buffers,
     after: &Buffers,
-    answer: Answer,
-    [p, n]: [usize; 2],
+    number: u8,
+    [costs, choices]: [usize; 2],
 ) -> Result<(), String> {
-    let count = answer.count as usize;
-    if before.costs[count * p..] != after.costs[count * p..] {
+    if before.costs[costs..] != after.costs[costs..] {
         return Err("the call has changed costs behind the last point".into());
     }
-    if before.choices[count * n..] != after.choices[count * n..] {
+    if before.choices[choices..] != after.choices[choices..] {
         return Err("the call has changed choices behind the last point".into());
     }
-    let cleared = answer.number == 0 || answer.number == FULL;
+    let cleared = number == 0 || number == FULL;
     let work_is_due = match cleared {
         true => after.work.iter().all(|&number| number == 0),
         false => before.work == after.work,
@@ -138,9 +135,7 @@ fn compare_again(
             "from other junk the call answers {other:?} instead of {one:?}"
         ));
     }
-    let ([p, n], count) = (sizes(bytes, answer(told)), told.count as usize);
-    let same = first.costs[..count * p] == second.costs[..count * p]
-        && first.choices[..count * n] == second.choices[..count * n];
+    let same = listed(first, bytes, answer(told)) == listed(&second, bytes, answer(told));
     match same {
         true => Ok(()),
         false => Err("from other junk the call lists other points".into()),

@@ -1,8 +1,5 @@
 //! The digest of an answer's bytes: FNV-1a with 64 bits.
 
-use crate::owned::Buffers;
-use frontier::lent::Answer;
-
 /// What the digest of no byte is.
 const START: u64 = 0xcbf2_9ce4_8422_2325;
 
@@ -15,17 +12,10 @@ pub fn fnv_1a(bytes: impl IntoIterator<Item = u8>) -> u64 {
     bytes.into_iter().fold(START, step)
 }
 
-/// The digest of what an answer has listed in the buffers: the costs, little-endian, and then the
-/// choices, of a problem with p objectives and n variables.
-pub fn answer_digest(lent: &Buffers, answer: Answer, [p, n]: [usize; 2]) -> u64 {
-    let count = answer.count as usize;
-    let costs = lent.costs.iter().take(count * p);
-    let choices = lent.choices.iter().take(count * n);
-    fnv_1a(
-        costs
-            .flat_map(|cost| cost.to_le_bytes())
-            .chain(choices.copied()),
-    )
+/// The digest of a list in flat buffers: the costs, little-endian, and then the choices.
+pub fn list_digest(costs: &[u32], choices: &[u8]) -> u64 {
+    let costs = costs.iter().flat_map(|cost| cost.to_le_bytes());
+    fnv_1a(costs.chain(choices.iter().copied()))
 }
 
 #[cfg(test)]

@@ -1,6 +1,6 @@
 //! Junk in buffers, and the seeded generator of random numbers that it comes from.
 
-use crate::owned::Buffers;
+use frontier::lent::Buffers;
 
 /// SplitMix64: a small generator whose whole state is its seed, so a seed reproduces a case.
 pub struct Rng(u64);

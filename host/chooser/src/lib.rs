@@ -12,7 +12,6 @@ pub mod hex;
 pub mod json;
 pub mod junk;
 pub mod nearest;
-pub mod owned;
 pub mod plot;
 pub mod progress;
 pub mod records;

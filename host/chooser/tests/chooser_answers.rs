@@ -1,13 +1,12 @@
 //! What `chooser solve`, `cut` and `bound` answer, as text and as JSON.
 
 use chooser::junk::Rng;
-use chooser::owned::Listed;
-use frontier::refusal::Refusal;
+use frontier::Refusal;
 use testing::brute::bound_prefix;
 use testing::chooser_run::json::{parse, Value};
 use testing::chooser_run::{run, run_with};
 use testing::examples::{colours, lone, pair, staircase, three};
-use testing::owned::{cut_of, frontier_of};
+use testing::owned::{cut_of, frontier_of, Listed};
 use testing::random::{parted_problem, random_choice, random_problem, uncrossed_sides, Shape};
 
 const FIRMWARE: &str = "\
@@ -172,10 +171,8 @@ fn listed(value: &Value) -> Vec<Listed> {
 /// The refusal of a JSON answer.
 fn refusal(value: &Value) -> Refusal {
     let refused = value.at("refused");
-    Refusal {
-        number: refused.at("number").number() as u8,
-        place: refused.at("place").number() as u32,
-    }
+    let [number, place] = ["number", "place"].map(|name| refused.at(name).number());
+    Refusal::new(number as u8, place as u32).expect("a refusal")
 }
 
 #[test]

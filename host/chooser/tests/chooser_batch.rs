@@ -7,8 +7,7 @@ use chooser::batch_csv::{parse_rows, write_rows, Row, COLUMNS};
 use chooser::batch_worker::call_twice;
 use chooser::digest::fnv_1a;
 use chooser::junk::Rng;
-use chooser::owned::{Buffers, SolveCall};
-use frontier::lent::Answer;
+use frontier::lent::{Answer, Buffers, SolveCall};
 use testing::brute::solve_problem;
 use testing::chooser_run::{folder, run_in, Ended};
 use testing::examples::{colours, objects, staircase, three};
@@ -86,7 +85,7 @@ fn the_table_has_what_the_brute_force_answers() {
         let told = row.told.expect("an answer");
         let answer = [told.number.into(), told.place, told.count];
         match frontier_of(&bytes) {
-            Err(refusal) => assert_eq!(answer, [refusal.number.into(), refusal.place, 0]),
+            Err(refusal) => assert_eq!(answer, [refusal.number().into(), refusal.place(), 0]),
             Ok(list) => {
                 assert_eq!(answer, [0, 0, list.len() as u32]);
                 let costs = list.iter().flat_map(|point| point.costs.clone());

@@ -7,7 +7,7 @@ use chooser::hex::from_hex;
 use frontier::limits::{
     MAX_ARITY, MAX_BYTES, MAX_DOMAIN, MAX_OBJECTIVES, MAX_TABLES, MAX_VARIABLES,
 };
-use frontier::problem::{Problem, Table, FORBIDDEN};
+use frontier::{Problem, Table, FORBIDDEN};
 use testing::chooser_run::json::{parse, Value};
 use testing::chooser_run::{folder, root, run, run_with};
 use testing::reading::read_problem;

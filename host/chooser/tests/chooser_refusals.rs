@@ -1,7 +1,7 @@
 //! How `chooser` tells refusals: number, word, place, what stands there, and what to mend.
 
 use chooser::junk::Rng;
-use frontier::problem::Problem;
+use frontier::Problem;
 use testing::chooser_run::json::{parse, Value};
 use testing::chooser_run::{run, run_with};
 use testing::examples::{brimful, colours, pair, staircase};

@@ -5,7 +5,7 @@ use std::fs;
 
 use chooser::junk::Rng;
 use chooser::text::{parse, write, Module, Named, Names};
-use frontier::problem::{Problem, Table, FORBIDDEN};
+use frontier::{Problem, Table, FORBIDDEN};
 use testing::chooser_run::{root, run, run_with};
 use testing::examples::{brimful, ten_problems};
 use testing::random::{random_problem, Shape};

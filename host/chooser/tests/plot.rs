@@ -6,11 +6,11 @@ use std::path::{Path, PathBuf};
 use std::process::Command;
 
 use chooser::junk::Rng;
-use chooser::owned::{frontier_by, Listed};
 use frontier::lent::solve_problem;
-use frontier::problem::{Problem, Table};
+use frontier::{Problem, Table};
 use testing::chooser_run::{run, Ended};
 use testing::examples::{colours, every_arity, lone, objects, staircase, three};
+use testing::owned::{frontier_by, Listed};
 use testing::random::{random_problem, Shape};
 
 use testing::xml::{parse, Element};

@@ -6,10 +6,7 @@ use std::env;
 use std::fs;
 use std::process::ExitCode;
 
-use frontier::lent::solve_problem;
-use frontier::limits::{LEAST_WORK, MAX_OBJECTIVES, MAX_POINTS, MAX_VARIABLES};
-use frontier::problem::Problem;
-use frontier::refusal::word_of;
+use frontier::Chooser;
 
 /// Numbers with a space between neighbours.
 fn words<T: ToString>(numbers: &[T]) -> String {
@@ -29,24 +26,15 @@ fn main() -> ExitCode {
             return ExitCode::from(2);
         }
     };
-    // The library allocates nothing. These buffers do for every problem, and can be lent again.
-    let mut costs = [0; MAX_POINTS * MAX_OBJECTIVES];
-    let mut choices = [0; MAX_POINTS * MAX_VARIABLES];
-    let mut work = [0; LEAST_WORK];
-    let answer = solve_problem(&problem, &mut costs, &mut choices, &mut work);
-    match Problem::decode(&problem) {
-        Ok(problem) if answer.number == 0 => {
-            let costs = costs.chunks(problem.objectives());
-            let points = costs.zip(choices.chunks(problem.variables()));
-            for (costs, choice) in points.take(answer.count as usize) {
-                println!("{} : {}", words(costs), words(choice));
+    match Chooser::new().solve(&problem) {
+        Ok(frontier) => {
+            for point in frontier {
+                println!("{} : {}", words(point.costs), words(point.choice));
             }
             ExitCode::SUCCESS
         }
-        _ => {
-            let (number, place) = (answer.number, answer.place);
-            let word = word_of(number);
-            eprintln!("solve: refused with number {number} ({word}) at byte {place}");
+        Err(refusal) => {
+            eprintln!("solve: {refusal}");
             ExitCode::FAILURE
         }
     }

@@ -1,6 +1,6 @@
 //! The exported calls of the static library, as `include/frontier.h` declares them.
 
-use crate::lent::Point;
+use crate::lent::PointRecord;
 use crate::limits::MAX_OBJECTIVES;
 
 // The exported calls. Nothing checks these lines against the library, so they stand together and
@@ -61,7 +61,7 @@ extern "C" {
     pub fn frontier_points(
         problem: *const u8,
         problem_len: usize,
-        points: *mut Point,
+        points: *mut PointRecord,
         points_len: usize,
         work: *mut u32,
         work_len: usize,

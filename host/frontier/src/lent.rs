@@ -1,15 +1,21 @@
-//! The calls with lent buffers: a safe wrapper for each call that `include/frontier.h` declares, with
-//! the same meaning.
+//! The calls with lent buffers, for those who bring their own: a safe wrapper for each call that
+//! `include/frontier.h` declares, with the same meaning. Numbers of refusal are those of
+//! [`refusal`](crate::refusal), 0 is none.
 
 use crate::ffi::{frontier_bound, frontier_cut, frontier_points, frontier_solve, Solve};
 use crate::limits::{MAX_OBJECTIVES, MAX_VARIABLES};
 use crate::refusal::Refusal;
 
+pub use crate::buffers::{Buffers, CutCall, SolveCall};
+
 /// What a call answers: number 0 and the count of points, or a refusal with count 0.
 #[derive(Clone, Copy, Debug, PartialEq, Eq)]
 pub struct Answer {
+    /// The number of refusal, or 0.
     pub number: u8,
+    /// The place of the refusal; 0 where it has none.
     pub place: u32,
+    /// How many points are listed.
     pub count: u32,
 }
 
@@ -27,26 +33,31 @@ impl Answer {
 impl From<Refusal> for Answer {
     fn from(refusal: Refusal) -> Answer {
         Answer {
-            number: refusal.number,
-            place: refusal.place,
+            number: refusal.number(),
+            place: refusal.place(),
             count: 0,
         }
     }
 }
 
-/// A point record of the call for host tools; unused costs and choices are zero.
+/// A point as [`list_points`] writes it, with the layout of C.
 #[repr(C)]
 #[derive(Clone, Copy, Debug, PartialEq, Eq)]
-pub struct Point {
+pub struct PointRecord {
+    /// The cost in each objective; behind the last one 0.
     pub costs: [u32; MAX_OBJECTIVES],
+    /// The value of each variable; behind the last one 0.
     pub choice: [u8; MAX_VARIABLES],
 }
 
 /// What the cut call answers: also the two halves' frontier sizes, 0 after a refusal.
 #[derive(Clone, Copy, Debug, PartialEq, Eq)]
 pub struct Halves {
+    /// What the plain call would answer.
     pub answer: Answer,
+    /// How many points the frontier of side 0 has.
     pub first: u32,
+    /// How many points the frontier of side 1 has.
     pub second: u32,
 }
 
@@ -64,16 +75,19 @@ impl From<Refusal> for Halves {
 /// and after a refusal all are.
 #[derive(Clone, Copy, Debug, PartialEq, Eq)]
 pub struct Least {
+    /// The number of refusal, or 0.
     pub number: u8,
+    /// The place of the refusal; 0 where it has none.
     pub place: u32,
+    /// The bound in each objective.
     pub least: [u64; MAX_OBJECTIVES],
 }
 
 impl From<Refusal> for Least {
     fn from(refusal: Refusal) -> Least {
         Least {
-            number: refusal.number,
-            place: refusal.place,
+            number: refusal.number(),
+            place: refusal.place(),
             least: [0; MAX_OBJECTIVES],
         }
     }
@@ -255,12 +269,12 @@ pub fn bound_prefix(problem: &[u8], prefix: &[u8]) -> Least {
 /// `count` are written whatever they held. Callers that only want the answer use `list_points`.
 pub fn write_points(
     problem: &[u8],
-    points: &mut [Point],
+    points: &mut [PointRecord],
     work: &mut [u32],
     place: &mut u32,
     count: &mut u32,
 ) -> u8 {
-    // SAFETY: as in `lend`, with one list in place of two buffers. `Point` has C's layout,
+    // SAFETY: as in `lend`, with one list in place of two buffers. `PointRecord` has C's layout,
     // and every content of its fields is valid.
     unsafe {
         frontier_points(
@@ -277,7 +291,7 @@ pub fn write_points(
 }
 
 /// Lists the frontier into point records.
-pub fn list_points(problem: &[u8], points: &mut [Point], work: &mut [u32]) -> Answer {
+pub fn list_points(problem: &[u8], points: &mut [PointRecord], work: &mut [u32]) -> Answer {
     let (mut place, mut count) = (0, 0);
     let number = write_points(problem, points, work, &mut place, &mut count);
     Answer {

@@ -1,7 +1,7 @@
 //! A problem as plain vectors, and its record bytes.
 
 use crate::lent::bound_prefix;
-use crate::refusal::Refusal;
+use crate::refusal::{check, Refusal};
 
 /// The entry that can be under no ceiling, so it forbids its combination.
 pub const FORBIDDEN: u32 = 4_294_967_295;
@@ -77,14 +77,14 @@ impl Problem {
     /// bytes first, by the call that does no more than that, so that the rules stand nowhere twice.
     pub fn decode(bytes: &[u8]) -> Result<Problem, Refusal> {
         let read = bound_prefix(bytes, &[]);
-        match read.number {
-            0 => Ok(Records { rest: bytes }.problem()),
-            number => Err(Refusal {
-                number,
-                place: read.place,
-            }),
-        }
+        check(read.number, read.place)?;
+        Ok(Records { rest: bytes }.problem())
     }
+}
+
+/// p and n of bytes that the library has accepted.
+pub(crate) fn sizes(bytes: &[u8]) -> [usize; 2] {
+    [bytes[3], bytes[2]].map(usize::from)
 }
 
 /// What is still to be read of bytes that the library has accepted, so that nothing is missing.

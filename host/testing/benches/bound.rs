@@ -11,7 +11,7 @@ use std::time::{Duration, Instant};
 use chooser::junk::Rng;
 use frontier::lent;
 use frontier::lent::Least;
-use frontier::problem::Problem;
+use frontier::Problem;
 use testing::brute;
 use testing::mixed::{compare_bound, Mixed};
 use testing::random::random_choice;

@@ -6,10 +6,10 @@
 use std::path::Path;
 use std::process::ExitCode;
 
-use chooser::owned::Buffers;
 use frontier::lent;
+use frontier::lent::Buffers;
 use frontier::limits::MAX_POINTS;
-use frontier::problem::{Problem, Table};
+use frontier::{Problem, Table};
 use testing::night::{read_bytes, read_night};
 use testing::reading::read_problem;
 

@@ -3,8 +3,7 @@
 use crate::reading::read_problem;
 use frontier::lent::Least;
 use frontier::limits::MAX_OBJECTIVES;
-use frontier::problem::Table;
-use frontier::refusal::{Refusal, PREFIX};
+use frontier::{Refusal, Table};
 
 /// Whether the entry at `index` is for values that agree with the prefix. The values are read
 /// off the index from the last scope variable, which runs fastest.
@@ -37,7 +36,7 @@ pub fn bound_prefix(problem: &[u8], prefix: &[u8]) -> Least {
     };
     let in_domain = prefix.iter().zip(&problem.domains).all(|(v, d)| v < d);
     if prefix.len() > problem.variables() || !in_domain {
-        return Refusal::placeless(PREFIX).into();
+        return Refusal::Prefix.into();
     }
     let mut least = [0; MAX_OBJECTIVES];
     for table in &problem.tables {

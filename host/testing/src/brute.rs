@@ -6,10 +6,9 @@ pub use crate::bound::bound_prefix;
 pub use crate::cut::solve_cut;
 
 use crate::reading::{read_problem, Reading};
-use frontier::lent::{Answer, Point};
+use frontier::lent::{Answer, PointRecord};
 use frontier::limits::{LEAST_WORK, MAX_OBJECTIVES, MAX_POINTS, MAX_VARIABLES};
-use frontier::problem::{Problem, Table};
-use frontier::refusal::{Refusal, FULL, WORK};
+use frontier::{Problem, Refusal, Table};
 
 /// A frontier list: cost vectors in rising order, objective 0 compared first, each with its
 /// earliest choice. The order of the map's keys is the order document 01 asks for.
@@ -100,7 +99,7 @@ fn whole_frontier(problem: &Problem) -> FrontierList {
 pub(crate) fn read_with_work(bytes: &[u8], work: &[u32]) -> Result<Reading, Refusal> {
     let reading = read_problem(bytes)?;
     if work.len() < LEAST_WORK {
-        return Err(Refusal::placeless(WORK));
+        return Err(Refusal::Work);
     }
     Ok(reading)
 }
@@ -120,7 +119,7 @@ pub(crate) fn write_flat(
     choices: &mut [u8],
 ) -> Answer {
     if list.len() > flat_room(problem, costs, choices) {
-        return Refusal::placeless(FULL).into();
+        return Refusal::Full.into();
     }
     // A listed cost is below a 32-bit ceiling, so the narrowing keeps it.
     let listed_costs = list.keys().flatten().map(|&cost| cost as u32);
@@ -149,7 +148,7 @@ pub fn solve_problem(
 }
 
 /// Lists the frontier into point records. Room is then the list's length, at most 64.
-pub fn list_points(problem: &[u8], points: &mut [Point], work: &mut [u32]) -> Answer {
+pub fn list_points(problem: &[u8], points: &mut [PointRecord], work: &mut [u32]) -> Answer {
     let problem = match read_with_work(problem, work) {
         Ok(reading) => reading.problem,
         Err(refusal) => return refusal.into(),
@@ -157,10 +156,10 @@ pub fn list_points(problem: &[u8], points: &mut [Point], work: &mut [u32]) -> An
     work.fill(0);
     let list = whole_frontier(&problem);
     if list.len() > points.len().min(MAX_POINTS) {
-        return Refusal::placeless(FULL).into();
+        return Refusal::Full.into();
     }
     for (slot, (costs, choice)) in points.iter_mut().zip(&list) {
-        *slot = Point {
+        *slot = PointRecord {
             costs: [0; MAX_OBJECTIVES],
             choice: [0; MAX_VARIABLES],
         };

@@ -6,8 +6,7 @@ use crate::brute::{
 use crate::reading::Reading;
 use frontier::lent::Halves;
 use frontier::limits::MAX_POINTS;
-use frontier::problem::{Problem, Table};
-use frontier::refusal::{Refusal, FULL, LINKED, SIDES};
+use frontier::{Problem, Refusal, Table};
 
 /// A half, as document 01 calls it: the variables of one side in order, and their frontier list.
 struct Half {
@@ -28,12 +27,11 @@ fn table_side(table: &Table, sides: &[u8]) -> Option<u8> {
 fn check_sides(reading: &Reading, sides: &[u8]) -> Result<(), Refusal> {
     let known = sides.iter().all(|&side| side <= 1);
     if sides.len() != reading.problem.variables() || !known {
-        return Err(Refusal::placeless(SIDES));
+        return Err(Refusal::Sides);
     }
     for (table, &place) in reading.problem.tables.iter().zip(&reading.places) {
         if table_side(table, sides).is_none() {
-            let number = LINKED;
-            return Err(Refusal { number, place });
+            return Err(Refusal::Linked(place));
         }
     }
     Ok(())
@@ -98,16 +96,17 @@ pub fn solve_cut(
     work.fill(0);
     let halves = [0, 1].map(|side| make_half(&problem, sides, side));
     if halves.iter().any(|half| half.list.len() > MAX_POINTS) {
-        return Refusal::placeless(FULL).into();
+        return Refusal::Full.into();
     }
     let list = pair_sums(&problem, &halves[0], &halves[1]);
     let answer = write_flat(&problem, &list, costs, choices);
-    if answer.number != 0 {
-        return Refusal::placeless(answer.number).into();
-    }
+    let size = |half: &Half| match answer.number {
+        0 => half.list.len() as u32,
+        _ => 0,
+    };
     Halves {
         answer,
-        first: halves[0].list.len() as u32,
-        second: halves[1].list.len() as u32,
+        first: size(&halves[0]),
+        second: size(&halves[1]),
     }
 }

@@ -1,7 +1,7 @@
 //! The named example problems: those of document 01, and further ones from the source documents.
 
 use frontier::limits::MAX_DOMAIN;
-use frontier::problem::{Problem, Table, FORBIDDEN};
+use frontier::{Problem, Table, FORBIDDEN};
 
 /// Two values everywhere.
 fn binary(ceilings: &[u32], variables: usize, tables: Vec<Table>) -> Problem {

@@ -7,7 +7,7 @@ use std::ops::Range;
 use std::ptr;
 use std::slice;
 
-use frontier::lent::Point;
+use frontier::lent::PointRecord;
 
 extern "C" {
     fn mmap(
@@ -56,7 +56,7 @@ unsafe impl Plain for u32 {}
 // SAFETY: as above.
 unsafe impl Plain for u64 {}
 // SAFETY: 16 bytes of numbers and 24 bytes, with C's layout, so without padding.
-unsafe impl Plain for Point {}
+unsafe impl Plain for PointRecord {}
 
 /// Memory between two closed pages, in which one buffer at a time stands at one of its ends.
 pub struct Pages {

@@ -4,9 +4,9 @@
 use std::io;
 
 use crate::guard::{End, Pages, Plain};
-use frontier::lent::Least;
-use frontier::lent::{write_bound, write_cut, write_points, write_solve};
-use frontier::lent::{Answer, Halves, Point};
+use frontier::lent::{
+    write_bound, write_cut, write_points, write_solve, Answer, Halves, Least, PointRecord,
+};
 use frontier::limits::{LEAST_WORK, MAX_BYTES, MAX_OBJECTIVES, MAX_POINTS, MAX_VARIABLES};
 
 /// Lent buffers may be longer than is of use by so much.
@@ -41,7 +41,7 @@ impl Guarded {
             costs: Pages::new(size_of::<u32>() * MAX_OBJECTIVES * MAX_POINTS + OVER)?,
             choices: Pages::new(MAX_VARIABLES * MAX_POINTS + OVER)?,
             work: Pages::new(size_of::<u32>() * (LEAST_WORK + OVER))?,
-            points: Pages::new(size_of::<Point>() * MAX_POINTS + OVER)?,
+            points: Pages::new(size_of::<PointRecord>() * MAX_POINTS + OVER)?,
             least: Pages::new(size_of::<u64>() * MAX_OBJECTIVES)?,
             numbers: [number()?, number()?, number()?, number()?],
             fault: None,
@@ -144,7 +144,12 @@ impl Guarded {
     }
 
     /// The call for point records.
-    pub fn points(&mut self, problem: &[u8], points: &mut [Point], work: &mut [u32]) -> Answer {
+    pub fn points(
+        &mut self,
+        problem: &[u8],
+        points: &mut [PointRecord],
+        work: &mut [u32],
+    ) -> Answer {
         let end = self.end;
         let [place, count, _, _] = &mut self.numbers;
         let number = write_points(

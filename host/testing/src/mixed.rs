@@ -14,13 +14,11 @@ use crate::reading::read_problem;
 use chooser::hex::to_hex;
 use chooser::junk::junk;
 use chooser::junk::Rng;
-use chooser::owned::Buffers;
-use frontier::lent::Least;
-use frontier::lent::{Answer, Halves};
+use frontier::lent::{Answer, Buffers, Halves, Least};
 use frontier::limits::{
     LEAST_WORK, MAX_ARITY, MAX_DOMAIN, MAX_OBJECTIVES, MAX_TABLES, MAX_VARIABLES,
 };
-use frontier::problem::{Problem, Table};
+use frontier::{Problem, Table};
 
 /// A problem's bytes, damaged or not, the prefixes that are asked about with them, the buffers
 /// that are lent, and the side list for a cut.

@@ -5,9 +5,10 @@ use std::collections::BTreeMap;
 use std::fs;
 use std::path::{Path, PathBuf};
 
+use crate::owned::list_text_by;
 use chooser::folder::{list_problems, opened, ProblemFile, EXTENSION};
-use chooser::owned::{list_text_by, Buffers};
 use frontier::lent;
+use frontier::lent::Buffers;
 
 /// One of the night's problems: its file's name without the extension, the file, and the text that
 /// is expected for it, if any.

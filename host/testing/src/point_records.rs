@@ -1,21 +1,21 @@
-//! Point records: junk in them, and the comparison of a call that writes them with the brute force.
+//! PointRecord records: junk in them, and the comparison of a call that writes them with the brute force.
 
 use crate::brute::list_points;
 use crate::mixed::Mixed;
 use chooser::hex::to_hex;
 use chooser::junk::Rng;
-use frontier::lent::{Answer, Point};
+use frontier::lent::{Answer, PointRecord};
 
 /// A point record with random contents.
-pub fn junk_point(rng: &mut Rng) -> Point {
-    Point {
+pub fn junk_point(rng: &mut Rng) -> PointRecord {
+    PointRecord {
         costs: [0; 4].map(|_: u32| rng.bits() as u32),
         choice: [0; 24].map(|_: u8| rng.bits() as u8),
     }
 }
 
 /// A list of so many point records with random contents.
-pub fn junk_points(rng: &mut Rng, length: usize) -> Vec<Point> {
+pub fn junk_points(rng: &mut Rng, length: usize) -> Vec<PointRecord> {
     (0..length).map(|_| junk_point(rng)).collect()
 }
 
@@ -23,9 +23,9 @@ pub fn junk_points(rng: &mut Rng, length: usize) -> Vec<Point> {
 /// of the list and of the work buffer. A difference is told with the bytes in hex.
 pub fn compare_points(
     problem: &[u8],
-    points: &[Point],
+    points: &[PointRecord],
     work: &[u32],
-    call: impl Fn(&[u8], &mut [Point], &mut [u32]) -> Answer,
+    call: impl Fn(&[u8], &mut [PointRecord], &mut [u32]) -> Answer,
 ) -> Result<(), String> {
     let (mut left, mut right) = (points.to_vec(), points.to_vec());
     let (mut left_work, mut right_work) = (work.to_vec(), work.to_vec());
@@ -51,7 +51,7 @@ impl Mixed {
     /// the seed and the bytes.
     pub fn compare_points(
         &self,
-        call: impl Fn(&[u8], &mut [Point], &mut [u32]) -> Answer,
+        call: impl Fn(&[u8], &mut [PointRecord], &mut [u32]) -> Answer,
     ) -> Result<(), String> {
         // From a generator of its own, so that the case is the same for the other calls.
         let mut rng = Rng::new(!self.seed);

@@ -2,7 +2,7 @@
 
 use crate::brute::cost_vector;
 use chooser::junk::Rng;
-use frontier::problem::{Problem, Table, FORBIDDEN};
+use frontier::{Problem, Table, FORBIDDEN};
 
 /// The greatest sizes a random problem may have.
 pub struct Shape {

@@ -3,11 +3,7 @@
 use frontier::limits::{
     MAX_ARITY, MAX_BYTES, MAX_DOMAIN, MAX_OBJECTIVES, MAX_TABLES, MAX_VARIABLES,
 };
-use frontier::problem::{Problem, Table};
-use frontier::refusal::{
-    Refusal, ARITY, CUT_SHORT, DOMAIN, LEFTOVER, OBJECTIVES, OVERSIZE, OWNER, SCOPE, STRAY_MARK,
-    TABLES, VARIABLES,
-};
+use frontier::{Problem, Refusal, Table};
 
 /// A problem that was read, and beside each table the first byte of its record.
 pub struct Reading {
@@ -24,19 +20,16 @@ struct Reader<'a> {
 }
 
 impl<'a> Reader<'a> {
-    /// The refusal with this number at the record being read.
-    fn refuse(&self, number: u8) -> Refusal {
-        Refusal {
-            number,
-            place: self.record as u32,
-        }
+    /// This refusal at the record being read.
+    fn refuse(&self, at: fn(u32) -> Refusal) -> Refusal {
+        at(self.record as u32)
     }
 
     /// The next `count` bytes, or "cut short".
     fn take(&mut self, count: usize) -> Result<&'a [u8], Refusal> {
         let rest = &self.bytes[self.place..];
         if rest.len() < count {
-            return Err(self.refuse(CUT_SHORT));
+            return Err(self.refuse(Refusal::CutShort));
         }
         self.place += count;
         Ok(&rest[..count])
@@ -53,7 +46,7 @@ impl<'a> Reader<'a> {
     fn begin(&mut self, mark: &[u8; 2]) -> Result<(), Refusal> {
         self.record = self.place;
         if self.take(2)? != mark {
-            return Err(self.refuse(STRAY_MARK));
+            return Err(self.refuse(Refusal::StrayMark));
         }
         Ok(())
     }
@@ -66,13 +59,13 @@ impl<'a> Reader<'a> {
         let objectives = usize::from(fields[1]);
         let tables = usize::from(u16::from_le_bytes([fields[2], fields[3]]));
         if !(1..=MAX_VARIABLES).contains(&variables) {
-            return Err(self.refuse(VARIABLES));
+            return Err(self.refuse(Refusal::Variables));
         }
         if !(1..=MAX_OBJECTIVES).contains(&objectives) {
-            return Err(self.refuse(OBJECTIVES));
+            return Err(self.refuse(Refusal::Objectives));
         }
         if tables > MAX_TABLES {
-            return Err(self.refuse(TABLES));
+            return Err(self.refuse(Refusal::Tables));
         }
         Ok((variables, tables, self.take_numbers(objectives)?))
     }
@@ -82,7 +75,7 @@ impl<'a> Reader<'a> {
         self.begin(b"DO")?;
         let size = self.take(1)?[0];
         if !(1..=MAX_DOMAIN).contains(&usize::from(size)) {
-            return Err(self.refuse(DOMAIN));
+            return Err(self.refuse(Refusal::Domain));
         }
         Ok(size)
     }
@@ -93,15 +86,15 @@ impl<'a> Reader<'a> {
         let fields = self.take(2)?;
         let (objective, arity) = (fields[0], usize::from(fields[1]));
         if usize::from(objective) >= objectives {
-            return Err(self.refuse(OWNER));
+            return Err(self.refuse(Refusal::Owner));
         }
         if arity > MAX_ARITY {
-            return Err(self.refuse(ARITY));
+            return Err(self.refuse(Refusal::Arity));
         }
         let scope = self.take(arity)?.to_vec();
         let known = scope.iter().all(|&v| usize::from(v) < domains.len());
         if !known || !scope.windows(2).all(|pair| pair[0] < pair[1]) {
-            return Err(self.refuse(SCOPE));
+            return Err(self.refuse(Refusal::Scope));
         }
         let size = |v: &u8| usize::from(domains[usize::from(*v)]);
         let costs = self.take_numbers(scope.iter().map(size).product())?;
@@ -116,7 +109,7 @@ impl<'a> Reader<'a> {
 /// Reads a whole problem, or refuses with one of the numbers 1 to 11.
 pub fn read_problem(bytes: &[u8]) -> Result<Reading, Refusal> {
     if bytes.len() > MAX_BYTES {
-        return Err(Refusal::placeless(OVERSIZE));
+        return Err(Refusal::Oversize);
     }
     let mut reader = Reader {
         bytes,
@@ -134,10 +127,7 @@ pub fn read_problem(bytes: &[u8]) -> Result<Reading, Refusal> {
         places.push(reader.record as u32);
     }
     if reader.place < bytes.len() {
-        return Err(Refusal {
-            number: LEFTOVER,
-            place: reader.place as u32,
-        });
+        return Err(Refusal::Leftover(reader.place as u32));
     }
     let problem = Problem {
         ceilings,

@@ -6,10 +6,10 @@ use std::path::Path;
 use std::str::FromStr;
 
 use crate::night::{read_bytes, read_night, NightProblem};
+use crate::owned::Listed;
 use crate::reading::read_problem;
-use chooser::owned::Listed;
 use frontier::limits::MAX_POINTS;
-use frontier::problem::Problem;
+use frontier::Problem;
 
 /// The folders of problems.
 pub const NIGHTLY: &str = concat!(env!("CARGO_MANIFEST_DIR"), "/../data/nightly");

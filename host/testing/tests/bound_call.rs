@@ -5,9 +5,9 @@ use std::collections::BTreeSet;
 use std::ops::Range;
 use std::thread;
 
-use frontier::lent::Least;
-use frontier::lent::{self, write_bound};
-use frontier::refusal::{Refusal, CUT_SHORT, PREFIX};
+use frontier::lent::{self, write_bound, Least};
+use frontier::refusal::PREFIX;
+use frontier::Refusal;
 use testing::brute::bound_prefix;
 use testing::examples::{brimful, colours, objects, three};
 use testing::mixed::{compare_bound, compare_seeds, Mixed};
@@ -53,7 +53,7 @@ fn mixed_cases_meet_every_number_of_the_call() {
 
 #[test]
 fn empty_slices() {
-    let nothing = Refusal::placeless(CUT_SHORT).into();
+    let nothing = Refusal::CutShort(0).into();
     let own: Box<[u8]> = Box::new([]);
     for empty in [
         &[],

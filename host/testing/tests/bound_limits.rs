@@ -3,10 +3,10 @@
 
 use frontier::lent;
 use frontier::limits::{MAX_ARITY, MAX_DOMAIN, MAX_OBJECTIVES, MAX_TABLES, MAX_VARIABLES};
-use frontier::problem::{Problem, Table};
 use frontier::refusal::{
     ARITY, CUT_SHORT, DOMAIN, OBJECTIVES, OWNER, PREFIX, SCOPE, TABLES, VARIABLES,
 };
+use frontier::{Problem, Table};
 use testing::examples::{every_arity, lone};
 use testing::mixed::compare_bound;
 

@@ -1,18 +1,16 @@
 //! The cases of document 01: its table, its printed example, and each limit from both sides.
 
-use chooser::owned::{cut_by, frontier_by, list_text_by, Buffers, Cut, CutCall, Listed, SolveCall};
 use frontier::lent;
-use frontier::lent::{Answer, Least, Point};
+use frontier::lent::{Answer, Buffers, CutCall, Least, PointRecord, SolveCall};
 use frontier::limits::{LEAST_WORK, MAX_BYTES};
-use frontier::problem::{Problem, Table};
-use frontier::refusal::Refusal;
+use frontier::{Problem, Refusal, Table};
 use testing::brute::{bound_prefix, list_points, solve_cut, solve_problem};
 use testing::examples::{bent, brimful, colours, lone, pair, staircase, three};
-use testing::owned::frontier_of;
+use testing::owned::{cut_by, frontier_by, frontier_of, list_text_by, Cut, Listed};
 
 type BoundCall = fn(&[u8], &[u8]) -> Least;
 
-type ListCall = fn(&[u8], &mut [Point], &mut [u32]) -> Answer;
+type ListCall = fn(&[u8], &mut [PointRecord], &mut [u32]) -> Answer;
 
 /// The bound calls of the brute force and of the static library; each case is asked of both.
 const BOUND_CALLS: [BoundCall; 2] = [bound_prefix, lent::bound_prefix];
@@ -28,7 +26,7 @@ const LIST_CALLS: [ListCall; 2] = [list_points, lent::list_points];
 
 /// A refusal with this number and place.
 fn refusal(number: u8, place: u32) -> Refusal {
-    Refusal { number, place }
+    Refusal::new(number, place).expect("a refusal")
 }
 
 /// Asserts that the problem has exactly these points, so that every call accepts it.
@@ -67,8 +65,8 @@ fn assert_refused(bytes: &[u8], number: u8, place: u32) {
     assert_eq!(points, [junk_point(); 2]);
 }
 
-fn junk_point() -> Point {
-    Point {
+fn junk_point() -> PointRecord {
+    PointRecord {
         costs: [7; 4],
         choice: [7; 24],
     }

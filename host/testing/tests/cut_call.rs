@@ -49,7 +49,7 @@ fn random_cuts_75_000_to_100_000() {
 /// Whether a cut has each trait that is worth counting, by name.
 fn traits_of(case: &Case, sides: &[u8]) -> Vec<(&'static str, bool)> {
     let cut = cut_of(&case.bytes, sides);
-    let number = cut.as_ref().err().map(|refusal| refusal.number);
+    let number = cut.as_ref().err().map(|refusal| refusal.number());
     let (list, sizes) = cut.unwrap_or_default();
     let pairs = (sizes[0] * sizes[1]) as usize;
     let empty = |side: u8| number.is_none() && !sides.contains(&side);

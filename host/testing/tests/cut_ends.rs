@@ -1,11 +1,10 @@
 //! What the cut call of the static library writes and what it leaves alone, for every way to end.
 
 use chooser::junk::{junk, Rng};
-use chooser::owned::Buffers;
-use frontier::lent::{self, write_cut};
-use frontier::lent::{Answer, Halves};
+use frontier::lent::{self, write_cut, Answer, Buffers, Halves};
 use frontier::limits::{LEAST_WORK, MAX_BYTES};
-use frontier::refusal::{Refusal, CUT_SHORT, FULL, SIDES, WORK};
+use frontier::refusal::{CUT_SHORT, FULL, SIDES, WORK};
+use frontier::Refusal;
 use testing::brute::solve_cut;
 use testing::examples::{colours, pair, pair_with_constant, staircase};
 use testing::fence::{assert_fences, fenced, inside};
@@ -15,8 +14,9 @@ use testing::mixed::compare_cut;
 fn empty_slices() {
     let number_of = |bytes: &[u8], sides: &[u8], work: &mut [u32]| {
         let halves = lent::solve_cut(bytes, sides, &mut [], &mut [], work);
-        assert_eq!(halves, Refusal::placeless(halves.answer.number).into());
-        halves.answer.number
+        let refusal = Refusal::new(halves.answer.number, 0).expect("a refusal");
+        assert_eq!(halves, refusal.into());
+        refusal.number()
     };
     let bytes = pair([9, 9]).encode();
     let own: Box<[u8]> = Box::new([]);

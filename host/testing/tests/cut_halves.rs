@@ -2,14 +2,14 @@
 //! records, with around 64 points, and with many more pairs than points.
 
 use chooser::junk::{junk, Rng};
-use chooser::owned::{cut_by, frontier_by, Cut, Listed};
 use frontier::lent;
 use frontier::lent::Answer;
 use frontier::limits::{LEAST_WORK, MAX_OBJECTIVES, MAX_POINTS, MAX_VARIABLES};
-use frontier::problem::{Problem, Table, FORBIDDEN};
-use frontier::refusal::{Refusal, FULL, LINKED};
+use frontier::refusal::{FULL, LINKED};
+use frontier::{Problem, Refusal, Table, FORBIDDEN};
 use testing::examples::{pair_with_constant, staircase, ten_problems};
 use testing::mixed::compare_cut;
+use testing::owned::{cut_by, frontier_by, Cut, Listed};
 
 /// Asserts that the call answers as the brute force does with this room, and gives its answer.
 fn cut_with_room(problem: &Problem, sides: &[u8], room: usize) -> Answer {
@@ -51,7 +51,7 @@ fn every_cut_of_ten_problems() {
             match cut(&problem, &sides) {
                 Ok(_) => accepted += 1,
                 Err(refusal) => {
-                    assert_eq!(refusal.number, LINKED, "sides {sides:?}");
+                    assert_eq!(refusal.number(), LINKED, "sides {sides:?}");
                     linked += 1;
                 }
             }
@@ -140,7 +140,7 @@ fn halves_around_64_points() {
             assert_eq!(whole.map(|whole| whole.len()), Ok(list));
         }
         let expected = |sizes: [u32; 2]| match points > 64 {
-            true => Err(Refusal::placeless(FULL)),
+            true => Err(Refusal::Full),
             false => Ok((list, sizes)),
         };
         let cuts = [[0, 0, 0, 1], [1, 1, 1, 0]].map(|sides| cut_sizes(&problem, &sides));
@@ -173,7 +173,7 @@ fn the_sums_of_4096_pairs() {
         wide.domains.resize(MAX_VARIABLES, 1);
         let points = (more + also + 1) as usize;
         let expected = match points > MAX_POINTS {
-            true => Err(Refusal::placeless(FULL)),
+            true => Err(Refusal::Full),
             false => Ok((points, [64, 64])),
         };
         for sides in [[0, 1, 0, 1], [1, 0, 1, 0]] {

@@ -2,12 +2,10 @@
 //! lengths around the need, work buffers around 8,192 numbers, and any junk in them.
 
 use chooser::junk::{junk, Rng};
-use chooser::owned::Buffers;
 use frontier::lent;
-use frontier::lent::{Answer, Halves};
+use frontier::lent::{Answer, Buffers, Halves};
 use frontier::limits::{LEAST_WORK, MAX_POINTS};
-use frontier::problem::Problem;
-use frontier::refusal::{Refusal, FULL, WORK};
+use frontier::{Problem, Refusal};
 use testing::examples::{bent, pair, pair_with_constant, staircase};
 use testing::mixed::compare_cut;
 use testing::random::{parted_problem, Shape};
@@ -23,7 +21,7 @@ fn checked_cut(bytes: &[u8], sides: &[u8], lent: &Buffers) -> Halves {
 /// The answer for so many points, these half sizes and this room.
 fn expected_halves(points: usize, [first, second]: [u32; 2], room: usize) -> Halves {
     if points > room.min(MAX_POINTS) {
-        return Refusal::placeless(FULL).into();
+        return Refusal::Full.into();
     }
     Halves {
         answer: Answer::accepted(points),
@@ -117,7 +115,7 @@ fn work_buffers_around_8192_numbers() {
         for room in [2, 3] {
             let lent = junk(&mut Rng::new(4), 2 * room, 2 * room, length);
             let expected = match length < LEAST_WORK {
-                true => Refusal::placeless(WORK).into(),
+                true => Refusal::Work.into(),
                 false => expected_halves(3, [2, 2], room),
             };
             assert_eq!(checked_cut(&bytes, &[0, 1], &lent), expected);

@@ -2,12 +2,11 @@
 //! linked record is, and which refusals come before these.
 
 use chooser::junk::{junk, Rng};
-use chooser::owned::Buffers;
 use frontier::lent;
-use frontier::lent::Halves;
+use frontier::lent::{Buffers, Halves};
 use frontier::limits::{LEAST_WORK, MAX_BYTES, MAX_VARIABLES};
-use frontier::problem::{Problem, Table};
-use frontier::refusal::{Refusal, CUT_SHORT, FULL, LEFTOVER, LINKED, OVERSIZE, SIDES, WORK};
+use frontier::refusal::{CUT_SHORT, FULL, LEFTOVER, LINKED, OVERSIZE, SIDES};
+use frontier::{Problem, Refusal, Table};
 use testing::examples::{colours, pair, ten_problems};
 use testing::mixed::compare_cut;
 
@@ -27,7 +26,7 @@ fn checked_cut(bytes: &[u8], sides: &[u8], lent: &Buffers) -> Halves {
 /// Asserts that the call refuses with this number and place, and leaves its buffers alone.
 fn assert_refused(bytes: &[u8], sides: &[u8], number: u8, place: u32) {
     let halves = checked_cut(bytes, sides, &roomy(LEAST_WORK));
-    let expected = Refusal { number, place };
+    let expected = Refusal::new(number, place).expect("a refusal");
     assert_eq!(halves, expected.into(), "sides {sides:?}");
 }
 
@@ -146,13 +145,14 @@ fn refusals_1_to_12_come_before_those_of_the_sides() {
         for sides in SIDE_LISTS {
             assert_refused(&bytes, sides, number, place);
             let short = checked_cut(&bytes, sides, &roomy(LEAST_WORK - 1));
-            assert_eq!(short, Refusal { number, place }.into());
+            let expected = Refusal::new(number, place).expect("a refusal");
+            assert_eq!(short, expected.into());
         }
     }
     let good = colours([100, 100]).encode();
     for sides in SIDE_LISTS {
         let short = checked_cut(&good, sides, &roomy(LEAST_WORK - 1));
-        assert_eq!(short, Refusal::placeless(WORK).into(), "sides {sides:?}");
+        assert_eq!(short, Refusal::Work.into(), "sides {sides:?}");
     }
 }
 

@@ -4,9 +4,7 @@
 use std::ops::Range;
 
 use chooser::junk::{junk, Rng};
-use chooser::owned::SolveCall;
-use frontier::lent::solve_problem;
-use frontier::lent::Answer;
+use frontier::lent::{solve_problem, Answer, SolveCall};
 use frontier::limits::{LEAST_WORK, MAX_OBJECTIVES, MAX_POINTS, MAX_VARIABLES};
 use frontier::measure::solve_by_passes;
 use testing::checker::case::ask_seeds;

@@ -4,17 +4,17 @@
 use std::collections::BTreeMap;
 
 use chooser::junk::{junk, Rng};
-use chooser::owned::{frontier_by, SolveCall};
 use frontier::lent;
+use frontier::lent::SolveCall;
 use frontier::limits::{LEAST_WORK, MAX_POINTS};
-use frontier::problem::Problem;
-use frontier::refusal::{Refusal, FULL};
+use frontier::{Problem, Refusal};
 use testing::brute::solve_problem;
 use testing::checker::flat::{check_work, Known};
 use testing::checker::law::{exchanged, half_problem};
 use testing::checker::Verdict;
 use testing::guard::End;
 use testing::guarded::Guarded;
+use testing::owned::frontier_by;
 use testing::point_records::junk_points;
 use testing::random::components;
 use testing::stored::{nightly, quick_stress, Stored};
@@ -72,7 +72,7 @@ fn half_size(stored: &Stored, sides: &[u8], side: u8) -> usize {
     match frontier_by(call, &half.encode()) {
         Ok(list) => list.len(),
         Err(refusal) => {
-            assert_eq!(refusal, Refusal::placeless(FULL), "{}", stored.name);
+            assert_eq!(refusal, Refusal::Full, "{}", stored.name);
             MAX_POINTS + 1
         }
     }

@@ -3,9 +3,8 @@
 
 use std::collections::BTreeMap;
 
-use chooser::owned::Listed;
 use frontier::lent;
-use frontier::problem::FORBIDDEN;
+use frontier::FORBIDDEN;
 use testing::brute::{bound_prefix, list_points, solve_cut, solve_problem};
 use testing::checker::case::{ask, Case};
 use testing::checker::law::{
@@ -20,7 +19,7 @@ use testing::checker::mutants::{
 use testing::checker::{check_frontier, consistent_choices, ensure, record_starts, Verdict};
 use testing::examples::{colours, objects, pair, three};
 use testing::mixed::Mixed;
-use testing::owned::{cut_of, frontier_of};
+use testing::owned::{cut_of, frontier_of, Listed};
 use testing::random::{bad_sides, damage, random_sides, uncrossed_sides};
 
 /// How many random problems each law is asked of.

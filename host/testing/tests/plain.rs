@@ -5,12 +5,12 @@ use std::path::Path;
 use std::time::Duration;
 
 use chooser::junk::junk_buffers;
-use chooser::owned::answer_text;
 use frontier::lent::Answer;
 use frontier::limits::LEAST_WORK;
 use frontier::refusal::FULL;
 use testing::mixed::compare_seeds;
 use testing::night::read_bytes;
+use testing::owned::answer_text;
 use testing::plain::{solve_problem, solve_within, Settings};
 use testing::stored::{nightly, STRESS};
 

@@ -8,11 +8,10 @@ use std::ops::Range;
 use std::thread;
 
 use chooser::junk::{junk, Rng};
-use chooser::owned::Buffers;
-use frontier::lent::{self, write_points};
-use frontier::lent::{Answer, Point};
+use frontier::lent::{self, write_points, Answer, Buffers, PointRecord};
 use frontier::limits::{LEAST_WORK, MAX_BYTES, MAX_POINTS};
-use frontier::refusal::{Refusal, CUT_SHORT, FULL, WORK};
+use frontier::refusal::{FULL, WORK};
+use frontier::Refusal;
 use testing::brute::list_points;
 use testing::checker::case::{ask_seeds, Case};
 use testing::checker::law::points_law;
@@ -79,7 +78,7 @@ fn mixed_cases_0_to_20_000() {
 #[test]
 fn mixed_cases_meet_every_number_of_the_call() {
     let met = RefCell::new(BTreeSet::new());
-    let noted = |problem: &[u8], points: &mut [Point], work: &mut [u32]| {
+    let noted = |problem: &[u8], points: &mut [PointRecord], work: &mut [u32]| {
         let answer = list_points(problem, points, work);
         met.borrow_mut().insert(answer.number);
         answer
@@ -92,31 +91,37 @@ fn mixed_cases_meet_every_number_of_the_call() {
 /// As the header has it: `tests/c/calls.c` prints the same of the C struct.
 #[test]
 fn records_have_the_layout_of_c() {
-    assert_eq!((size_of::<Point>(), align_of::<Point>()), (40, 4));
     assert_eq!(
-        (offset_of!(Point, costs), offset_of!(Point, choice)),
+        (size_of::<PointRecord>(), align_of::<PointRecord>()),
+        (40, 4)
+    );
+    assert_eq!(
+        (
+            offset_of!(PointRecord, costs),
+            offset_of!(PointRecord, choice)
+        ),
         (0, 16)
     );
 }
 
 #[test]
 fn empty_slices() {
-    let nothing = Refusal::placeless(CUT_SHORT).into();
+    let nothing = Refusal::CutShort(0).into();
     let own: Box<[u8]> = Box::new([]);
     for empty in [&[], &own[..], &colours([9, 9]).encode()[..0]] {
         assert_eq!(lent::list_points(empty, &mut [], &mut []), nothing);
     }
     let bytes = three([3, 3]).encode();
     let without_work = lent::list_points(&bytes, &mut [], &mut []);
-    assert_eq!(without_work, Refusal::placeless(WORK).into());
+    assert_eq!(without_work, Refusal::Work.into());
     let mut work = vec![5; LEAST_WORK];
     let without_room = lent::list_points(&bytes, &mut [], &mut work);
-    assert_eq!(without_room, Refusal::placeless(FULL).into());
+    assert_eq!(without_room, Refusal::Full.into());
 }
 
 /// Problems with a list and a work buffer for every way to end: answered with and without points,
 /// refused with a place and without one, by the problem, the work buffer and the room.
-fn different_ends() -> Vec<(Vec<u8>, Vec<Point>, Vec<u32>)> {
+fn different_ends() -> Vec<(Vec<u8>, Vec<PointRecord>, Vec<u32>)> {
     let good = objects([13, 100, 100]).encode();
     let leftover = [&good[..], &[0]].concat();
     let mut rng = Rng::new(1);
@@ -169,7 +174,7 @@ fn junk_in_place_and_count_is_overwritten() {
 #[test]
 fn nothing_beside_the_list_and_the_work_is_written() {
     const WORD: u32 = 0x0123_4567;
-    const RECORD: Point = Point {
+    const RECORD: PointRecord = PointRecord {
         costs: [WORD; 4],
         choice: [0xab; 24],
     };

@@ -3,10 +3,10 @@
 
 use chooser::junk::Rng;
 use frontier::lent;
-use frontier::lent::{Answer, Point};
+use frontier::lent::{Answer, PointRecord};
 use frontier::limits::{LEAST_WORK, MAX_OBJECTIVES, MAX_POINTS, MAX_VARIABLES};
-use frontier::problem::{Problem, Table};
-use frontier::refusal::{Refusal, CUT_SHORT, FULL, WORK};
+use frontier::refusal::CUT_SHORT;
+use frontier::{Problem, Refusal, Table};
 use testing::examples::{bent, colours, lone, objects, pair, staircase, ten_problems, three};
 use testing::point_records::{compare_points, junk_points};
 use testing::random::{random_problem, Shape};
@@ -24,7 +24,7 @@ fn checked_list(bytes: &[u8], length: usize, seed: u64) -> Answer {
 /// Asserts the answer for a problem of so many points with a list of this length.
 fn assert_length(problem: &Problem, points: usize, length: usize) {
     let expected = if points > length.min(MAX_POINTS) {
-        Refusal::placeless(FULL).into()
+        Refusal::Full.into()
     } else {
         Answer::accepted(points)
     };
@@ -97,7 +97,7 @@ fn unused_costs_and_choices_are_zero() {
     for variables in 1..=MAX_VARIABLES {
         for objectives in 1..=MAX_OBJECTIVES {
             let bytes = sized(variables, objectives).encode();
-            let mut expected = Point {
+            let mut expected = PointRecord {
                 costs: [0; 4],
                 choice: [0; 24],
             };
@@ -126,8 +126,8 @@ fn work_buffers_around_8192_numbers() {
             assert_eq!(compared, Ok(()));
             let answer = lent::list_points(&bytes, &mut points, &mut work);
             let expected = match (length < LEAST_WORK, records < 3) {
-                (true, _) => Refusal::placeless(WORK).into(),
-                (false, true) => Refusal::placeless(FULL).into(),
+                (true, _) => Refusal::Work.into(),
+                (false, true) => Refusal::Full.into(),
                 (false, false) => Answer::accepted(3),
             };
             assert_eq!(answer, expected, "{length} numbers, {records} records");
@@ -136,7 +136,11 @@ fn work_buffers_around_8192_numbers() {
 }
 
 /// What the call answers and writes into a list of 64 records that held this before.
-fn written_over(bytes: &[u8], mut points: Vec<Point>, junk: u32) -> (Answer, Vec<Point>) {
+fn written_over(
+    bytes: &[u8],
+    mut points: Vec<PointRecord>,
+    junk: u32,
+) -> (Answer, Vec<PointRecord>) {
     let answer = lent::list_points(bytes, &mut points, &mut vec![junk; LEAST_WORK]);
     points.truncate(answer.count as usize);
     (answer, points)

@@ -2,8 +2,8 @@
 //! byte, and problems around 60,000 bytes.
 
 use chooser::junk::{junk, Rng};
-use chooser::owned::Buffers;
 use frontier::lent;
+use frontier::lent::Buffers;
 use frontier::limits::{LEAST_WORK, MAX_BYTES};
 use frontier::refusal::{CUT_SHORT, LEFTOVER, OVERSIZE, STRAY_MARK};
 use testing::examples::{brimful, colours, ten_problems};

@@ -6,11 +6,10 @@ use std::ops::Range;
 use std::thread;
 
 use chooser::junk::{junk, Rng};
-use chooser::owned::Buffers;
-use frontier::lent::Answer;
-use frontier::lent::{self, write_solve};
+use frontier::lent::{self, write_solve, Answer, Buffers};
 use frontier::limits::{LEAST_WORK, MAX_BYTES};
-use frontier::refusal::{Refusal, CUT_SHORT, FULL, WORK};
+use frontier::refusal::{FULL, WORK};
+use frontier::Refusal;
 use testing::brute::solve_problem;
 use testing::checker::case::ask_seeds;
 use testing::checker::law::agreement_law;
@@ -74,7 +73,7 @@ fn mixed_cases_meet_every_number_of_the_call() {
 
 #[test]
 fn empty_slices() {
-    let nothing = Refusal::placeless(CUT_SHORT).into();
+    let nothing = Refusal::CutShort(0).into();
     let own: Box<[u8]> = Box::new([]);
     for empty in [&[], &own[..], &colours([9, 9]).encode()[..0]] {
         let answer = lent::solve_problem(empty, &mut [], &mut [], &mut []);
@@ -82,10 +81,10 @@ fn empty_slices() {
     }
     let bytes = three([3, 3]).encode();
     let without_work = lent::solve_problem(&bytes, &mut [], &mut [], &mut []);
-    assert_eq!(without_work, Refusal::placeless(WORK).into());
+    assert_eq!(without_work, Refusal::Work.into());
     let mut work = vec![5; LEAST_WORK];
     let without_room = lent::solve_problem(&bytes, &mut [], &mut [], &mut work);
-    assert_eq!(without_room, Refusal::placeless(FULL).into());
+    assert_eq!(without_room, Refusal::Full.into());
 }
 
 /// Problems and buffers for every way to end: answered with and without points, refused with a

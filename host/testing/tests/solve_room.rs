@@ -2,12 +2,10 @@
 //! lengths around the need, work buffers around 8,192 numbers, and any junk in them.
 
 use chooser::junk::{junk, Rng};
-use chooser::owned::Buffers;
 use frontier::lent;
-use frontier::lent::Answer;
+use frontier::lent::{Answer, Buffers};
 use frontier::limits::{LEAST_WORK, MAX_BYTES, MAX_POINTS};
-use frontier::problem::Problem;
-use frontier::refusal::{Refusal, FULL, WORK};
+use frontier::{Problem, Refusal};
 use testing::examples::{
     bent, colours, every_arity, lone, objects, staircase, ten_problems, three,
 };
@@ -24,7 +22,7 @@ fn assert_answer(bytes: &[u8], lent: &Buffers, expected: Answer) {
 /// The answer for so many points and this room.
 fn expected_answer(points: usize, room: usize) -> Answer {
     if points > room.min(MAX_POINTS) {
-        return Refusal::placeless(FULL).into();
+        return Refusal::Full.into();
     }
     Answer::accepted(points)
 }
@@ -112,11 +110,11 @@ fn work_buffers_around_8192_numbers() {
     for length in [0, 1, LEAST_WORK - 1, LEAST_WORK, LEAST_WORK + 1, 70_000] {
         let lent = junk(&mut Rng::new(4), 6, 12, length);
         if length < LEAST_WORK {
-            assert_answer(&few, &lent, Refusal::placeless(WORK).into());
-            assert_answer(&full, &lent, Refusal::placeless(WORK).into());
+            assert_answer(&few, &lent, Refusal::Work.into());
+            assert_answer(&full, &lent, Refusal::Work.into());
         } else {
             assert_answer(&few, &lent, Answer::accepted(3));
-            assert_answer(&full, &lent, Refusal::placeless(FULL).into());
+            assert_answer(&full, &lent, Refusal::Full.into());
         }
     }
 }
@@ -126,19 +124,11 @@ fn work_buffers_around_8192_numbers() {
 fn faults_are_told_in_order() {
     let bytes = colours([100, 100]).encode();
     let short = junk(&mut Rng::new(5), 0, 0, 0);
-    let cut = Refusal {
-        number: 2,
-        place: 133,
-    };
-    assert_answer(&bytes[..154], &short, cut.into());
-    assert_answer(
-        &vec![0; MAX_BYTES + 1],
-        &short,
-        Refusal::placeless(1).into(),
-    );
-    assert_answer(&bytes, &short, Refusal::placeless(WORK).into());
+    assert_answer(&bytes[..154], &short, Refusal::CutShort(133).into());
+    assert_answer(&vec![0; MAX_BYTES + 1], &short, Refusal::Oversize.into());
+    assert_answer(&bytes, &short, Refusal::Work.into());
     let without_room = junk(&mut Rng::new(5), 0, 0, LEAST_WORK);
-    assert_answer(&bytes, &without_room, Refusal::placeless(FULL).into());
+    assert_answer(&bytes, &without_room, Refusal::Full.into());
 }
 
 /// What a call answers and lists from buffers with room for 64 points that held this before.

@@ -8,7 +8,7 @@ use std::time::Duration;
 
 use chooser::hex::{from_hex, to_hex};
 use frontier::limits::MAX_VARIABLES;
-use frontier::problem::{Problem, Table};
+use frontier::{Problem, Table};
 use testing::examples::lone;
 use testing::reading::read_problem;
 use testing::speed::cases::family_of;

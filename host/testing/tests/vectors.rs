@@ -1,15 +1,15 @@
 //! Test vectors beyond document 01's table, most of them worked examples of the source documents.
 
-use chooser::owned::{cut_by, frontier_by, CutCall, Listed, SolveCall};
 use frontier::lent;
-use frontier::lent::{Answer, Point};
+use frontier::lent::{Answer, CutCall, PointRecord, SolveCall};
 use frontier::limits::LEAST_WORK;
-use frontier::problem::{Problem, Table};
+use frontier::{Problem, Table};
 use testing::brute::{bound_prefix, list_points, solve_cut, solve_problem};
 use testing::examples::{
     all_clauses, colours, colours_first, constant, days_and_gain, objects, pair_with_constant,
     unary, xor,
 };
+use testing::owned::{cut_by, frontier_by, Listed};
 
 /// The flat calls of the brute force and of the static library; each vector is asked of both.
 const SOLVE_CALLS: [SolveCall; 2] = [solve_problem, lent::solve_problem];
@@ -62,7 +62,7 @@ fn objects_needs_room_3_and_no_more() {
 
 #[test]
 fn objects_in_point_records() {
-    let junk = Point {
+    let junk = PointRecord {
         costs: [9; 4],
         choice: [9; 24],
     };

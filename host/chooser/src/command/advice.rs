@@ -6,9 +6,7 @@ use crate::text::Names;
 use frontier::limits::{
     MAX_ARITY, MAX_BYTES, MAX_DOMAIN, MAX_OBJECTIVES, MAX_POINTS, MAX_TABLES, MAX_VARIABLES,
 };
-use frontier::problem::Problem;
-use frontier::refusal as number;
-use frontier::refusal::Refusal;
+use frontier::{Problem, Refusal};
 
 /// What is wrong, and what to do about it.
 type Advice = (String, String);
@@ -17,17 +15,19 @@ impl Question<'_> {
     /// What is wrong, and what to mend.
     pub fn advice(&self, refusal: Refusal) -> Advice {
         let record = self.record(refusal);
-        match refusal.number {
-            number::OVERSIZE => (
+        match refusal {
+            Refusal::Oversize => (
                 format!("the file has more than {MAX_BYTES} bytes"),
                 "leave cost records out, or add up those of one objective over the same scope"
                     .into(),
             ),
-            number::CUT_SHORT => self.cut_short(record),
-            number::LEFTOVER => leftover(refusal, record),
-            number::WORK | number::SIDES | number::LINKED | number::FULL | number::PREFIX => {
-                self.advice_of_call(refusal)
-            }
+            Refusal::CutShort(_) => self.cut_short(record),
+            Refusal::Leftover(_) => leftover(refusal, record),
+            Refusal::Work
+            | Refusal::Sides
+            | Refusal::Linked(_)
+            | Refusal::Full
+            | Refusal::Prefix => self.advice_of_call(refusal),
             _ => record.map_or_else(|| unknown(refusal), |record| self.field(refusal, &record)),
         }
     }
@@ -51,23 +51,23 @@ impl Question<'_> {
     /// The refusals 3 to 10, each of which concerns fields of one record.
     fn field(&self, refusal: Refusal, record: &Record) -> Advice {
         let byte = |place: usize| record.byte(place).unwrap_or_default();
-        let (what, found, least, most, place) = match refusal.number {
-            number::STRAY_MARK => return stray_mark(record),
-            number::VARIABLES => (
+        let (what, found, least, most, place) = match refusal {
+            Refusal::StrayMark(_) => return stray_mark(record),
+            Refusal::Variables(_) => (
                 "n, the number of modules,",
                 byte(2),
                 1,
                 MAX_VARIABLES,
                 "byte 2",
             ),
-            number::OBJECTIVES => (
+            Refusal::Objectives(_) => (
                 "p, the number of costs,",
                 byte(3),
                 1,
                 MAX_OBJECTIVES,
                 "byte 3",
             ),
-            number::TABLES => {
+            Refusal::Tables(_) => {
                 let tables = byte(4) + 256 * byte(5);
                 (
                     "r, the number of cost records,",
@@ -77,10 +77,10 @@ impl Question<'_> {
                     "bytes 4 and 5",
                 )
             }
-            number::DOMAIN => ("the domain size", byte(2), 1, MAX_DOMAIN, "byte 2"),
-            number::OWNER => ("the objective", byte(2), 0, self.last_number(3), "byte 2"),
-            number::ARITY => ("the arity", byte(3), 0, MAX_ARITY, "byte 3"),
-            number::SCOPE => return self.scope(record),
+            Refusal::Domain(_) => ("the domain size", byte(2), 1, MAX_DOMAIN, "byte 2"),
+            Refusal::Owner(_) => ("the objective", byte(2), 0, self.last_number(3), "byte 2"),
+            Refusal::Arity(_) => ("the arity", byte(3), 0, MAX_ARITY, "byte 3"),
+            Refusal::Scope(_) => return self.scope(record),
             _ => return unknown(refusal),
         };
         let wrong = format!("{what} is {found}, and may be {least} to {most}");
@@ -113,13 +113,13 @@ impl Question<'_> {
     fn advice_of_call(&self, refusal: Refusal) -> Advice {
         let problem = Problem::decode(&self.source.bytes);
         match (&self.call, problem) {
-            (Call::Solve { room }, Ok(_)) if refusal.number == number::FULL => full(*room, ""),
-            (Call::Cut { room, .. }, Ok(_)) if refusal.number == number::FULL => {
+            (Call::Solve { room }, Ok(_)) if refusal == Refusal::Full => full(*room, ""),
+            (Call::Cut { room, .. }, Ok(_)) if refusal == Refusal::Full => {
                 let half = format!(", or that of a half more than {MAX_POINTS}");
                 full(*room, &half)
             }
-            (Call::Cut { sides, .. }, Ok(problem)) => match refusal.number {
-                number::SIDES => self.sides(&problem, sides),
+            (Call::Cut { sides, .. }, Ok(problem)) => match refusal {
+                Refusal::Sides => self.sides(&problem, sides),
                 _ => self.linked(&problem, sides, refusal),
             },
             (Call::Bound { prefix }, Ok(problem)) => self.prefix(&problem, prefix),
@@ -198,7 +198,7 @@ fn leftover(refusal: Refusal, record: Option<Record>) -> Advice {
     let wrong = format!("{count} bytes follow the last record that HD counts");
     let mend = format!(
         "end the file before byte {}, or count a record that is meant there in r, bytes 4 and 5",
-        refusal.place
+        refusal.place()
     );
     (wrong, mend)
 }
@@ -214,7 +214,7 @@ fn full(room: usize, half: &str) -> Advice {
 
 /// For a number that this call does not give.
 fn unknown(refusal: Refusal) -> Advice {
-    let wrong = format!("number {} was not to be expected here", refusal.number);
+    let wrong = format!("number {} was not to be expected here", refusal.number());
     let mend = "please report this, with the problem's file".into();
     (wrong, mend)
 }

@@ -3,9 +3,8 @@
 use super::{print_out, Failure, Outcome};
 use crate::columns::{aligned, Side};
 use crate::json::Json;
-use crate::owned::Listed;
 use crate::text::Names;
-use frontier::problem::Problem;
+use frontier::{Frontier, Point, Problem};
 
 /// An answer, both ways.
 pub struct Reply {
@@ -26,20 +25,20 @@ impl Reply {
 }
 
 /// The answer that these points are.
-pub fn points_reply(problem: &Problem, names: &Names, list: &[Listed]) -> Reply {
+pub fn points_reply(problem: &Problem, names: &Names, list: Frontier) -> Reply {
     let text = match list.len() {
         0 => "no points: no choice has every cost below its ceiling\n".into(),
         1 => format!("1 point\n\n{}", points_table(names, list)),
         count => format!("{count} points\n\n{}", points_table(names, list)),
     };
     let mut json = names_json(problem, names);
-    let points = list.iter().map(|point| point_json(names, point));
+    let points = list.points().map(|point| point_json(names, point));
     json.push(("points", Json::List(points.collect())));
     Reply { text, json }
 }
 
 /// The points, one a line, costs before the bar and variants behind it.
-fn points_table(names: &Names, list: &[Listed]) -> String {
+fn points_table(names: &Names, list: Frontier) -> String {
     let modules = names.modules.iter().map(|module| module.name.clone());
     let mut lines = vec![barred(names.costs.iter().cloned(), modules)];
     for point in list {
@@ -62,15 +61,15 @@ fn barred(
 }
 
 /// The variant of each module in a point, by name.
-fn variants_of<'a>(names: &'a Names, point: &'a Listed) -> impl Iterator<Item = &'a str> {
+fn variants_of<'a>(names: &'a Names, point: Point<'a>) -> impl Iterator<Item = &'a str> {
     let choice = point.choice.iter().enumerate();
     choice.map(|(variable, &value)| names.variant(variable, value))
 }
 
-fn point_json(names: &Names, point: &Listed) -> Json {
+fn point_json(names: &Names, point: Point) -> Json {
     Json::Object(vec![
-        ("costs", Json::numbers(&point.costs)),
-        ("choice", Json::numbers(&point.choice)),
+        ("costs", Json::numbers(point.costs)),
+        ("choice", Json::numbers(point.choice)),
         ("variants", Json::texts(variants_of(names, point))),
     ])
 }

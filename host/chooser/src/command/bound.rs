@@ -10,9 +10,7 @@ use crate::columns::{aligned, Side};
 use crate::json::Json;
 use crate::nearest::or_nearest;
 use crate::text::Names;
-use frontier::lent::bound_prefix;
-use frontier::problem::Problem;
-use frontier::refusal::Refusal;
+use frontier::{Chooser, Problem};
 
 pub const HELP: &str = "\
 usage: chooser bound FILE PREFIX [--json]
@@ -38,20 +36,13 @@ pub fn run(words: &[OsString]) -> Result<Outcome, Failure> {
     let json = asked.has("--json");
     let source = Source::load(file)?;
     let prefix = read_prefix(prefix, source.names.as_ref())?;
-    let bound = bound_prefix(&source.bytes, &prefix);
-    let refusal = Refusal {
-        number: bound.number,
-        place: bound.place,
-    };
-    let read = match refusal.number {
-        0 => Problem::decode(&source.bytes),
-        _ => Err(refusal),
-    };
-    match read {
-        Ok(problem) => {
-            let least = &bound.least[..problem.objectives()];
-            bound_reply(&problem, &source.names(&problem), &prefix, least).print(json)
-        }
+    let reply = Chooser::bound(&source.bytes, &prefix).and_then(|bound| {
+        let problem = Problem::decode(&source.bytes)?;
+        let names = source.names(&problem);
+        Ok(bound_reply(&problem, &names, &prefix, bound.costs()))
+    });
+    match reply {
+        Ok(reply) => reply.print(json),
         Err(refusal) => {
             let (source, prefix) = (&source, &prefix[..]);
             let call = Call::Bound { prefix };

@@ -2,13 +2,14 @@
 
 use std::ffi::{OsStr, OsString};
 
+use super::answers::Reply;
 use super::refused::{Call, Question};
-use super::solve::{asked_room, buffers_for, listed_reply};
+use super::solve::{asked_room, frontier_reply};
 use super::source::Source;
 use super::waiting::while_waiting;
 use super::{sort_words, Failure, Outcome};
 use crate::json::Json;
-use frontier::lent::solve_cut;
+use frontier::{Chooser, Cut, Refusal};
 
 pub const HELP: &str = "\
 usage: chooser cut FILE SIDES [--room N] [--json]
@@ -36,22 +37,27 @@ pub fn run(words: &[OsString]) -> Result<Outcome, Failure> {
     let sides = read_sides(sides)?;
     let json = asked.has("--json");
     let source = Source::load(file)?;
-    let mut lent = buffers_for(&source.bytes, room);
-    let halves = while_waiting(|| lent.lend_cut(solve_cut, &source.bytes, &sides));
-    let sizes = [halves.first, halves.second];
-    match listed_reply(&source, lent.listed(&source.bytes, halves.answer)) {
-        Ok(mut reply) => {
-            let told = format!("\nhalf sizes: {} and {}\n", sizes[0], sizes[1]);
-            reply.text.push_str(&told);
-            reply.json.push(("halves", Json::numbers(&sizes)));
-            reply.print(json)
-        }
+    let mut chooser = Chooser::with_room(room);
+    let cut = while_waiting(|| chooser.cut(&source.bytes, &sides));
+    match cut.and_then(|cut| cut_reply(&source, cut)) {
+        Ok(reply) => reply.print(json),
         Err(refusal) => {
             let (source, sides) = (&source, &sides[..]);
             let call = Call::Cut { sides, room };
             Question { source, call }.refuse(refusal, json)
         }
     }
+}
+
+/// The answer that a frontier with its half sizes is.
+fn cut_reply(source: &Source, cut: Cut) -> Result<Reply, Refusal> {
+    let mut reply = frontier_reply(source, cut.frontier)?;
+    let [first, second] = cut.halves;
+    let told = format!("\nhalf sizes: {first} and {second}\n");
+    reply.text.push_str(&told);
+    let sizes = cut.halves.map(|size| Json::Number(size as u64));
+    reply.json.push(("halves", Json::List(sizes.to_vec())));
+    Ok(reply)
 }
 
 /// A side for each digit. Digits above 1 are for the call to refuse.

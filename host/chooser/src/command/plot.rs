@@ -7,13 +7,10 @@ use super::refused::{Call, Question};
 use super::source::Source;
 use super::waiting::while_waiting;
 use super::{check_target, print_out, sort_words, write_file, Failure, Outcome, STANDARD_STREAM};
-use crate::owned::{Buffers, Listed};
 use crate::plot::{draw, Picture, Plotted};
 use crate::text::Names;
-use frontier::lent::solve_problem;
 use frontier::limits::MAX_POINTS;
-use frontier::problem::Problem;
-use frontier::refusal::Refusal;
+use frontier::{Chooser, Point, Problem, Refusal};
 
 pub const HELP: &str = "\
 usage: chooser plot FILE -o OUT.svg
@@ -75,14 +72,16 @@ fn title_of(file: &OsStr) -> String {
 
 /// Solves the problem, and says what is to be drawn.
 fn picture_of(source: &Source, title: String) -> Result<Picture, Refusal> {
-    let mut lent = Buffers::full();
-    let answer = while_waiting(|| lent.lend(solve_problem, &source.bytes));
-    let list = lent.listed(&source.bytes, answer)?;
+    let mut chooser = Chooser::new();
+    let frontier = while_waiting(|| chooser.solve(&source.bytes))?;
     let problem = Problem::decode(&source.bytes)?;
     let names = source.names(&problem);
     Ok(Picture {
         title,
-        points: list.iter().map(|point| plotted(&names, point)).collect(),
+        points: frontier
+            .points()
+            .map(|point| plotted(&names, point))
+            .collect(),
         objectives: objectives(&problem, &names),
     })
 }
@@ -92,13 +91,13 @@ fn objectives(problem: &Problem, names: &Names) -> Vec<(String, u32)> {
     names.costs.iter().cloned().zip(ceilings).collect()
 }
 
-fn plotted(names: &Names, point: &Listed) -> Plotted {
+fn plotted(names: &Names, point: Point) -> Plotted {
     let chosen = |(variable, &value): (usize, &u8)| {
         let module = names.modules[variable].name.clone();
         (module, names.variant(variable, value).into())
     };
     Plotted {
-        costs: point.costs.clone(),
+        costs: point.costs.to_vec(),
         choice: point.choice.iter().enumerate().map(chosen).collect(),
     }
 }

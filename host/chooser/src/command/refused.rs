@@ -6,8 +6,7 @@ use super::{print_error, print_out, Failure, Outcome};
 use crate::hex::to_hex;
 use crate::json::Json;
 use crate::records::{record_at, Record};
-use frontier::refusal as number;
-use frontier::refusal::{word_of, Refusal};
+use frontier::Refusal;
 
 /// What was asked of a problem.
 pub enum Call<'a> {
@@ -42,13 +41,13 @@ impl Question<'_> {
     }
 
     fn refusal_text(&self, refusal: Refusal) -> String {
-        let (number, place) = (refusal.number, refusal.place);
+        let (number, place) = (refusal.number(), refusal.place());
         let (wrong, mend) = self.advice(refusal);
         let mut text = format!(
             "chooser: {} is refused with number {number} ({}) at byte {place}{}\n  wrong: {wrong}\n",
             self.source.label,
-            word_of(number),
-            self.place_in_text(number)
+            refusal.word(),
+            self.place_in_text(refusal)
         );
         if let Some(record) = self.record(refusal) {
             let standing = standing_text(refusal, &record);
@@ -59,8 +58,8 @@ impl Question<'_> {
     }
 
     /// Where the place is, for a problem that has no bytes of its own.
-    fn place_in_text(&self, number: u8) -> &'static str {
-        match self.source.names.is_some() && has_record(number) {
+    fn place_in_text(&self, refusal: Refusal) -> &'static str {
+        match self.source.names.is_some() && refusal.byte().is_some() {
             true => " of the packed problem",
             false => "",
         }
@@ -69,17 +68,17 @@ impl Question<'_> {
     fn refusal_json(&self, refusal: Refusal) -> Json {
         let (wrong, mend) = self.advice(refusal);
         let record = self.record(refusal).map_or(Json::Null, |record| {
-            let (mark, number) = match refusal.number {
-                number::LEFTOVER => (Json::Null, Json::Null),
+            let (mark, number) = match refusal {
+                Refusal::Leftover(_) => (Json::Null, Json::Null),
                 _ => (Json::text(record.mark), Json::Number(record.number as u64)),
             };
             let bytes = Json::text(to_hex(shown(record.bytes)));
             Json::Object(vec![("mark", mark), ("number", number), ("bytes", bytes)])
         });
         let told = Json::Object(vec![
-            ("number", Json::Number(refusal.number.into())),
-            ("word", Json::text(word_of(refusal.number))),
-            ("place", Json::Number(refusal.place.into())),
+            ("number", Json::Number(refusal.number().into())),
+            ("word", Json::text(refusal.word())),
+            ("place", Json::Number(refusal.place().into())),
             ("wrong", Json::text(wrong)),
             ("record", record),
             ("mend", Json::text(mend)),
@@ -89,22 +88,16 @@ impl Question<'_> {
 
     /// The record at the place of the refusal; for bytes left over, a record without a mark.
     pub fn record(&self, refusal: Refusal) -> Option<Record<'_>> {
-        let (bytes, place) = (&self.source.bytes[..], refusal.place as usize);
-        match refusal.number {
-            number::LEFTOVER => bytes.get(place..).map(|bytes| Record {
+        let (bytes, place) = (&self.source.bytes[..], refusal.byte()? as usize);
+        match refusal {
+            Refusal::Leftover(_) => bytes.get(place..).map(|bytes| Record {
                 mark: "",
                 number: 0,
                 bytes,
             }),
-            number if has_record(number) => record_at(bytes, place),
-            _ => None,
+            _ => record_at(bytes, place),
         }
     }
-}
-
-/// Whether a refusal with this number has a place that is a byte of the problem.
-fn has_record(number: u8) -> bool {
-    (number::CUT_SHORT..=number::LEFTOVER).contains(&number) || number == number::LINKED
 }
 
 /// What to call a record.
@@ -128,8 +121,8 @@ fn standing_text(refusal: Refusal, record: &Record) -> String {
         true => "no byte".into(),
         false => format!("bytes {}{more}", spaced.join(" ")),
     };
-    match refusal.number {
-        number::LEFTOVER => bytes,
+    match refusal {
+        Refusal::Leftover(_) => bytes,
         _ => format!("{}, {bytes}", record_name(record)),
     }
 }

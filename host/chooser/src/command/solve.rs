@@ -7,11 +7,8 @@ use super::refused::{Call, Question};
 use super::source::Source;
 use super::waiting::while_waiting;
 use super::{sort_words, Asked, Failure, Outcome};
-use crate::owned::{Buffers, Listed};
-use frontier::lent::solve_problem;
 use frontier::limits::MAX_POINTS;
-use frontier::problem::Problem;
-use frontier::refusal::Refusal;
+use frontier::{Chooser, Frontier, Problem, Refusal};
 
 pub const HELP: &str = "\
 usage: chooser solve FILE [--room N] [--json]
@@ -38,10 +35,10 @@ pub fn run(words: &[OsString]) -> Result<Outcome, Failure> {
     let room = asked_room(&asked)?;
     let json = asked.has("--json");
     let source = Source::load(file)?;
-    let mut lent = buffers_for(&source.bytes, room);
-    let answer = while_waiting(|| lent.lend(solve_problem, &source.bytes));
+    let mut chooser = Chooser::with_room(room);
+    let answer = while_waiting(|| chooser.solve(&source.bytes));
     let call = Call::Solve { room };
-    match listed_reply(&source, lent.listed(&source.bytes, answer)) {
+    match answer.and_then(|frontier| frontier_reply(&source, frontier)) {
         Ok(reply) => reply.print(json),
         Err(refusal) => {
             let source = &source;
@@ -56,19 +53,8 @@ pub fn asked_room(asked: &Asked) -> Result<usize, Failure> {
     Ok(room.unwrap_or(MAX_POINTS))
 }
 
-/// Buffers with exactly this room, which the cost buffer's length gives alone. For bytes that are
-/// refused it does not matter.
-pub fn buffers_for(bytes: &[u8], room: usize) -> Buffers {
-    let mut lent = Buffers::full();
-    if let Ok(problem) = Problem::decode(bytes) {
-        lent.costs.truncate(room * problem.objectives());
-    }
-    lent
-}
-
-/// The answer that a list is.
-pub fn listed_reply(source: &Source, list: Result<Vec<Listed>, Refusal>) -> Result<Reply, Refusal> {
-    let list = list?;
+/// The answer that a frontier is.
+pub fn frontier_reply(source: &Source, frontier: Frontier) -> Result<Reply, Refusal> {
     let problem = Problem::decode(&source.bytes)?;
-    Ok(points_reply(&problem, &source.names(&problem), &list))
+    Ok(points_reply(&problem, &source.names(&problem), frontier))
 }

@@ -6,7 +6,7 @@ use std::path::Path;
 use super::{read_file, Failure, STANDARD_STREAM};
 use crate::text::{parse, Fault, Named, Names};
 use frontier::limits::MAX_BYTES;
-use frontier::problem::Problem;
+use frontier::Problem;
 
 /// A text problem has at most this many bytes: more than the largest problem takes with the longest
 /// names, in letters of four bytes each.

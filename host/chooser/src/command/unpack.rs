@@ -7,7 +7,7 @@ use super::source::{label_of, Source};
 use super::{print_out, read_file, sort_words, write_file, Failure, Outcome};
 use crate::text::{write, Named, Names};
 use frontier::limits::MAX_BYTES;
-use frontier::problem::Problem;
+use frontier::Problem;
 
 pub const HELP: &str = "\
 usage: chooser unpack FILE [-o TEXT]

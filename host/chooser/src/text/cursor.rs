@@ -4,7 +4,7 @@ use super::fault::{quoted, Fault};
 use super::lines::{Line, Word};
 use super::names::{is_name, LONGEST_NAME};
 use super::NEVER;
-use frontier::problem::FORBIDDEN;
+use frontier::FORBIDDEN;
 
 /// A line and how many of its words are taken.
 pub struct Cursor<'a> {

@@ -14,7 +14,7 @@ pub use names::{is_name, Module, Names, LONGEST_NAME};
 pub use parse::parse;
 pub use write::write;
 
-use frontier::problem::Problem;
+use frontier::Problem;
 
 /// A problem with the names of its costs, modules and variants.
 #[derive(Clone, Debug, PartialEq, Eq)]

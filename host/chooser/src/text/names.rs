@@ -1,6 +1,6 @@
 //! The names of a problem's costs, modules and variants.
 
-use frontier::problem::Problem;
+use frontier::Problem;
 
 /// A name has at most this many characters, so that tables stay narrow.
 pub const LONGEST_NAME: usize = 40;

@@ -9,7 +9,7 @@ use super::tables::take_table;
 use super::Named;
 use crate::nearest::or_nearest;
 use frontier::limits::{MAX_DOMAIN, MAX_OBJECTIVES, MAX_TABLES, MAX_VARIABLES};
-use frontier::problem::Problem;
+use frontier::Problem;
 
 /// The words that start a statement.
 const STATEMENTS: [&str; 3] = ["costs", "module", "table"];

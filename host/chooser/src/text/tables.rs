@@ -7,7 +7,7 @@ use super::names::{row_variants, Module, Names};
 use super::Named;
 use crate::nearest::or_nearest;
 use frontier::limits::{MAX_ARITY, MAX_BYTES};
-use frontier::problem::Table;
+use frontier::Table;
 
 /// A table that is being read: its modules, and which rows are there.
 struct Grid<'a> {

@@ -3,7 +3,7 @@
 use super::names::{row_variants, Module};
 use super::{Named, NEVER};
 use crate::columns::{aligned, Side};
-use frontier::problem::{Table, FORBIDDEN};
+use frontier::{Table, FORBIDDEN};
 
 /// The spaces before a table's lines.
 const INDENT: &str = "    ";

@@ -5,10 +5,7 @@ use frontier::lent::Least;
 use frontier::limits::{
     MAX_ARITY, MAX_BYTES, MAX_DOMAIN, MAX_OBJECTIVES, MAX_TABLES, MAX_VARIABLES,
 };
-use frontier::refusal::{
-    Refusal, ARITY, CUT_SHORT, DOMAIN, LEFTOVER, OBJECTIVES, OVERSIZE, OWNER, PREFIX, SCOPE,
-    STRAY_MARK, TABLES, VARIABLES,
-};
+use frontier::Refusal;
 
 /// The domain sizes of the variables; those from n on are 0.
 pub type Domains = [u8; MAX_VARIABLES];
@@ -34,14 +31,13 @@ struct Cursor<'a> {
 }
 
 impl<'a> Cursor<'a> {
-    fn refuse<T>(&self, number: u8) -> Result<T, Refusal> {
-        let place = self.record as u32;
-        Err(Refusal { number, place })
+    fn refuse<T>(&self, at: fn(u32) -> Refusal) -> Result<T, Refusal> {
+        Err(at(self.record as u32))
     }
 
     fn take(&mut self, count: usize) -> Result<&'a [u8], Refusal> {
         if self.rest.len() < count {
-            return self.refuse(CUT_SHORT);
+            return self.refuse(Refusal::CutShort);
         }
         let (taken, rest) = self.rest.split_at(count);
         self.rest = rest;
@@ -52,7 +48,7 @@ impl<'a> Cursor<'a> {
     fn begin(&mut self, mark: [u8; 2]) -> Result<(), Refusal> {
         self.record = self.place;
         if self.take(2)? != mark {
-            return self.refuse(STRAY_MARK);
+            return self.refuse(Refusal::StrayMark);
         }
         Ok(())
     }
@@ -66,13 +62,13 @@ impl<'a> Cursor<'a> {
             tables: usize::from(u16::from_le_bytes([fields[2], fields[3]])),
         };
         if header.variables == 0 || header.variables > MAX_VARIABLES {
-            return self.refuse(VARIABLES);
+            return self.refuse(Refusal::Variables);
         }
         if header.objectives == 0 || header.objectives > MAX_OBJECTIVES {
-            return self.refuse(OBJECTIVES);
+            return self.refuse(Refusal::Objectives);
         }
         if header.tables > MAX_TABLES {
-            return self.refuse(TABLES);
+            return self.refuse(Refusal::Tables);
         }
         self.take(4 * header.objectives)?;
         Ok(header)
@@ -84,7 +80,7 @@ impl<'a> Cursor<'a> {
             self.begin(*b"DO")?;
             *size = self.take(1)?[0];
             if *size == 0 || usize::from(*size) > MAX_DOMAIN {
-                return self.refuse(DOMAIN);
+                return self.refuse(Refusal::Domain);
             }
         }
         Ok(domains)
@@ -99,17 +95,17 @@ impl<'a> Cursor<'a> {
         let fields = self.take(2)?;
         let (objective, arity) = (usize::from(fields[0]), usize::from(fields[1]));
         if objective >= header.objectives {
-            return self.refuse(OWNER);
+            return self.refuse(Refusal::Owner);
         }
         if arity > MAX_ARITY {
-            return self.refuse(ARITY);
+            return self.refuse(Refusal::Arity);
         }
         let scope = self.take(arity)?;
         let (mut least_next, mut entries) = (0, 1);
         for &v in scope {
             let variable = usize::from(v);
             if variable < least_next || variable >= header.variables {
-                return self.refuse(SCOPE);
+                return self.refuse(Refusal::Scope);
             }
             least_next = variable + 1;
             entries *= usize::from(domains[variable]);
@@ -176,7 +172,7 @@ fn try_bound(
     least_entry: impl Fn(&CostRecord, &Domains, &[u8]) -> u32,
 ) -> Result<[u64; MAX_OBJECTIVES], Refusal> {
     if problem.len() > MAX_BYTES {
-        return Err(Refusal::placeless(OVERSIZE));
+        return Err(Refusal::Oversize);
     }
     let mut cursor = Cursor {
         rest: problem,
@@ -197,10 +193,10 @@ fn try_bound(
     }
     if !cursor.rest.is_empty() {
         cursor.record = cursor.place;
-        return cursor.refuse(LEFTOVER);
+        return cursor.refuse(Refusal::Leftover);
     }
     if !good_prefix {
-        return Err(Refusal::placeless(PREFIX));
+        return Err(Refusal::Prefix);
     }
     Ok(least)
 }

@@ -2,7 +2,7 @@
 
 use chooser::junk::Rng;
 use frontier::limits::{MAX_BYTES, MAX_TABLES, MAX_VARIABLES};
-use frontier::problem::{Problem, Table};
+use frontier::{Problem, Table};
 use testing::examples::brimful;
 
 /// A problem of four objectives and 24 variables, without tables.

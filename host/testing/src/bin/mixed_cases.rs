@@ -4,9 +4,9 @@
 use std::env;
 use std::process::ExitCode;
 
-use frontier::lent::Least;
-use frontier::lent::{write_bound, write_cut, write_points, write_solve};
-use frontier::lent::{Answer, Halves, Point};
+use frontier::lent::{
+    write_bound, write_cut, write_points, write_solve, Answer, Halves, Least, PointRecord,
+};
 use frontier::limits::MAX_OBJECTIVES;
 use testing::mixed::Mixed;
 
@@ -87,7 +87,7 @@ fn bound_on_heap(problem: &[u8], prefix: &[u8]) -> Least {
 
 /// The call for point records on a copy that has exactly its length on the heap, and with junk where
 /// it writes its place and count, for the same reason.
-fn points_on_heap(problem: &[u8], points: &mut [Point], work: &mut [u32]) -> Answer {
+fn points_on_heap(problem: &[u8], points: &mut [PointRecord], work: &mut [u32]) -> Answer {
     let problem: Box<[u8]> = problem.into();
     let (mut place, mut count) = (Box::new(0xa5a5_a5a5), Box::new(0xa5a5_a5a5));
     let number = write_points(&problem, points, work, &mut place, &mut count);

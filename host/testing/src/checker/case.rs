@@ -6,7 +6,7 @@ use crate::random::{
     bad_sides, parted_problem, random_problem, random_sides, uncrossed_sides, Shape,
 };
 use chooser::junk::Rng;
-use frontier::problem::Problem;
+use frontier::Problem;
 
 use super::Verdict;
 

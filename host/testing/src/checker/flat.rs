@@ -1,10 +1,9 @@
 //! What every element of the lent buffers must be after a call.
 
-use chooser::owned::{Buffers, Listed};
-use frontier::lent::{Answer, Halves, Point};
+use crate::owned::Listed;
+use frontier::lent::{Answer, Buffers, Halves, PointRecord};
 use frontier::limits::{LEAST_WORK, MAX_POINTS};
-use frontier::problem::Problem;
-use frontier::refusal::Refusal;
+use frontier::{Problem, Refusal};
 
 use super::{ensure, Verdict};
 
@@ -19,10 +18,10 @@ impl Known<'_> {
     /// The answer that a call of this room must give, with a work buffer of this length.
     pub fn expected_answer(&self, room: usize, work: usize) -> Answer {
         if work < LEAST_WORK {
-            return Refusal::placeless(12).into();
+            return Refusal::Work.into();
         }
         if self.size > room.min(MAX_POINTS) {
-            return Refusal::placeless(15).into();
+            return Refusal::Full.into();
         }
         Answer::accepted(self.size)
     }
@@ -64,7 +63,12 @@ impl Known<'_> {
     }
 
     /// Checks an answer and every element of a point list against those before the call.
-    pub fn check_points(&self, before: &[Point], after: &[Point], answer: Answer) -> Verdict {
+    pub fn check_points(
+        &self,
+        before: &[PointRecord],
+        after: &[PointRecord],
+        answer: Answer,
+    ) -> Verdict {
         let expected = self.expected_answer(before.len(), LEAST_WORK);
         ensure(answer == expected, || {
             format!("points answer {answer:?}, expected {expected:?}")

@@ -2,16 +2,14 @@
 //! call can be handed in too.
 
 use crate::brute::{bound_prefix, list_points, solve_cut};
-use crate::owned::frontier_of;
+use crate::owned::{cut_by, frontier_of, listed, Listed};
 use crate::point_records::{junk_point, junk_points};
 use crate::random::random_choice;
 use crate::reading::read_problem;
 use chooser::junk::junk;
-use chooser::owned::{cut_by, Buffers, Listed};
-use frontier::lent::{Answer, Halves, Least, Point};
+use frontier::lent::{Answer, Buffers, Halves, Least, PointRecord};
 use frontier::limits::{LEAST_WORK, MAX_POINTS};
-use frontier::problem::{Problem, Table};
-use frontier::refusal::Refusal;
+use frontier::{Problem, Refusal, Table};
 
 use super::case::Case;
 use super::flat::Known;
@@ -25,7 +23,7 @@ pub type Solver<'a> = &'a dyn Fn(&[u8], &mut [u32], &mut [u8], &mut [u32]) -> An
 pub type Cutter<'a> = &'a dyn Fn(&[u8], &[u8], &mut [u32], &mut [u8], &mut [u32]) -> Halves;
 
 /// A call that writes point records, as `list_points` is.
-pub type Lister<'a> = &'a dyn Fn(&[u8], &mut [Point], &mut [u32]) -> Answer;
+pub type Lister<'a> = &'a dyn Fn(&[u8], &mut [PointRecord], &mut [u32]) -> Answer;
 
 /// A bound call, as `bound_prefix` is.
 pub type Bounder<'a> = &'a dyn Fn(&[u8], &[u8]) -> Least;
@@ -55,7 +53,7 @@ pub fn flat_law(case: &mut Case, solver: Solver) -> Verdict {
     let size = frontier_size(&consistent);
     let mut lent = exact_buffers(case, size);
     let answer = lent.lend(solver, &case.bytes);
-    let list = lent.listed(&case.bytes, answer).unwrap_or_default();
+    let list = listed(&lent, &case.bytes, answer).unwrap_or_default();
     if size <= MAX_POINTS {
         check_frontier(&consistent, &list)?;
     }
@@ -128,13 +126,13 @@ pub fn points_law(case: &mut Case, lister: Lister) -> Verdict {
 /// The refusal that the cut rules ask for, from the prose of 13 and 14.
 pub fn sides_refusal(problem: &Problem, sides: &[u8]) -> Option<Refusal> {
     if sides.len() != problem.variables() || sides.iter().any(|&side| side > 1) {
-        return Some(Refusal::placeless(13));
+        return Some(Refusal::Sides);
     }
     let has = |table: &Table, side: u8| table.scope.iter().any(|&v| sides[usize::from(v)] == side);
     let linked = |table: &Table| has(table, 0) && has(table, 1);
     let first = problem.tables.iter().position(linked)?;
     let place = record_starts(problem)[1 + problem.variables() + first] as u32;
-    Some(Refusal { number: 14, place })
+    Some(Refusal::Linked(place))
 }
 
 /// A half as a problem of its own, renumbered. A variable of one value and no cost stands in
@@ -221,7 +219,7 @@ pub fn whole_law(case: &Case, sides: &[u8], cutter: Cutter, solver: Solver) -> V
     };
     let mut lent = Buffers::full();
     let answer = lent.lend(solver, &case.bytes);
-    let whole = lent.listed(&case.bytes, answer);
+    let whole = listed(&lent, &case.bytes, answer);
     ensure(whole.as_ref() == Ok(&list), || {
         format!("sides {sides:?} give {list:?}, the whole {whole:?}")
     })
@@ -239,7 +237,7 @@ pub fn exchange_law(case: &Case, sides: &[u8], cutter: Cutter) -> Verdict {
     let (one, other) = (cut(sides), cut(&exchanged(sides)));
     let kept = match (&one, &other) {
         (Ok((list, _)), Ok((exchanged_list, _))) => list == exchanged_list,
-        (Err(refusal), Ok(_)) | (Ok(_), Err(refusal)) => refusal.number == 15,
+        (Err(refusal), Ok(_)) | (Ok(_), Err(refusal)) => *refusal == Refusal::Full,
         (Err(refusal), Err(exchanged_refusal)) => refusal == exchanged_refusal,
     };
     ensure(kept, || format!("{sides:?} {one:?}, exchanged {other:?}"))
@@ -271,7 +269,7 @@ fn bad_prefix_law(case: &mut Case, bounder: Bounder) -> Verdict {
     let outside = [&choice[..place], &[case.problem.domains[place]]].concat();
     for prefix in [long, outside] {
         let bound = bounder(&case.bytes, &prefix);
-        let refused = bound == Refusal::placeless(16).into();
+        let refused = bound == Refusal::Prefix.into();
         ensure(refused, || format!("{bound:?} of {prefix:?}"))?;
     }
     Ok(())
@@ -305,8 +303,8 @@ pub fn bytes_law(case: &mut Case, solver: Solver) -> Verdict {
         list_points(&bytes, &mut points, work),
     ];
     let alike = answers.iter().all(|&answer| answer == refusal.into());
-    let placed = (refusal.place as usize) <= bytes.len();
-    let told = alike && placed && bound == refusal.into() && (1..=11).contains(&refusal.number);
+    let placed = (refusal.place() as usize) <= bytes.len();
+    let told = alike && placed && bound == refusal.into() && (1..=11).contains(&refusal.number());
     ensure(told, || format!("{answers:?} {bound:?} {refusal:?}"))?;
     ensure(lent == before && points[0] == points[1], || {
         "written".into()

@@ -1,11 +1,10 @@
 //! Faulty cut calls that merge right halves wrongly; the laws of the cut must tell each of them.
 
 use crate::brute::solve_cut;
-use crate::owned::{cut_of, frontier_of};
+use crate::owned::{cut_of, frontier_of, Listed};
 use crate::reading::read_problem;
-use chooser::owned::{Buffers, Listed};
-use frontier::lent::Halves;
-use frontier::problem::Problem;
+use frontier::lent::{Buffers, Halves};
+use frontier::Problem;
 
 use super::law::{half_problem, Cutter};
 

@@ -7,9 +7,9 @@ pub mod law;
 pub mod mismerged;
 pub mod mutants;
 
-use chooser::owned::Listed;
+use crate::owned::Listed;
 use frontier::limits::{MAX_DOMAIN, MAX_OBJECTIVES, MAX_TABLES, MAX_VARIABLES};
-use frontier::problem::{Problem, Table};
+use frontier::{Problem, Table};
 
 /// A verdict: what was found wrong, if anything.
 pub type Verdict = Result<(), String>;

@@ -1,11 +1,11 @@
 //! Wrong answers and faulty calls, made from right ones; the checkers must tell each of them.
 
 use crate::brute::{bound_prefix, list_points, solve_cut, solve_problem};
+use crate::owned::Listed;
 use crate::reading::read_problem;
-use chooser::owned::{Buffers, Listed};
-use frontier::lent::{Answer, Halves, Least, Point};
+use frontier::lent::{Answer, Buffers, Halves, Least, PointRecord};
 use frontier::limits::{MAX_POINTS, MAX_VARIABLES};
-use frontier::refusal::Refusal;
+use frontier::Refusal;
 
 use super::law::{Bounder, Cutter, Lister, Solver};
 use super::Costed;
@@ -117,7 +117,7 @@ fn spoil<T: Copy>(slice: &mut [T], spoiled: impl Fn(T) -> T) {
 pub fn each_wrong_solver(test: impl Fn(&str, Solver)) {
     test("never accepts", &|_, _, _, work| {
         work.fill(0);
-        Refusal::placeless(15).into()
+        Refusal::Full.into()
     });
     let one_point = |_: &mut Buffers, answer: &mut Answer| answer.count = answer.count.min(1);
     test("stops after one point", &after(one_point));
@@ -218,8 +218,8 @@ pub fn each_missided_cutter(test: impl Fn(&str, Cutter)) {
 
 /// Hands each faulty call for point records to the test, by name.
 pub fn each_faulty_lister(test: impl Fn(&str, Lister)) {
-    let spoiled = |tamper: fn(&mut Point)| {
-        move |problem: &[u8], points: &mut [Point], work: &mut [u32]| {
+    let spoiled = |tamper: fn(&mut PointRecord)| {
+        move |problem: &[u8], points: &mut [PointRecord], work: &mut [u32]| {
             let answer = list_points(problem, points, work);
             points[..answer.count as usize].iter_mut().for_each(tamper);
             answer
@@ -238,7 +238,7 @@ pub fn each_faulty_lister(test: impl Fn(&str, Lister)) {
         let mut own = vec![points.first().copied(); MAX_POINTS]
             .into_iter()
             .flatten()
-            .collect::<Vec<Point>>();
+            .collect::<Vec<PointRecord>>();
         list_points(problem, &mut own, work)
     });
 }
@@ -277,7 +277,7 @@ pub fn each_misread_bounder(test: impl Fn(&str, Bounder)) {
     test(
         "prefix asked first",
         &|problem, prefix| match prefix.len() > MAX_VARIABLES {
-            true => Refusal::placeless(16).into(),
+            true => Refusal::Prefix.into(),
             false => bound_prefix(problem, prefix),
         },
     );

@@ -4,7 +4,7 @@
 use super::directions::{Directions, Vector};
 use super::order::{has, scope_set, VariableSet};
 use frontier::limits::{MAX_DOMAIN, MAX_VARIABLES};
-use frontier::problem::{Problem, Table};
+use frontier::{Problem, Table};
 
 /// A value for each variable; those that have none yet are not read.
 pub type Values = [u8; MAX_VARIABLES];

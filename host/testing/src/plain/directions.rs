@@ -2,7 +2,7 @@
 
 use super::settings::MOST_SUMS;
 use frontier::limits::MAX_OBJECTIVES;
-use frontier::problem::Problem;
+use frontier::Problem;
 
 /// A number in each direction: the p objectives, then the sums. Unused ones are 0. The number of
 /// directions is a parameter, so that problems with few of them do not pay for all.

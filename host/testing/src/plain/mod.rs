@@ -26,8 +26,7 @@ use chooser::clock::thread_time;
 use directions::{Directions, Extent, Vector, Weighting};
 use frontier::lent::Answer;
 use frontier::limits::{LEAST_WORK, MAX_POINTS};
-use frontier::problem::Problem;
-use frontier::refusal::{Refusal, FULL, WORK};
+use frontier::{Problem, Refusal};
 use messages::send_all;
 use order::{search_order, Rule};
 use search::Search;
@@ -91,7 +90,7 @@ pub fn solve_within(
 fn read_with_work(bytes: &[u8], work_length: usize) -> Result<Problem, Refusal> {
     let problem = read_problem(bytes)?.problem;
     match work_length < LEAST_WORK {
-        true => Err(Refusal::placeless(WORK)),
+        true => Err(Refusal::Work),
         false => Ok(problem),
     }
 }
@@ -217,7 +216,7 @@ impl Task<'_> {
         choices: &mut [u8],
     ) -> Answer {
         if points.len() > self.room {
-            return Refusal::placeless(FULL).into();
+            return Refusal::Full.into();
         }
         points.sort_by_key(|point| point.costs);
         let costs = costs.chunks_exact_mut(self.problem.objectives());

@@ -1,6 +1,6 @@
 //! The search order of the variables.
 
-use frontier::problem::Problem;
+use frontier::Problem;
 
 /// A set of variables, one bit each.
 pub type VariableSet = u32;

@@ -5,8 +5,8 @@ use super::cases::Case;
 use crate::brute::cost_vector;
 use crate::plain::{solve_problem, Settings};
 use chooser::junk::Rng;
-use chooser::owned::Buffers;
-use frontier::problem::{Problem, Table, FORBIDDEN};
+use frontier::lent::Buffers;
+use frontier::{Problem, Table, FORBIDDEN};
 
 /// So many problems are generated of each size.
 const PROBLEMS: u64 = 5;

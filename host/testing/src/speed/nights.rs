@@ -5,7 +5,7 @@ use super::cases::Case;
 use crate::brute::cost_vector;
 use chooser::junk::Rng;
 use frontier::limits::{MAX_DOMAIN, MAX_VARIABLES};
-use frontier::problem::{Problem, Table, FORBIDDEN};
+use frontier::{Problem, Table, FORBIDDEN};
 
 /// So many problems has a night, and so many of the largest size are generated with it.
 const NIGHT: usize = 380;

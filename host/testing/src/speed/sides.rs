@@ -5,12 +5,13 @@
 
 use std::time::Duration;
 
+use crate::owned::answer_text;
 use crate::plain::{solve_within, Settings};
 use chooser::clock::thread_time;
 use chooser::hex::{from_hex, to_hex};
 use chooser::junk::{fill_with_junk, junk_buffers};
-use chooser::owned::{answer_text, Buffers};
 use chooser::worker::{self, serve, Worker};
+use frontier::lent::Buffers;
 use frontier::{lent, measure};
 
 /// What one side made of a problem.

@@ -8,7 +8,7 @@ use std::process::{self, Command, Stdio};
 use std::time::{Duration, Instant};
 
 use super::sides::{Ending, Run};
-use frontier::problem::Problem;
+use frontier::Problem;
 
 const PROGRAM: &str = "toulbar2";
 
