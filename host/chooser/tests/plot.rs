@@ -269,7 +269,7 @@ fn darkened(picture: &str) -> String {
 
 /// The renderers that are known, each with the words that make a PNG of a picture.
 fn renderers(svg: &str, png: &str) -> [Vec<String>; 3] {
-    let words = |words: &[&str]| words.iter().map(|word| word.to_string()).collect();
+    let words = |words: &[&str]| words.iter().map(ToString::to_string).collect();
     [
         words(&["rsvg-convert", svg, "-o", png]),
         words(&[

@@ -4,6 +4,7 @@
 
 use std::env;
 use std::fs;
+use std::path::Path;
 use std::process::ExitCode;
 
 use frontier::Chooser;
@@ -22,7 +23,8 @@ fn main() -> ExitCode {
     let problem = match fs::read(&path) {
         Ok(bytes) => bytes,
         Err(error) => {
-            eprintln!("solve: {} cannot be read: {error}", path.display());
+            let path = Path::new(&path).display();
+            eprintln!("solve: {path} cannot be read: {error}");
             return ExitCode::from(2);
         }
     };

@@ -141,7 +141,7 @@ pub(crate) fn answer_of(
 }
 
 /// The plain call as C has it: the number of refusal is the result, and `place` and `count` are
-/// written whatever they held. Callers that only want the answer use `solve_problem`.
+/// written whatever they held. Callers that only want the answer use [`solve_problem`].
 pub fn write_solve(
     problem: &[u8],
     costs: &mut [u32],
@@ -163,19 +163,28 @@ pub fn solve_problem(
     answer_of(frontier_solve, problem, costs, choices, work)
 }
 
-/// The cut call as C has it: the number of refusal is the result, and `place`, `count`, `first` and
-/// `second` are written whatever they held. Callers that only want the answer use `solve_cut`.
-#[allow(clippy::too_many_arguments)] // they are C's, one for one
+/// Where the cut call writes its numbers.
+#[derive(Debug)]
+pub struct CutNumbers<'a> {
+    /// The place of the refusal.
+    pub place: &'a mut u32,
+    /// How many points are listed.
+    pub count: &'a mut u32,
+    /// How many points the frontier of side 0 has.
+    pub first: &'a mut u32,
+    /// How many points the frontier of side 1 has.
+    pub second: &'a mut u32,
+}
+
+/// The cut call as C has it: the number of refusal is the result, and the other numbers are written
+/// whatever they held. Callers that only want the answer use [`solve_cut`].
 pub fn write_cut(
     problem: &[u8],
     sides: &[u8],
     costs: &mut [u32],
     choices: &mut [u8],
     work: &mut [u32],
-    place: &mut u32,
-    count: &mut u32,
-    first: &mut u32,
-    second: &mut u32,
+    numbers: CutNumbers,
 ) -> u8 {
     // SAFETY: as in `lend`; the side list is read only, as the problem is, and the seven
     // that are written are exclusive.
@@ -191,10 +200,10 @@ pub fn write_cut(
             choices.len(),
             work.as_mut_ptr(),
             work.len(),
-            place,
-            count,
-            first,
-            second,
+            numbers.place,
+            numbers.count,
+            numbers.first,
+            numbers.second,
         )
     }
 }
@@ -208,17 +217,13 @@ pub fn solve_cut(
     work: &mut [u32],
 ) -> Halves {
     let (mut place, mut count, mut first, mut second) = (0, 0, 0, 0);
-    let number = write_cut(
-        problem,
-        sides,
-        costs,
-        choices,
-        work,
-        &mut place,
-        &mut count,
-        &mut first,
-        &mut second,
-    );
+    let numbers = CutNumbers {
+        place: &mut place,
+        count: &mut count,
+        first: &mut first,
+        second: &mut second,
+    };
+    let number = write_cut(problem, sides, costs, choices, work, numbers);
     let answer = Answer {
         number,
         place,
@@ -232,7 +237,7 @@ pub fn solve_cut(
 }
 
 /// The bound call as C has it: the number of refusal is the result, and `least` and `place` are
-/// written whatever they held. Callers that only want the answer use `bound_prefix`.
+/// written whatever they held. Callers that only want the answer use [`bound_prefix`].
 pub fn write_bound(
     problem: &[u8],
     prefix: &[u8],
@@ -266,7 +271,7 @@ pub fn bound_prefix(problem: &[u8], prefix: &[u8]) -> Least {
 }
 
 /// The call for point records as C has it: the number of refusal is the result, and `place` and
-/// `count` are written whatever they held. Callers that only want the answer use `list_points`.
+/// `count` are written whatever they held. Callers that only want the answer use [`list_points`].
 pub fn write_points(
     problem: &[u8],
     points: &mut [PointRecord],

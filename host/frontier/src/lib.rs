@@ -29,6 +29,8 @@
 //! [`Chooser`] owns one set of buffers and is used again for problem after problem. Those who bring
 //! their own buffers, as C programs do, find the calls in [`lent`].
 
+#![warn(missing_docs)]
+
 mod buffers;
 mod chooser;
 mod ffi;

@@ -3,14 +3,17 @@
 use crate::lent::bound_prefix;
 use crate::refusal::{check, Refusal};
 
-/// The entry that can be under no ceiling, so it forbids its combination.
+/// The entry that no ceiling is above, so that it forbids its combination.
 pub const FORBIDDEN: u32 = 4_294_967_295;
 
 /// A cost record: one objective's costs over a scope, the last scope variable running fastest.
 #[derive(Clone, Debug, PartialEq, Eq)]
 pub struct Table {
+    /// The objective, from 0, that the costs are of.
     pub objective: u8,
+    /// The variables, from 0, that the costs depend on: at most three, in rising order.
     pub scope: Vec<u8>,
+    /// A cost for each combination of the variables' values.
     pub costs: Vec<u32>,
 }
 
@@ -28,8 +31,11 @@ impl Table {
 /// A problem: p ceilings, n domain sizes, r tables.
 #[derive(Clone, Debug, PartialEq, Eq)]
 pub struct Problem {
+    /// The ceiling of each objective: a point's cost is below it.
     pub ceilings: Vec<u32>,
+    /// How many values each variable has.
     pub domains: Vec<u8>,
+    /// The cost records. The cost of a choice in an objective is the sum over its tables.
     pub tables: Vec<Table>,
 }
 
@@ -73,9 +79,23 @@ impl Problem {
         bytes
     }
 
-    /// The problem in record bytes, or the refusal that every call gives them. The library reads the
-    /// bytes first, by the call that does no more than that, so that the rules stand nowhere twice.
+    /// The problem in record bytes, or the refusal that every call gives them.
+    ///
+    /// ```
+    /// use frontier::{Problem, Refusal, Table};
+    ///
+    /// let problem = Problem {
+    ///     ceilings: vec![9],
+    ///     domains: vec![2],
+    ///     tables: vec![Table::new(0, &[0], &[3, 4])],
+    /// };
+    /// let bytes = problem.encode();
+    /// assert_eq!(Problem::decode(&bytes), Ok(problem));
+    /// assert_eq!(Problem::decode(&bytes[..20]), Err(Refusal::CutShort(13)));
+    /// ```
     pub fn decode(bytes: &[u8]) -> Result<Problem, Refusal> {
+        // The library reads the bytes, by the call that does little more, so that what is refused
+        // and why stands nowhere twice.
         let read = bound_prefix(bytes, &[]);
         check(read.number, read.place)?;
         Ok(Records { rest: bytes }.problem())

@@ -5,7 +5,8 @@ use std::io;
 
 use crate::guard::{End, Pages, Plain};
 use frontier::lent::{
-    write_bound, write_cut, write_points, write_solve, Answer, Halves, Least, PointRecord,
+    write_bound, write_cut, write_points, write_solve, Answer, CutNumbers, Halves, Least,
+    PointRecord,
 };
 use frontier::limits::{LEAST_WORK, MAX_BYTES, MAX_OBJECTIVES, MAX_POINTS, MAX_VARIABLES};
 
@@ -97,10 +98,12 @@ impl Guarded {
             self.costs.lend(costs, end),
             self.choices.lend(choices, end),
             self.work.lend(work, end),
-            &mut place.lend(&[JUNK], end)[0],
-            &mut count.lend(&[JUNK], end)[0],
-            &mut first.lend(&[JUNK], end)[0],
-            &mut second.lend(&[JUNK], end)[0],
+            CutNumbers {
+                place: &mut place.lend(&[JUNK], end)[0],
+                count: &mut count.lend(&[JUNK], end)[0],
+                first: &mut first.lend(&[JUNK], end)[0],
+                second: &mut second.lend(&[JUNK], end)[0],
+            },
         );
         self.take_flat(problem, costs, choices, work);
         note(

@@ -1,7 +1,7 @@
 //! What the cut call of the static library writes and what it leaves alone, for every way to end.
 
 use chooser::junk::{junk, Rng};
-use frontier::lent::{self, write_cut, Answer, Buffers, Halves};
+use frontier::lent::{self, write_cut, Answer, Buffers, CutNumbers, Halves};
 use frontier::limits::{LEAST_WORK, MAX_BYTES};
 use frontier::refusal::{CUT_SHORT, FULL, SIDES, WORK};
 use frontier::Refusal;
@@ -78,10 +78,12 @@ fn cut_over_junk(bytes: &[u8], sides: &[u8], mut lent: Buffers, junk: u32) -> Ha
         &mut lent.costs,
         &mut lent.choices,
         &mut lent.work,
-        &mut place,
-        &mut count,
-        &mut first,
-        &mut second,
+        CutNumbers {
+            place: &mut place,
+            count: &mut count,
+            first: &mut first,
+            second: &mut second,
+        },
     );
     let answer = Answer {
         number,
@@ -122,10 +124,12 @@ fn nothing_beside_the_buffers_is_written() {
             inside(&mut costs),
             inside(&mut choices),
             inside(&mut work),
-            &mut place[1],
-            &mut count[1],
-            &mut first[1],
-            &mut second[1],
+            CutNumbers {
+                place: &mut place[1],
+                count: &mut count[1],
+                first: &mut first[1],
+                second: &mut second[1],
+            },
         );
         assert_fences(&costs, WORD);
         assert_fences(&choices, BYTE);

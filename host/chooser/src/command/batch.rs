@@ -5,6 +5,7 @@ use std::collections::BTreeMap;
 use std::ffi::{OsStr, OsString};
 use std::fs::{self, File};
 use std::io::Read;
+use std::num::NonZero;
 use std::path::{Path, PathBuf};
 use std::sync::atomic::{AtomicUsize, Ordering};
 use std::sync::mpsc::{self, Receiver, RecvTimeoutError, Sender};
@@ -113,7 +114,7 @@ struct Plan {
 impl Plan {
     /// Looks at all options before anything runs, since a run can take hours.
     fn new(asked: &Asked) -> Result<Plan, Failure> {
-        let processors = || thread::available_parallelism().map_or(1, |number| number.get());
+        let processors = || thread::available_parallelism().map_or(1, NonZero::get);
         let limit = match asked.value(LIMIT) {
             None => DEFAULT_LIMIT,
             Some(text) => parse_limit(&text.to_string_lossy()).map_err(Failure::misuse)?,

@@ -154,7 +154,7 @@ fn run_input(seed: u64, guarded: &RefCell<Guarded>, tally: &mut Tally) -> Result
     tally.bytes += case.bytes.len() as u64;
     guarded.borrow_mut().end = End::Upper;
     run_calls(&case, guarded, tally)?;
-    if seed.is_multiple_of(LOWER) {
+    if seed % LOWER == 0 {
         tally.lower += 1;
         guarded.borrow_mut().end = End::Lower;
         run_calls(&case, guarded, tally)?;

@@ -5,7 +5,8 @@ use std::env;
 use std::process::ExitCode;
 
 use frontier::lent::{
-    write_bound, write_cut, write_points, write_solve, Answer, Halves, Least, PointRecord,
+    write_bound, write_cut, write_points, write_solve, Answer, CutNumbers, Halves, Least,
+    PointRecord,
 };
 use frontier::limits::MAX_OBJECTIVES;
 use testing::mixed::Mixed;
@@ -54,10 +55,12 @@ fn cut_on_heap(
         costs,
         choices,
         work,
-        &mut place,
-        &mut count,
-        &mut first,
-        &mut second,
+        CutNumbers {
+            place: &mut place,
+            count: &mut count,
+            first: &mut first,
+            second: &mut second,
+        },
     );
     let answer = Answer {
         number,

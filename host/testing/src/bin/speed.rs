@@ -210,12 +210,11 @@ fn print_report(options: &Options, columns: Columns, report: &Report) {
     if columns.chooser {
         println!("Ratio: the chooser's speed over plain Rust's, 1 is equal and less is slower.");
     }
-    match columns.toulbar2 {
-        true => {
-            println!("toulbar2 runs on problems with one objective; its times are what passes.")
-        }
-        false => println!("toulbar2 is not installed, so there is no column for it."),
-    }
+    let toulbar2 = match columns.toulbar2 {
+        true => "toulbar2 runs on problems with one objective; its times are what passes.",
+        false => "toulbar2 is not installed, so there is no column for it.",
+    };
+    println!("{toulbar2}");
     println!("\n{}", report.table());
     for line in [report.small_line(), report.sparse_line()].iter().flatten() {
         println!("{line}");
