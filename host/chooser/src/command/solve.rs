@@ -1,0 +1,60 @@
+//! `chooser solve`: the frontier of a problem.
+
+use std::ffi::OsString;
+
+use super::answers::{points_reply, Reply};
+use super::refused::{Call, Question};
+use super::source::Source;
+use super::waiting::while_waiting;
+use super::{sort_words, Asked, Failure, Outcome};
+use frontier::limits::MAX_POINTS;
+use frontier::{Chooser, Frontier, Problem, Refusal};
+
+pub const HELP: &str = "\
+usage: chooser solve FILE [--room N] [--json]
+
+Lists the frontier of the problem in FILE ('-': standard input), which is binary
+or text: every cost vector that no other one beats, in rising order, each with
+the earliest choice of variants that has it. Costs stand before the bar, the
+variants behind it; they have names where FILE is text.
+
+    --room N    refuse a frontier of more than N points (0 to 64; default 64)
+    --json      print one JSON object; docs/FORMAT.md describes it
+
+A refusal is told with its number, its place and what to mend.
+The exit status is 0 for an answer, 1 for a refusal or a fault in FILE, and 2
+where the words are wrong or FILE cannot be read.
+
+Example:
+    chooser solve examples/firmware.txt
+";
+
+pub fn run(words: &[OsString]) -> Result<Outcome, Failure> {
+    let asked = sort_words(words, &[("--room", "N"), ("--json", "")])?;
+    let [file] = asked.operands(["FILE"])?;
+    let room = asked_room(&asked)?;
+    let json = asked.has("--json");
+    let source = Source::load(file)?;
+    let mut chooser = Chooser::with_room(room);
+    let answer = while_waiting(|| chooser.solve(&source.bytes));
+    let call = Call::Solve { room };
+    match answer.and_then(|frontier| frontier_reply(&source, frontier)) {
+        Ok(reply) => reply.print(json),
+        Err(refusal) => {
+            let source = &source;
+            Question { source, call }.refuse(refusal, json)
+        }
+    }
+}
+
+/// The room that the words ask for.
+pub fn asked_room(asked: &Asked) -> Result<usize, Failure> {
+    let room = asked.number("--room", 0..=MAX_POINTS)?;
+    Ok(room.unwrap_or(MAX_POINTS))
+}
+
+/// The answer that a frontier is.
+pub fn frontier_reply(source: &Source, frontier: Frontier) -> Result<Reply, Refusal> {
+    let problem = Problem::decode(&source.bytes)?;
+    Ok(points_reply(&problem, &source.names(&problem), frontier))
+}

@@ -1,0 +1,19 @@
+//! The library part of the command `chooser`: its subcommands, the text form of a problem, pictures and
+//! batches.
+
+pub mod batch_csv;
+pub mod batch_worker;
+pub mod clock;
+pub mod columns;
+pub mod command;
+pub mod digest;
+pub mod folder;
+pub mod hex;
+pub mod json;
+pub mod junk;
+pub mod nearest;
+pub mod plot;
+pub mod progress;
+pub mod records;
+pub mod text;
+pub mod worker;

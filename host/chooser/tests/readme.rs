@@ -1,0 +1,135 @@
+//! README's commands: each that is not marked as long runs as it stands there and prints what stands
+//! below it; of the long ones, what they name is there.
+
+use std::fs;
+use std::os::unix::fs::symlink;
+use std::path::{Path, PathBuf};
+use std::process::{Command, Output};
+
+use testing::chooser_run::{chooser, folder, root};
+
+const README: &str = include_str!("../../../README.md");
+
+/// A block between fences: the words behind the first fence, and the text.
+struct Block {
+    kind: String,
+    text: String,
+}
+
+/// All blocks of a text, in their order.
+fn blocks(text: &str) -> Vec<Block> {
+    let mut blocks = Vec::new();
+    let mut lines = text.lines();
+    while let Some(line) = lines.next() {
+        if let Some(kind) = line.strip_prefix("```") {
+            let within = lines.by_ref().take_while(|line| *line != "```");
+            let text = within.map(|line| format!("{line}\n")).collect();
+            blocks.push(Block {
+                kind: kind.into(),
+                text,
+            });
+        }
+    }
+    blocks
+}
+
+/// A folder that looks like the repository's root with the command built, so that what the commands
+/// write goes there.
+fn newcomers_folder() -> PathBuf {
+    let (folder, root) = (folder("readme"), root().canonicalize().expect("the root"));
+    for name in ["examples", "include", "target", "docs", "crates", ".ci"] {
+        symlink(root.join(name), folder.join(name)).expect("a link is made");
+    }
+    let programs = folder.join("host/target/release");
+    fs::create_dir_all(&programs).expect("a folder can be made");
+    symlink(chooser(), programs.join("chooser")).expect("a link is made");
+    folder
+}
+
+fn run(folder: &Path, command: &str) -> Output {
+    Command::new("bash")
+        .args(["-c", command])
+        .current_dir(folder)
+        .output()
+        .expect("bash starts")
+}
+
+#[test]
+fn every_short_command_runs_and_prints_what_stands_below() {
+    let (folder, blocks) = (newcomers_folder(), blocks(README));
+    let mut ran = 0;
+    for (i, block) in blocks.iter().enumerate().filter(|(_, b)| b.kind == "sh") {
+        let output = run(&folder, &block.text);
+        let complaint = String::from_utf8_lossy(&output.stderr);
+        assert!(output.status.success(), "{}{complaint}", block.text);
+        if let Some(below) = blocks.get(i + 1).filter(|below| below.kind == "text") {
+            assert_eq!(String::from_utf8_lossy(&output.stdout), below.text);
+        }
+        ran += 1;
+    }
+    assert_eq!(ran, 7, "another number of commands: is each block marked?");
+    assert!(folder.join("firmware.svg").is_file());
+    let [packed, example] = [
+        folder.join("firmware.bin"),
+        root().join("examples/firmware.bin"),
+    ];
+    assert_eq!(fs::read(packed).unwrap(), fs::read(example).unwrap());
+}
+
+#[test]
+fn what_the_long_commands_name_is_there() {
+    let long: Vec<String> = blocks(README)
+        .into_iter()
+        .filter(|block| block.kind == "sh long")
+        .map(|block| block.text)
+        .collect();
+    let expected = [
+        "rt staticlib frontier && cargo build --release --offline --manifest-path host/Cargo.toml\n",
+        "host/target/release/chooser batch host/data/nightly --limit 2\n",
+        "rt check list && target/bin/list < examples/colours.bin\n",
+        "bash .ci/run\n",
+    ];
+    assert_eq!(long, expected);
+    for path in [
+        "host/Cargo.toml",
+        "host/data/nightly",
+        "examples/colours.bin",
+        ".ci/run",
+    ] {
+        assert!(root().join(path).exists(), "{path}");
+    }
+    let crates = fs::read_to_string(root().join("crates.txt")).expect("crates.txt");
+    for name in ["frontier:", "list:"] {
+        assert!(crates.lines().any(|line| line.starts_with(name)), "{name}");
+    }
+    // What the list program prints is asked by its own tests; that README says it is asked here.
+    let colours = testing::examples::colours([100, 100]).encode();
+    let listed = testing::owned::list_text(&colours);
+    assert!(blocks(README).iter().any(|block| block.text == listed));
+    assert_eq!(
+        fs::read(root().join("examples/colours.bin")).unwrap(),
+        colours
+    );
+}
+
+#[test]
+fn every_block_is_a_command_or_what_one_prints() {
+    for block in blocks(README) {
+        let known = ["sh", "sh long", "text"].contains(&block.kind.as_str());
+        assert!(known, "{}: {}", block.kind, block.text);
+        assert!(block.kind == "text" || block.text.lines().count() == 1);
+    }
+}
+
+#[test]
+fn every_link_leads_to_a_file() {
+    let links: Vec<&str> = README
+        .split("](")
+        .skip(1)
+        .filter_map(|rest| rest.split(')').next())
+        .collect();
+    assert!(links.len() >= 8);
+    for link in links {
+        assert!(root().join(link).is_file(), "{link}");
+    }
+}

@@ -1,0 +1,67 @@
+//! The buffers that a flat call is lent, and flat calls as values.
+
+use crate::lent::{Answer, Halves};
+use crate::limits::{LEAST_WORK, MAX_OBJECTIVES, MAX_POINTS, MAX_VARIABLES};
+use crate::list::Frontier;
+use crate::problem::sizes;
+use crate::refusal::{check, Refusal};
+
+/// A flat call, as `solve_problem` is: problem, costs, choices, work.
+pub type SolveCall = fn(&[u8], &mut [u32], &mut [u8], &mut [u32]) -> Answer;
+
+/// A cut call, as `solve_cut` is: problem, sides, costs, choices, work.
+pub type CutCall = fn(&[u8], &[u8], &mut [u32], &mut [u8], &mut [u32]) -> Halves;
+
+/// The three buffers that a flat call is lent.
+#[derive(Clone, Debug, PartialEq, Eq)]
+pub struct Buffers {
+    /// For the costs of the points, one point after another.
+    pub costs: Vec<u32>,
+    /// For the choices of the points, one point after another.
+    pub choices: Vec<u8>,
+    /// Memory to work in.
+    pub work: Vec<u32>,
+}
+
+impl Buffers {
+    /// Room for 64 points of any problem, and the least work buffer, all zero.
+    pub fn full() -> Buffers {
+        Buffers {
+            costs: vec![0; MAX_POINTS * MAX_OBJECTIVES],
+            choices: vec![0; MAX_POINTS * MAX_VARIABLES],
+            work: vec![0; LEAST_WORK],
+        }
+    }
+
+    /// Lends the buffers to a flat call.
+    pub fn lend(
+        &mut self,
+        call: impl Fn(&[u8], &mut [u32], &mut [u8], &mut [u32]) -> Answer,
+        bytes: &[u8],
+    ) -> Answer {
+        call(bytes, &mut self.costs, &mut self.choices, &mut self.work)
+    }
+
+    /// Lends the buffers to a cut call.
+    pub fn lend_cut(
+        &mut self,
+        call: impl Fn(&[u8], &[u8], &mut [u32], &mut [u8], &mut [u32]) -> Halves,
+        bytes: &[u8],
+        sides: &[u8],
+    ) -> Halves {
+        let (costs, choices) = (&mut self.costs, &mut self.choices);
+        call(bytes, sides, costs, choices, &mut self.work)
+    }
+
+    /// The points that an answer to this problem has left in the buffers, or its refusal.
+    pub fn listed(&self, problem: &[u8], answer: Answer) -> Result<Frontier<'_>, Refusal> {
+        check(answer.number, answer.place)?;
+        let count = answer.count as usize;
+        Ok(Frontier::new(
+            sizes(problem),
+            count,
+            &self.costs,
+            &self.choices,
+        ))
+    }
+}

@@ -1,0 +1,97 @@
+//! The chooser with buffers of its own.
+
+use crate::lent::{bound_prefix, solve_cut, solve_problem, Buffers};
+use crate::limits::{MAX_OBJECTIVES, MAX_POINTS};
+use crate::list::Frontier;
+use crate::problem::sizes;
+use crate::refusal::{check, Refusal};
+
+/// The proved calls with one set of buffers, which is used again for problem after problem. An answer
+/// does not depend on the problems before it.
+///
+/// A problem is given as its record bytes, as [`Problem::encode`](crate::Problem::encode) makes them.
+#[derive(Clone, Debug)]
+pub struct Chooser {
+    lent: Buffers,
+    room: usize,
+}
+
+/// What the cut call answers.
+#[derive(Clone, Copy, Debug, PartialEq, Eq)]
+pub struct Cut<'a> {
+    /// The frontier of the whole problem.
+    pub frontier: Frontier<'a>,
+    /// How many points the frontier of each half has.
+    pub halves: [usize; 2],
+}
+
+/// What the completions of a prefix cost at least.
+#[derive(Clone, Copy, Debug, PartialEq, Eq)]
+pub struct Bound {
+    least: [u64; MAX_OBJECTIVES],
+    objectives: usize,
+}
+
+impl Bound {
+    /// The least cost in each objective.
+    pub fn costs(&self) -> &[u64] {
+        &self.least[..self.objectives]
+    }
+}
+
+impl Chooser {
+    /// A chooser with room for 64 points, which is the most that there is.
+    pub fn new() -> Chooser {
+        Chooser::with_room(MAX_POINTS)
+    }
+
+    /// A chooser that refuses frontiers of more points than these.
+    pub fn with_room(points: usize) -> Chooser {
+        Chooser {
+            lent: Buffers::full(),
+            room: points.min(MAX_POINTS),
+        }
+    }
+
+    /// Lists the frontier of a problem.
+    pub fn solve(&mut self, problem: &[u8]) -> Result<Frontier<'_>, Refusal> {
+        self.make_room(problem);
+        let answer = self.lent.lend(solve_problem, problem);
+        self.lent.listed(problem, answer)
+    }
+
+    /// Lists the frontier of a problem by way of two halves that no cost record links. The side of
+    /// each variable, 0 or 1, says to which half it belongs.
+    pub fn cut(&mut self, problem: &[u8], sides: &[u8]) -> Result<Cut<'_>, Refusal> {
+        self.make_room(problem);
+        let found = self.lent.lend_cut(solve_cut, problem, sides);
+        Ok(Cut {
+            frontier: self.lent.listed(problem, found.answer)?,
+            halves: [found.first, found.second].map(|size| size as usize),
+        })
+    }
+
+    /// Bounds the cost of every choice that starts with these values for variables 0, 1, and so on:
+    /// none costs less in any objective. This call needs no buffers.
+    pub fn bound(problem: &[u8], prefix: &[u8]) -> Result<Bound, Refusal> {
+        let found = bound_prefix(problem, prefix);
+        check(found.number, found.place)?;
+        let [objectives, _] = sizes(problem);
+        let least = found.least;
+        Ok(Bound { least, objectives })
+    }
+
+    /// Gives the cost buffer the length that leaves this room. For bytes that are refused it does not
+    /// matter.
+    fn make_room(&mut self, problem: &[u8]) {
+        let objectives = problem.get(3).copied().map_or(1, usize::from);
+        let objectives = objectives.min(MAX_OBJECTIVES);
+        self.lent.costs.resize(self.room * objectives, 0);
+    }
+}
+
+impl Default for Chooser {
+    fn default() -> Chooser {
+        Chooser::new()
+    }
+}

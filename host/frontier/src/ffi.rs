@@ -1,0 +1,85 @@
+//! The exported calls of the static library, as `include/frontier.h` declares them.
+
+use crate::lent::PointRecord;
+use crate::limits::MAX_OBJECTIVES;
+
+// The exported calls. Nothing checks these lines against the library, so they stand together and
+// in the header's order, to be compared by eye.
+extern "C" {
+    pub fn frontier_solve(
+        problem: *const u8,
+        problem_len: usize,
+        costs: *mut u32,
+        costs_len: usize,
+        choices: *mut u8,
+        choices_len: usize,
+        work: *mut u32,
+        work_len: usize,
+        place: *mut u32,
+        count: *mut u32,
+    ) -> u8;
+
+    pub fn frontier_solve_by_passes(
+        problem: *const u8,
+        problem_len: usize,
+        costs: *mut u32,
+        costs_len: usize,
+        choices: *mut u8,
+        choices_len: usize,
+        work: *mut u32,
+        work_len: usize,
+        place: *mut u32,
+        count: *mut u32,
+    ) -> u8;
+
+    pub fn frontier_cut(
+        problem: *const u8,
+        problem_len: usize,
+        sides: *const u8,
+        sides_len: usize,
+        costs: *mut u32,
+        costs_len: usize,
+        choices: *mut u8,
+        choices_len: usize,
+        work: *mut u32,
+        work_len: usize,
+        place: *mut u32,
+        count: *mut u32,
+        first: *mut u32,
+        second: *mut u32,
+    ) -> u8;
+
+    pub fn frontier_bound(
+        problem: *const u8,
+        problem_len: usize,
+        prefix: *const u8,
+        prefix_len: usize,
+        least: *mut [u64; MAX_OBJECTIVES],
+        place: *mut u32,
+    ) -> u8;
+
+    pub fn frontier_points(
+        problem: *const u8,
+        problem_len: usize,
+        points: *mut PointRecord,
+        points_len: usize,
+        work: *mut u32,
+        work_len: usize,
+        place: *mut u32,
+        count: *mut u32,
+    ) -> u8;
+}
+
+/// What the plain call is to the linker, by either form of the search.
+pub type Solve = unsafe extern "C" fn(
+    *const u8,
+    usize,
+    *mut u32,
+    usize,
+    *mut u8,
+    usize,
+    *mut u32,
+    usize,
+    *mut u32,
+    *mut u32,
+) -> u8;

@@ -1,0 +1,307 @@
+//! The calls with lent buffers, for those who bring their own: a safe wrapper for each call that
+//! `include/frontier.h` declares, with the same meaning. Numbers of refusal are those of
+//! [`refusal`](crate::refusal), 0 is none.
+
+use crate::ffi::{frontier_bound, frontier_cut, frontier_points, frontier_solve, Solve};
+use crate::limits::{MAX_OBJECTIVES, MAX_VARIABLES};
+use crate::refusal::Refusal;
+
+pub use crate::buffers::{Buffers, CutCall, SolveCall};
+
+/// What a call answers: number 0 and the count of points, or a refusal with count 0.
+#[derive(Clone, Copy, Debug, PartialEq, Eq)]
+pub struct Answer {
+    /// The number of refusal, or 0.
+    pub number: u8,
+    /// The place of the refusal; 0 where it has none.
+    pub place: u32,
+    /// How many points are listed.
+    pub count: u32,
+}
+
+impl Answer {
+    /// An accepted problem with this many points.
+    pub fn accepted(count: usize) -> Answer {
+        Answer {
+            number: 0,
+            place: 0,
+            count: count as u32,
+        }
+    }
+}
+
+impl From<Refusal> for Answer {
+    fn from(refusal: Refusal) -> Answer {
+        Answer {
+            number: refusal.number(),
+            place: refusal.place(),
+            count: 0,
+        }
+    }
+}
+
+/// A point as [`list_points`] writes it, with the layout of C.
+#[repr(C)]
+#[derive(Clone, Copy, Debug, PartialEq, Eq)]
+pub struct PointRecord {
+    /// The cost in each objective; behind the last one 0.
+    pub costs: [u32; MAX_OBJECTIVES],
+    /// The value of each variable; behind the last one 0.
+    pub choice: [u8; MAX_VARIABLES],
+}
+
+/// What the cut call answers: also the two halves' frontier sizes, 0 after a refusal.
+#[derive(Clone, Copy, Debug, PartialEq, Eq)]
+pub struct Halves {
+    /// What the plain call would answer.
+    pub answer: Answer,
+    /// How many points the frontier of side 0 has.
+    pub first: u32,
+    /// How many points the frontier of side 1 has.
+    pub second: u32,
+}
+
+impl From<Refusal> for Halves {
+    fn from(refusal: Refusal) -> Halves {
+        Halves {
+            answer: refusal.into(),
+            first: 0,
+            second: 0,
+        }
+    }
+}
+
+/// What the bound call answers: number 0 and the bound in each objective. Unused numbers are 0,
+/// and after a refusal all are.
+#[derive(Clone, Copy, Debug, PartialEq, Eq)]
+pub struct Least {
+    /// The number of refusal, or 0.
+    pub number: u8,
+    /// The place of the refusal; 0 where it has none.
+    pub place: u32,
+    /// The bound in each objective.
+    pub least: [u64; MAX_OBJECTIVES],
+}
+
+impl From<Refusal> for Least {
+    fn from(refusal: Refusal) -> Least {
+        Least {
+            number: refusal.number(),
+            place: refusal.place(),
+            least: [0; MAX_OBJECTIVES],
+        }
+    }
+}
+
+/// Lends the buffers to one of the plain calls.
+fn lend(
+    solve: Solve,
+    problem: &[u8],
+    costs: &mut [u32],
+    choices: &mut [u8],
+    work: &mut [u32],
+    place: &mut u32,
+    count: &mut u32,
+) -> u8 {
+    // SAFETY: each pointer comes from a reference, so it is aligned, never null (not even for an
+    // empty slice) and valid for the length beside it; the five that are written are exclusive,
+    // so they overlap neither each other nor the problem. The call keeps no pointer after it
+    // returns.
+    unsafe {
+        solve(
+            problem.as_ptr(),
+            problem.len(),
+            costs.as_mut_ptr(),
+            costs.len(),
+            choices.as_mut_ptr(),
+            choices.len(),
+            work.as_mut_ptr(),
+            work.len(),
+            place,
+            count,
+        )
+    }
+}
+
+/// What one of the plain calls answers.
+pub(crate) fn answer_of(
+    solve: Solve,
+    problem: &[u8],
+    costs: &mut [u32],
+    choices: &mut [u8],
+    work: &mut [u32],
+) -> Answer {
+    let (mut place, mut count) = (0, 0);
+    let number = lend(solve, problem, costs, choices, work, &mut place, &mut count);
+    Answer {
+        number,
+        place,
+        count,
+    }
+}
+
+/// The plain call as C has it: the number of refusal is the result, and `place` and `count` are
+/// written whatever they held. Callers that only want the answer use [`solve_problem`].
+pub fn write_solve(
+    problem: &[u8],
+    costs: &mut [u32],
+    choices: &mut [u8],
+    work: &mut [u32],
+    place: &mut u32,
+    count: &mut u32,
+) -> u8 {
+    lend(frontier_solve, problem, costs, choices, work, place, count)
+}
+
+/// Lists the frontier into the flat buffers.
+pub fn solve_problem(
+    problem: &[u8],
+    costs: &mut [u32],
+    choices: &mut [u8],
+    work: &mut [u32],
+) -> Answer {
+    answer_of(frontier_solve, problem, costs, choices, work)
+}
+
+/// Where the cut call writes its numbers.
+#[derive(Debug)]
+pub struct CutNumbers<'a> {
+    /// The place of the refusal.
+    pub place: &'a mut u32,
+    /// How many points are listed.
+    pub count: &'a mut u32,
+    /// How many points the frontier of side 0 has.
+    pub first: &'a mut u32,
+    /// How many points the frontier of side 1 has.
+    pub second: &'a mut u32,
+}
+
+/// The cut call as C has it: the number of refusal is the result, and the other numbers are written
+/// whatever they held. Callers that only want the answer use [`solve_cut`].
+pub fn write_cut(
+    problem: &[u8],
+    sides: &[u8],
+    costs: &mut [u32],
+    choices: &mut [u8],
+    work: &mut [u32],
+    numbers: CutNumbers,
+) -> u8 {
+    // SAFETY: as in `lend`; the side list is read only, as the problem is, and the seven
+    // that are written are exclusive.
+    unsafe {
+        frontier_cut(
+            problem.as_ptr(),
+            problem.len(),
+            sides.as_ptr(),
+            sides.len(),
+            costs.as_mut_ptr(),
+            costs.len(),
+            choices.as_mut_ptr(),
+            choices.len(),
+            work.as_mut_ptr(),
+            work.len(),
+            numbers.place,
+            numbers.count,
+            numbers.first,
+            numbers.second,
+        )
+    }
+}
+
+/// Lists the frontier of a problem without linked records by way of its two halves.
+pub fn solve_cut(
+    problem: &[u8],
+    sides: &[u8],
+    costs: &mut [u32],
+    choices: &mut [u8],
+    work: &mut [u32],
+) -> Halves {
+    let (mut place, mut count, mut first, mut second) = (0, 0, 0, 0);
+    let numbers = CutNumbers {
+        place: &mut place,
+        count: &mut count,
+        first: &mut first,
+        second: &mut second,
+    };
+    let number = write_cut(problem, sides, costs, choices, work, numbers);
+    let answer = Answer {
+        number,
+        place,
+        count,
+    };
+    Halves {
+        answer,
+        first,
+        second,
+    }
+}
+
+/// The bound call as C has it: the number of refusal is the result, and `least` and `place` are
+/// written whatever they held. Callers that only want the answer use [`bound_prefix`].
+pub fn write_bound(
+    problem: &[u8],
+    prefix: &[u8],
+    least: &mut [u64; MAX_OBJECTIVES],
+    place: &mut u32,
+) -> u8 {
+    // SAFETY: each pointer comes from a reference, so it is aligned, never null (not even for an
+    // empty slice) and valid for the length beside it; the two that are written are exclusive.
+    // The call keeps no pointer after it returns.
+    unsafe {
+        frontier_bound(
+            problem.as_ptr(),
+            problem.len(),
+            prefix.as_ptr(),
+            prefix.len(),
+            least,
+            place,
+        )
+    }
+}
+
+/// Bounds the cost of every completion of a prefix: values for variables 0, 1, and so on.
+pub fn bound_prefix(problem: &[u8], prefix: &[u8]) -> Least {
+    let (mut least, mut place) = ([0; MAX_OBJECTIVES], 0);
+    let number = write_bound(problem, prefix, &mut least, &mut place);
+    Least {
+        number,
+        place,
+        least,
+    }
+}
+
+/// The call for point records as C has it: the number of refusal is the result, and `place` and
+/// `count` are written whatever they held. Callers that only want the answer use [`list_points`].
+pub fn write_points(
+    problem: &[u8],
+    points: &mut [PointRecord],
+    work: &mut [u32],
+    place: &mut u32,
+    count: &mut u32,
+) -> u8 {
+    // SAFETY: as in `lend`, with one list in place of two buffers. `PointRecord` has C's layout,
+    // and every content of its fields is valid.
+    unsafe {
+        frontier_points(
+            problem.as_ptr(),
+            problem.len(),
+            points.as_mut_ptr(),
+            points.len(),
+            work.as_mut_ptr(),
+            work.len(),
+            place,
+            count,
+        )
+    }
+}
+
+/// Lists the frontier into point records.
+pub fn list_points(problem: &[u8], points: &mut [PointRecord], work: &mut [u32]) -> Answer {
+    let (mut place, mut count) = (0, 0);
+    let number = write_points(problem, points, work, &mut place, &mut count);
+    Answer {
+        number,
+        place,
+        count,
+    }
+}

@@ -1,0 +1,138 @@
+//! Reading and bounding problems of 60,000 bytes: the proved chooser against plain Rust, in the
+//! same run. Command: `cargo bench --offline --bench bound`; see `docs/PERFORMANCE.md`.
+
+mod plain;
+mod shapes;
+
+use std::env;
+use std::hint::black_box;
+use std::time::{Duration, Instant};
+
+use chooser::junk::Rng;
+use frontier::lent;
+use frontier::lent::Least;
+use frontier::Problem;
+use testing::brute;
+use testing::mixed::{compare_bound, Mixed};
+use testing::random::random_choice;
+
+/// One measurement takes at least this long.
+const LEAST_TIME: Duration = Duration::from_millis(500);
+
+/// Each side is measured this often, in turns; the fastest counts, as the least disturbed.
+const ROUNDS: usize = 5;
+
+/// So many calls go between two looks at the clock.
+const BATCH: u32 = 16;
+
+type BoundCall = fn(&[u8], &[u8]) -> Least;
+
+fn by_loops(problem: &[u8], prefix: &[u8]) -> Least {
+    plain::bound_prefix(problem, prefix, plain::least_by_loops)
+}
+
+fn in_one_run(problem: &[u8], prefix: &[u8]) -> Least {
+    plain::bound_prefix(problem, prefix, plain::least_in_one_run)
+}
+
+/// The chooser first, then the two sides in plain Rust.
+const SIDES: [BoundCall; 3] = [lent::bound_prefix, by_loops, in_one_run];
+
+/// A problem's bytes with a prefix to bound.
+struct Work {
+    shape: &'static str,
+    tables: usize,
+    bytes: Vec<u8>,
+    prefix: Vec<u8>,
+}
+
+/// Each shape with prefixes of length 0, n / 2 and n.
+fn all_work() -> Vec<Work> {
+    let mut rng = Rng::new(1);
+    let shapes: [(&str, Problem); 3] = [
+        ("small tables", shapes::small_tables(&mut rng)),
+        ("large tables", shapes::large_tables(&mut rng)),
+        ("mixed tables", shapes::mixed_tables(&mut rng)),
+    ];
+    let mut all = Vec::new();
+    for (shape, problem) in shapes {
+        let choice = random_choice(&mut rng, &problem);
+        for length in [0, choice.len() / 2, choice.len()] {
+            all.push(Work {
+                shape,
+                tables: problem.tables.len(),
+                bytes: problem.encode(),
+                prefix: choice[..length].to_vec(),
+            });
+        }
+    }
+    all
+}
+
+/// Speeds of sides that answer differently would say nothing.
+fn assert_sides_agree(all: &[Work]) {
+    for side in SIDES {
+        for work in all {
+            let answer = brute::bound_prefix(&work.bytes, &work.prefix);
+            assert_eq!(answer.number, 0, "{}: not a valid problem", work.shape);
+            assert_eq!(compare_bound(&work.bytes, &work.prefix, side), Ok(()));
+        }
+        for seed in 0..2_000 {
+            assert_eq!(Mixed::new(seed).compare_bounds(side), Ok(()));
+        }
+    }
+}
+
+/// How many million bytes of problems a side goes through in a second.
+fn speed(side: BoundCall, work: &Work) -> f64 {
+    let (start, mut calls) = (Instant::now(), 0);
+    while start.elapsed() < LEAST_TIME {
+        for _ in 0..BATCH {
+            black_box(side(black_box(&work.bytes), black_box(&work.prefix)));
+        }
+        calls += BATCH;
+    }
+    let bytes = work.bytes.len() as f64 * f64::from(calls);
+    bytes / start.elapsed().as_secs_f64() / 1e6
+}
+
+/// The best speed of each side. They take turns, so that a disturbance does not hit one side only.
+fn best_speeds(work: &Work) -> [f64; SIDES.len()] {
+    let mut best = [0.0; SIDES.len()];
+    for _ in 0..ROUNDS {
+        for (best, side) in best.iter_mut().zip(SIDES) {
+            *best = speed(side, work).max(*best);
+        }
+    }
+    best
+}
+
+/// A row of the table in `docs/PERFORMANCE.md`.
+fn print_row(work: &Work) {
+    let [chooser, loops, run] = best_speeds(work);
+    println!(
+        "| {} | {} | {} | {} | {chooser:.0} | {loops:.0} | {:.2} | {run:.0} | {:.2} |",
+        work.shape,
+        work.tables,
+        work.bytes.len(),
+        work.prefix.len(),
+        chooser / loops,
+        chooser / run,
+    );
+}
+
+fn main() {
+    let all = all_work();
+    assert_sides_agree(&all);
+    println!("The chooser and both sides in plain Rust answer alike.");
+    // cargo says so when it is to be measured; otherwise the program is run as a test.
+    if !env::args().any(|argument| argument == "--bench") {
+        return;
+    }
+    println!(
+        "MB/s; ratio: the chooser's speed over plain Rust's, 1 is equal and less is slower.\n"
+    );
+    println!("| Shape | Tables | Bytes | Prefix | Chooser | Loops | Ratio | One run | Ratio |");
+    println!("|---|--:|--:|--:|--:|--:|--:|--:|--:|");
+    all.iter().for_each(print_row);
+}

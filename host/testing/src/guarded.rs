@@ -1,0 +1,222 @@
+//! The calls on buffers between closed pages: a byte read or written beside one ends the process,
+//! or is found afterwards.
+
+use std::io;
+
+use crate::guard::{End, Pages, Plain};
+use frontier::lent::{
+    write_bound, write_cut, write_points, write_solve, Answer, CutNumbers, Halves, Least,
+    PointRecord,
+};
+use frontier::limits::{LEAST_WORK, MAX_BYTES, MAX_OBJECTIVES, MAX_POINTS, MAX_VARIABLES};
+
+/// Lent buffers may be longer than is of use by so much.
+const OVER: usize = 1_000;
+
+/// What the single numbers hold that a call is to write.
+const JUNK: u32 = 0xa5a5_a5a5;
+
+/// Memory for all that the calls are lent, each buffer between closed pages of its own.
+pub struct Guarded {
+    /// The end at which the buffers stand.
+    pub end: End,
+    problem: Pages,
+    /// A side list or a prefix.
+    list: Pages,
+    costs: Pages,
+    choices: Pages,
+    work: Pages,
+    points: Pages,
+    least: Pages,
+    numbers: [Pages; 4],
+    /// The first buffer that a call has misused.
+    fault: Option<String>,
+}
+
+impl Guarded {
+    pub fn new() -> io::Result<Guarded> {
+        Ok(Guarded {
+            end: End::Upper,
+            problem: Pages::new(MAX_BYTES + OVER)?,
+            list: Pages::new(MAX_VARIABLES)?,
+            costs: Pages::new(size_of::<u32>() * MAX_OBJECTIVES * MAX_POINTS + OVER)?,
+            choices: Pages::new(MAX_VARIABLES * MAX_POINTS + OVER)?,
+            work: Pages::new(size_of::<u32>() * (LEAST_WORK + OVER))?,
+            points: Pages::new(size_of::<PointRecord>() * MAX_POINTS + OVER)?,
+            least: Pages::new(size_of::<u64>() * MAX_OBJECTIVES)?,
+            numbers: [number()?, number()?, number()?, number()?],
+            fault: None,
+        })
+    }
+
+    /// What was found since it was asked last: the first buffer that was misused, and how.
+    pub fn take_fault(&mut self) -> Option<String> {
+        self.fault.take()
+    }
+
+    /// The plain call.
+    pub fn solve(
+        &mut self,
+        problem: &[u8],
+        costs: &mut [u32],
+        choices: &mut [u8],
+        work: &mut [u32],
+    ) -> Answer {
+        let end = self.end;
+        let [place, count, _, _] = &mut self.numbers;
+        let number = write_solve(
+            self.problem.lend(problem, end),
+            self.costs.lend(costs, end),
+            self.choices.lend(choices, end),
+            self.work.lend(work, end),
+            &mut place.lend(&[JUNK], end)[0],
+            &mut count.lend(&[JUNK], end)[0],
+        );
+        self.take_flat(problem, costs, choices, work);
+        let [place, count] = self.take_numbers();
+        Answer {
+            number,
+            place,
+            count,
+        }
+    }
+
+    /// The cut call.
+    pub fn cut(
+        &mut self,
+        problem: &[u8],
+        sides: &[u8],
+        costs: &mut [u32],
+        choices: &mut [u8],
+        work: &mut [u32],
+    ) -> Halves {
+        let end = self.end;
+        let [place, count, first, second] = &mut self.numbers;
+        let number = write_cut(
+            self.problem.lend(problem, end),
+            self.list.lend(sides, end),
+            self.costs.lend(costs, end),
+            self.choices.lend(choices, end),
+            self.work.lend(work, end),
+            CutNumbers {
+                place: &mut place.lend(&[JUNK], end)[0],
+                count: &mut count.lend(&[JUNK], end)[0],
+                first: &mut first.lend(&[JUNK], end)[0],
+                second: &mut second.lend(&[JUNK], end)[0],
+            },
+        );
+        self.take_flat(problem, costs, choices, work);
+        note(
+            &mut self.fault,
+            "side list",
+            self.list.check_unchanged(sides),
+        );
+        let [place, count, first, second] = self.take_numbers();
+        let answer = Answer {
+            number,
+            place,
+            count,
+        };
+        Halves {
+            answer,
+            first,
+            second,
+        }
+    }
+
+    /// The bound call.
+    pub fn bound(&mut self, problem: &[u8], prefix: &[u8]) -> Least {
+        let end = self.end;
+        let mut least = [u64::from(JUNK); MAX_OBJECTIVES];
+        let lent = self.least.lend(&least, end);
+        let number = write_bound(
+            self.problem.lend(problem, end),
+            self.list.lend(prefix, end),
+            lent.try_into().expect("as many as there are objectives"),
+            &mut self.numbers[0].lend(&[JUNK], end)[0],
+        );
+        self.check_problem(problem);
+        note(&mut self.fault, "prefix", self.list.check_unchanged(prefix));
+        take(&mut self.fault, "least", &mut self.least, &mut least);
+        let [place] = self.take_numbers();
+        Least {
+            number,
+            place,
+            least,
+        }
+    }
+
+    /// The call for point records.
+    pub fn points(
+        &mut self,
+        problem: &[u8],
+        points: &mut [PointRecord],
+        work: &mut [u32],
+    ) -> Answer {
+        let end = self.end;
+        let [place, count, _, _] = &mut self.numbers;
+        let number = write_points(
+            self.problem.lend(problem, end),
+            self.points.lend(points, end),
+            self.work.lend(work, end),
+            &mut place.lend(&[JUNK], end)[0],
+            &mut count.lend(&[JUNK], end)[0],
+        );
+        self.check_problem(problem);
+        take(&mut self.fault, "point list", &mut self.points, points);
+        take(&mut self.fault, "work", &mut self.work, work);
+        let [place, count] = self.take_numbers();
+        Answer {
+            number,
+            place,
+            count,
+        }
+    }
+
+    fn check_problem(&mut self, problem: &[u8]) {
+        note(
+            &mut self.fault,
+            "problem",
+            self.problem.check_unchanged(problem),
+        );
+    }
+
+    fn take_flat(
+        &mut self,
+        problem: &[u8],
+        costs: &mut [u32],
+        choices: &mut [u8],
+        work: &mut [u32],
+    ) {
+        self.check_problem(problem);
+        take(&mut self.fault, "costs", &mut self.costs, costs);
+        take(&mut self.fault, "choices", &mut self.choices, choices);
+        take(&mut self.fault, "work", &mut self.work, work);
+    }
+
+    /// The first single numbers that a call has written.
+    fn take_numbers<const N: usize>(&mut self) -> [u32; N] {
+        let names = ["place", "count", "first size", "second size"];
+        let mut values = [0; N];
+        for (value, (name, pages)) in values.iter_mut().zip(names.iter().zip(&mut self.numbers)) {
+            take(&mut self.fault, name, pages, std::slice::from_mut(value));
+        }
+        values
+    }
+}
+
+fn number() -> io::Result<Pages> {
+    Pages::new(size_of::<u32>())
+}
+
+/// Takes a buffer back.
+fn take<T: Plain>(fault: &mut Option<String>, name: &str, pages: &mut Pages, into: &mut [T]) {
+    note(fault, name, pages.take_back(into));
+}
+
+/// Keeps the first fault.
+fn note(fault: &mut Option<String>, name: &str, checked: Result<(), String>) {
+    if let Err(complaint) = checked {
+        fault.get_or_insert(format!("the buffer '{name}' {complaint}"));
+    }
+}

@@ -1,0 +1,25 @@
+//! What the chooser is tried and measured with: an independent brute force, written from the prose of
+//! document 01, generators of problems, guarded memory, the search in plain Rust, and what tests share.
+//!
+//! The brute force finds every answer by going through all complete choices, so nothing in it is
+//! fast and nothing is clever. Feed it only problems whose choices can be counted through.
+
+pub mod bound;
+pub mod brute;
+pub mod checker;
+pub mod chooser_run;
+pub mod cut;
+pub mod examples;
+pub mod fence;
+pub mod guard;
+pub mod guarded;
+pub mod mixed;
+pub mod night;
+pub mod owned;
+pub mod plain;
+pub mod point_records;
+pub mod random;
+pub mod reading;
+pub mod speed;
+pub mod stored;
+pub mod xml;

@@ -1,0 +1,64 @@
+//! The two forms of the search give the same answer, and more work memory changes none: number,
+//! place, count and every buffer.
+
+use std::ops::Range;
+
+use chooser::junk::{junk, Rng};
+use frontier::lent::{solve_problem, Answer, SolveCall};
+use frontier::limits::{LEAST_WORK, MAX_OBJECTIVES, MAX_POINTS, MAX_VARIABLES};
+use frontier::measure::solve_by_passes;
+use testing::checker::case::ask_seeds;
+use testing::checker::law::agreement_law;
+use testing::random::{random_problem, Shape};
+
+#[test]
+fn the_first_form_answers_as_the_brute_force_does() {
+    ask_seeds(300_000..320_000, |case| {
+        agreement_law(case, &solve_by_passes)
+    });
+}
+
+/// What a call answers and leaves in buffers that held junk, with room for 64 points; of work
+/// memory, whether all of it is cleared.
+fn outcome(call: SolveCall, bytes: &[u8], work: usize) -> (Answer, Vec<u32>, Vec<u8>, bool) {
+    let (costs, choices) = (MAX_POINTS * MAX_OBJECTIVES, MAX_POINTS * MAX_VARIABLES);
+    let mut lent = junk(&mut Rng::new(7), costs, choices, work);
+    let answer = lent.lend(call, bytes);
+    let cleared = lent.work.iter().all(|&number| number == 0);
+    (answer, lent.costs, lent.choices, cleared)
+}
+
+/// Problems that are larger than the brute force can list in a test.
+fn larger_problems(seeds: Range<u64>, each: impl Fn(&[u8], &str)) {
+    let shape = Shape {
+        variables: 10,
+        domain: 6,
+        tables: 25,
+        choices: 100_000,
+        ..Shape::small()
+    };
+    for seed in seeds {
+        let problem = random_problem(&mut Rng::new(seed), &shape);
+        each(&problem.encode(), &format!("seed {seed}"));
+    }
+}
+
+#[test]
+fn both_forms_answer_the_same_for_larger_problems() {
+    larger_problems(0..400, |bytes, name| {
+        let first = outcome(solve_by_passes, bytes, LEAST_WORK);
+        let second = outcome(solve_problem, bytes, LEAST_WORK);
+        assert_eq!(first, second, "{name}");
+    });
+}
+
+#[test]
+fn more_work_memory_changes_no_answer() {
+    larger_problems(1_000..1_400, |bytes, name| {
+        let least = outcome(solve_problem, bytes, LEAST_WORK);
+        for work in [LEAST_WORK + 1, 2 * LEAST_WORK, 8 * LEAST_WORK] {
+            let more = outcome(solve_problem, bytes, work);
+            assert_eq!(least, more, "{name} with {work} numbers");
+        }
+    });
+}
