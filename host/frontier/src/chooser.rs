@@ -3,6 +3,7 @@
 use crate::lent::{bound_prefix, solve_cut, solve_problem, Buffers};
 use crate::limits::{MAX_OBJECTIVES, MAX_POINTS};
 use crate::list::Frontier;
+use crate::measure::{solve_measured, Measures};
 use crate::problem::sizes;
 use crate::refusal::{check, Refusal};
 
@@ -58,6 +59,18 @@ impl Chooser {
         self.make_room(problem);
         let answer = self.lent.lend(solve_problem, problem);
         self.lent.listed(problem, answer)
+    }
+
+    /// Lists the frontier of a problem, and tells what its search took.
+    pub fn solve_measured(&mut self, problem: &[u8]) -> (Result<Frontier<'_>, Refusal>, Measures) {
+        self.make_room(problem);
+        let Buffers {
+            costs,
+            choices,
+            work,
+        } = &mut self.lent;
+        let (answer, measures) = solve_measured(problem, costs, choices, work);
+        (self.lent.listed(problem, answer), measures)
     }
 
     /// Lists the frontier of a problem by way of two halves that no cost record links. The side of

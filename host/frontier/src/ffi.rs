@@ -32,6 +32,20 @@ extern "C" {
         count: *mut u32,
     ) -> u8;
 
+    pub fn frontier_solve_measured(
+        problem: *const u8,
+        problem_len: usize,
+        costs: *mut u32,
+        costs_len: usize,
+        choices: *mut u8,
+        choices_len: usize,
+        work: *mut u32,
+        work_len: usize,
+        place: *mut u32,
+        count: *mut u32,
+        measures: *mut [u64; 8],
+    ) -> u8;
+
     pub fn frontier_cut(
         problem: *const u8,
         problem_len: usize,

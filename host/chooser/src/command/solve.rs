@@ -8,10 +8,11 @@ use super::source::Source;
 use super::waiting::while_waiting;
 use super::{sort_words, Asked, Failure, Outcome};
 use frontier::limits::MAX_POINTS;
+use frontier::measure::{Form, Measures};
 use frontier::{Chooser, Frontier, Problem, Refusal};
 
 pub const HELP: &str = "\
-usage: chooser solve FILE [--room N] [--json]
+usage: chooser solve FILE [--room N] [--json] [--stats]
 
 Lists the frontier of the problem in FILE ('-': standard input), which is binary
 or text: every cost vector that no other one beats, in rising order, each with
@@ -20,6 +21,9 @@ variants behind it; they have names where FILE is text.
 
     --room N    refuse a frontier of more than N points (0 to 64; default 64)
     --json      print one JSON object; docs/FORMAT.md describes it
+    --stats     also say on standard error what the search took: which of its two
+                forms answered, how many plans it made, how many passes and how
+                many partial choices these opened
 
 A refusal is told with its number, its place and what to mend.
 The exit status is 0 for an answer, 1 for a refusal or a fault in FILE, and 2
@@ -30,13 +34,16 @@ Example:
 ";
 
 pub fn run(words: &[OsString]) -> Result<Outcome, Failure> {
-    let asked = sort_words(words, &[("--room", "N"), ("--json", "")])?;
+    let asked = sort_words(words, &[("--room", "N"), ("--json", ""), ("--stats", "")])?;
     let [file] = asked.operands(["FILE"])?;
     let room = asked_room(&asked)?;
     let json = asked.has("--json");
     let source = Source::load(file)?;
     let mut chooser = Chooser::with_room(room);
-    let answer = while_waiting(|| chooser.solve(&source.bytes));
+    let (answer, measures) = while_waiting(|| chooser.solve_measured(&source.bytes));
+    if asked.has("--stats") {
+        eprintln!("{}", stats_line(&measures));
+    }
     let call = Call::Solve { room };
     match answer.and_then(|frontier| frontier_reply(&source, frontier)) {
         Ok(reply) => reply.print(json),
@@ -45,6 +52,26 @@ pub fn run(words: &[OsString]) -> Result<Outcome, Failure> {
             Question { source, call }.refuse(refusal, json)
         }
     }
+}
+
+/// What the search took, in a line.
+fn stats_line(measures: &Measures) -> String {
+    let Measures {
+        plans,
+        failed,
+        passes,
+        opened,
+        ..
+    } = measures;
+    let form = match measures.form {
+        None => return "search: none, the problem was refused before it".to_string(),
+        Some(Form::First) => "first",
+        Some(Form::Second) => "second",
+    };
+    format!(
+        "search: answered by the {form} form; plans made: {plans}, failed their test: {failed}; \
+         passes: {passes}; partial choices opened: {opened}"
+    )
 }
 
 /// The room that the words ask for.
