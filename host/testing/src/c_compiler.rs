@@ -74,12 +74,13 @@ fn ended(command: &mut Command, name: &str) -> Result<(), String> {
     output.status.success().then_some(()).ok_or(complaint)
 }
 
-/// Writes the header to a folder, with a major version after the library's.
-pub fn write_later_header(folder: &Path) {
+/// Writes the header to a folder, with a number of its version (`MAJOR`, `PATCH`) that is one more.
+pub fn write_later_header(folder: &Path, part: &str) {
     let header = fs::read_to_string(root().join("include/frontier.h")).expect("the header");
-    let major = frontier::version() / 1_000_000;
-    let [old, new] = [major, major + 1].map(|major| format!("VERSION_MAJOR {major}\n"));
-    assert!(header.contains(&old), "the header has no {old}");
-    fs::write(folder.join("frontier.h"), header.replace(&old, &new))
-        .expect("a file can be written");
+    let name = format!("#define FRONTIER_VERSION_{part} ");
+    let (before, rest) = header.split_once(&name).expect("a version");
+    let (number, after) = rest.split_once('\n').expect("the line's end");
+    let later = number.parse::<u32>().expect("a number") + 1;
+    let text = format!("{before}{name}{later}\n{after}");
+    fs::write(folder.join("frontier.h"), text).expect("a file can be written");
 }

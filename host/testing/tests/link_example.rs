@@ -97,13 +97,15 @@ fn the_c_example_lists_the_points() {
 #[test]
 fn the_c_example_tells_a_library_that_is_older_than_the_header() {
     let folder = folder("later_header");
-    write_later_header(&folder);
     let example = Path::new(ROOT).join("examples/firmware.bin");
-    let refused = run(&built_link("link_later", &folder), &example);
-    let complaint = String::from_utf8_lossy(&refused.stderr);
-    let expected = format!("the library has version {}", env!("CARGO_PKG_VERSION"));
-    assert!(complaint.contains(&expected), "{complaint}");
-    assert_eq!((refused.status.code(), refused.stdout), (Some(2), vec![]));
+    for part in ["MAJOR", "PATCH"] {
+        write_later_header(&folder, part);
+        let refused = run(&built_link("link_later", &folder), &example);
+        let complaint = String::from_utf8_lossy(&refused.stderr);
+        let expected = format!("the library has version {}", env!("CARGO_PKG_VERSION"));
+        assert!(complaint.contains(&expected), "{part}: {complaint}");
+        assert_eq!((refused.status.code(), refused.stdout), (Some(2), vec![]));
+    }
 }
 
 #[test]

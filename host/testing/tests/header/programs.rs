@@ -131,7 +131,7 @@ fn what_the_interface_document_shows_compiles() {
     let compiled = C99.compile(&root().join("include"), &source, &object);
     assert_eq!(compiled, Ok(()));
     // With a header of another major version it must not.
-    write_later_header(&folder);
+    write_later_header(&folder, "MAJOR");
     let complaint = C99.compile(&folder, &source, &object);
     let complaint = complaint.expect_err("another version is refused");
     assert!(complaint.contains("is needed"), "{complaint}");
