@@ -50,6 +50,24 @@ pub fn calls_in_c(header: &str, lengths: &BTreeMap<&str, usize>) -> Vec<String> 
         .collect()
 }
 
+/// What the comment above a call says of each pointer, by the columns of its lines: the name, `read`
+/// or `written`, whether it may be null, what it may overlap.
+pub fn pointer_lines(headers: &[&str], call: &str) -> Vec<String> {
+    let parts = headers.iter().flat_map(|header| header.split("/*"));
+    let mut parts = parts.filter_map(|part| part.split_once("*/"));
+    let declared = |(_, code): &(&str, &str)| code.contains(&format!(" {call}("));
+    let (comment, _) = parts.find(declared).expect("the call is declared");
+    let lines = comment.lines().map(|line| line.trim_start_matches(" *"));
+    let table = lines.skip_while(|line| !line.starts_with("   pointer "));
+    let rows = table.skip(1).take_while(|line| !line.trim().is_empty());
+    rows.map(|row| {
+        let cells = row.split("  ").filter(|cell| !cell.is_empty());
+        let ends = cells.map(|cell| cell.rsplit(", ").next().unwrap_or(cell).trim());
+        ends.collect::<Vec<_>>().join(" ")
+    })
+    .collect()
+}
+
 /// The fields of a struct of a header.
 pub fn fields(header: &str, name: &str, lengths: &BTreeMap<&str, usize>) -> Vec<String> {
     let text = with_lengths(plain(header), lengths, "FRONTIER_");

@@ -7,7 +7,7 @@ mod source;
 
 use std::collections::BTreeMap;
 
-use declared::{calls_in_c, calls_in_rust, defined, fields};
+use declared::{calls_in_c, calls_in_rust, defined, fields, pointer_lines};
 use frontier::limits as limit;
 use frontier::refusal as number;
 use source::{constants, exports, fields_in_c, numbers, Export};
@@ -132,6 +132,27 @@ fn the_headers_declare_each_export_once() {
 #[test]
 fn rust_declares_each_export_once() {
     assert_declared(calls_in_rust(RUST_CALLS, &defined(HEADER)), Export::in_rust);
+}
+
+/// What the header must say of a pointer: none may be null, and only what is read may overlap what is
+/// read.
+fn pointer_line((name, is_read): (&str, bool), all: &[(&str, bool)]) -> String {
+    let mut others = all.iter().filter(|other| other.1 && other.0 != name);
+    match others.next() {
+        _ if !is_read => format!("{name} written no nothing"),
+        Some((other, _)) => format!("{name} read no {other}"),
+        None => format!("{name} read no nothing"),
+    }
+}
+
+#[test]
+fn the_comment_of_a_call_has_a_line_for_each_pointer() {
+    for export in exports(CALLS) {
+        let pointers = export.pointers();
+        let expected = pointers.iter().map(|p| pointer_line(*p, &pointers));
+        let lines = pointer_lines(&[HEADER, MEASURE_HEADER], &export.name);
+        assert_eq!(lines, expected.collect::<Vec<_>>(), "{}", export.name);
+    }
 }
 
 #[test]

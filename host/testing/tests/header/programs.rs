@@ -40,7 +40,7 @@ const C_ANSWERS: &str = "\
 ";
 
 /// A source in `tests/c`.
-fn source(name: &str) -> PathBuf {
+fn c_source(name: &str) -> PathBuf {
     Path::new(env!("CARGO_MANIFEST_DIR"))
         .join("tests/c")
         .join(name)
@@ -49,7 +49,7 @@ fn source(name: &str) -> PathBuf {
 /// What a program in `tests/c` prints, compiled so and linked with the library.
 fn printed(compiler: Compiler, name: &str) -> String {
     let program = folder(&format!("{name}_{}", compiler.standard)).join("program");
-    let built = compiler.build(&root().join("include"), &source(name), &program);
+    let built = compiler.build(&root().join("include"), &c_source(name), &program);
     built.unwrap_or_else(|complaint| panic!("{}: {complaint}", compiler.standard));
     let run = Command::new(&program).output().expect("the program starts");
     assert!(run.status.success(), "{name}: {}", run.status);

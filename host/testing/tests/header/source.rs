@@ -25,7 +25,7 @@ struct Parameter {
 
 /// An exported call.
 pub struct Export {
-    name: String,
+    pub name: String,
     parameters: Vec<Parameter>,
     result: String,
 }
@@ -56,6 +56,10 @@ impl Parameter {
             element: element.into(),
             passing,
         }
+    }
+
+    fn is_value(&self) -> bool {
+        matches!(self.passing, Passing::Value)
     }
 
     /// As a C header declares it.
@@ -98,6 +102,14 @@ impl Export {
                 .collect(),
             result: result.into(),
         }
+    }
+
+    /// Its pointers in their order, each with whether it is only read.
+    pub fn pointers(&self) -> Vec<(&str, bool)> {
+        let pointers = self.parameters.iter().filter(|p| !p.is_value());
+        pointers
+            .map(|p| (&p.name[..], matches!(p.passing, Passing::ReadSlice)))
+            .collect()
     }
 
     /// As a C header declares it, on one line.
