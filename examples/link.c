@@ -10,9 +10,20 @@
 /* The library allocates nothing: a caller lends all memory. These buffers do for every problem, and may be lent again and
  * again without being cleared. One byte more than a problem may have lets the library see that a file is too long. */
 static uint8_t problem[FRONTIER_MAX_BYTES + 1];
-static uint32_t costs[FRONTIER_MAX_POINTS * FRONTIER_MAX_OBJECTIVES];
-static uint8_t choices[FRONTIER_MAX_POINTS * FRONTIER_MAX_VARIABLES];
-static uint32_t work[FRONTIER_LEAST_WORK];
+static uint32_t costs[FRONTIER_COSTS_LEN];
+static uint8_t choices[FRONTIER_CHOICES_LEN];
+static uint32_t work[FRONTIER_WORK_LEN];
+
+/* Returns 0 if the library has all that the header declares, or prints what is wrong and returns 2. */
+static int check_version(void) {
+    uint32_t version = frontier_version();
+    if (version / 1000000 == FRONTIER_VERSION_MAJOR && version >= FRONTIER_VERSION)
+        return 0;
+    fprintf(stderr, "link: the library has version %u.%u.%u, and the header %d.%d.%d; take both from one version\n",
+            (unsigned)(version / 1000000), (unsigned)(version / 1000 % 1000), (unsigned)(version % 1000),
+            FRONTIER_VERSION_MAJOR, FRONTIER_VERSION_MINOR, FRONTIER_VERSION_PATCH);
+    return 2;
+}
 
 /* Reads the file into problem. Returns 0 and sets *length, or prints what is wrong and returns 2. */
 static int read_problem(const char *path, size_t *length) {
@@ -48,14 +59,14 @@ int main(int argc, char **argv) {
         return 2;
     }
     size_t length = 0;
-    int status = read_problem(argv[1], &length);
-    if (status)
-        return status;
+    if (check_version() || read_problem(argv[1], &length))
+        return 2;
     uint32_t place, count;
-    uint8_t number = frontier_solve(problem, length, costs, sizeof costs / sizeof *costs, choices, sizeof choices, work,
-                                    sizeof work / sizeof *work, &place, &count);
-    if (number) {
-        fprintf(stderr, "link: %s is refused with number %u at byte %" PRIu32 "\n", argv[1], (unsigned)number, place);
+    uint8_t number = frontier_solve(problem, length, costs, FRONTIER_COSTS_LEN, choices, FRONTIER_CHOICES_LEN, work,
+                                    FRONTIER_WORK_LEN, &place, &count);
+    if (number != FRONTIER_ACCEPTED) {
+        fprintf(stderr, "link: %s is refused with number %u (%s) at byte %" PRIu32 "\n", argv[1], (unsigned)number,
+                frontier_word(number), place);
         return 1;
     }
     print_points(count);

@@ -1,7 +1,8 @@
-/* The variant chooser's limits, numbers of refusal and calls, for C and C++. Link libfrontier.a; it needs nothing but
- * the C library. There are four calls: frontier_solve lists the frontier of a problem; frontier_cut lists it by way of
- * two halves of the problem; frontier_bound bounds what a partial choice leads to; frontier_points lists the frontier
- * into point records. A fifth, frontier_solve_by_passes, is frontier_solve by a slower method, for measurements.
+/* The variant chooser's version, limits, numbers of refusal and calls, for C99, C++11 and later. Link libfrontier.a; it
+ * needs nothing but the C library. There are four calls: frontier_solve lists the frontier of a problem; frontier_cut
+ * lists it by way of two halves of the problem; frontier_bound bounds what a partial choice leads to; frontier_points
+ * lists the frontier into point records. What a later version may change is in docs/INTERFACE.md; calls for
+ * measurements are in frontier_measure.h.
  *
  * A problem is a string of bytes. Numbers in it are unsigned and little-endian, at any address, with nothing between
  * them. It is made of records, each of which starts with a mark of two letters:
@@ -32,6 +33,12 @@
 #include <stddef.h>
 #include <stdint.h>
 
+/* The version of this header, and in one number: 1002003 is 1.2.3. frontier_version gives that of the library. */
+#define FRONTIER_VERSION_MAJOR 1
+#define FRONTIER_VERSION_MINOR 0
+#define FRONTIER_VERSION_PATCH 0
+#define FRONTIER_VERSION (FRONTIER_VERSION_MAJOR * 1000000 + FRONTIER_VERSION_MINOR * 1000 + FRONTIER_VERSION_PATCH)
+
 /* limits of a problem */
 #define FRONTIER_MAX_BYTES 60000
 #define FRONTIER_MAX_VARIABLES 24
@@ -44,34 +51,65 @@
 #define FRONTIER_MAX_POINTS 64
 #define FRONTIER_LEAST_WORK 8192
 
-/* numbers of refusal */
-#define FRONTIER_OVERSIZE 1   /* more than 60,000 bytes */
-#define FRONTIER_CUT_SHORT 2  /* the bytes end inside the record that is due; also empty input */
-#define FRONTIER_STRAY_MARK 3 /* the two bytes due are another mark */
-#define FRONTIER_VARIABLES 4  /* n outside 1 to 24 */
-#define FRONTIER_OBJECTIVES 5 /* p outside 1 to 4 */
-#define FRONTIER_TABLES 6     /* r above 256 */
-#define FRONTIER_DOMAIN 7     /* d outside 1 to 8 */
-#define FRONTIER_OWNER 8      /* objective number p or more */
-#define FRONTIER_ARITY 9      /* above 3 */
-#define FRONTIER_SCOPE 10     /* a variable n or more, or not above the one before */
-#define FRONTIER_LEFTOVER 11  /* bytes after the last record */
-#define FRONTIER_WORK 12      /* work buffer under 8,192 numbers */
-#define FRONTIER_SIDES 13     /* side list not n long, or a byte in it other than 0 and 1 */
-#define FRONTIER_LINKED 14    /* a record's scope has both sides */
-#define FRONTIER_FULL 15      /* more points than room; in the cut call also a half's frontier above 64 */
-#define FRONTIER_PREFIX 16    /* prefix longer than n, or a value not in its domain */
+/* lengths of buffers that do for every problem, in elements, each named after the parameter that it is handed to */
+#define FRONTIER_COSTS_LEN (FRONTIER_MAX_POINTS * FRONTIER_MAX_OBJECTIVES)
+#define FRONTIER_CHOICES_LEN (FRONTIER_MAX_POINTS * FRONTIER_MAX_VARIABLES)
+#define FRONTIER_POINTS_LEN FRONTIER_MAX_POINTS
+#define FRONTIER_WORK_LEN FRONTIER_LEAST_WORK
 
-/* What holds of every call: it may be given any bytes, since it checks them itself. A pointer that goes with a length
- * must be valid for that many elements and not null, even if the length is 0 (then nothing is read through it). What is
- * written must overlap nothing else that is handed in. A call writes nothing but what its comment names, allocates
- * nothing, and keeps nothing from one call to the next, so calls may run side by side in several threads, also on the
- * same problem. The same input always gives the same answer. */
+/* what a call returns: 0, or the number of a refusal */
+#define FRONTIER_ACCEPTED 0
+#define FRONTIER_REFUSED_OVERSIZE 1   /* more than 60,000 bytes */
+#define FRONTIER_REFUSED_CUT_SHORT 2  /* the bytes end inside the record that is due; also empty input */
+#define FRONTIER_REFUSED_STRAY_MARK 3 /* the two bytes due are another mark */
+#define FRONTIER_REFUSED_VARIABLES 4  /* n outside 1 to 24 */
+#define FRONTIER_REFUSED_OBJECTIVES 5 /* p outside 1 to 4 */
+#define FRONTIER_REFUSED_TABLES 6     /* r above 256 */
+#define FRONTIER_REFUSED_DOMAIN 7     /* d outside 1 to 8 */
+#define FRONTIER_REFUSED_OWNER 8      /* objective number p or more */
+#define FRONTIER_REFUSED_ARITY 9      /* above 3 */
+#define FRONTIER_REFUSED_SCOPE 10     /* a variable n or more, or not above the one before */
+#define FRONTIER_REFUSED_LEFTOVER 11  /* bytes after the last record */
+#define FRONTIER_REFUSED_WORK 12      /* work buffer under 8,192 numbers */
+#define FRONTIER_REFUSED_SIDES 13     /* side list not n long, or a byte in it other than 0 and 1 */
+#define FRONTIER_REFUSED_LINKED 14    /* a record's scope has both sides */
+#define FRONTIER_REFUSED_FULL 15      /* more points than room; in the cut call also a half's frontier above 64 */
+#define FRONTIER_REFUSED_PREFIX 16    /* prefix longer than n, or a value not in its domain */
+
+/* The word for what a call returned, in letters and spaces; "unknown" for a number that no call of this version
+ * returns. The string is constant and not null. */
+static inline const char *frontier_word(uint8_t number) {
+    static const char *const words[] = {
+        "accepted", "oversize", "cut short", "stray mark", "variables", "objectives", "tables", "domain", "owner",
+        "arity", "scope", "leftover", "work", "sides", "linked", "full", "prefix",
+    };
+    return number < sizeof words / sizeof words[0] ? words[number] : "unknown";
+}
+
+/* What holds of every call: it may be given any bytes, since it checks them itself. The comment of a call has a line
+ * for each pointer: how many elements it must be valid for, whether it may be null, and what else that is handed in it
+ * may overlap. None may be null, not even with length 0; then nothing is read or written through it. Pointers are
+ * aligned as their types ask. A call writes nothing but what its comment names, allocates nothing, and keeps nothing
+ * from one call to the next, so calls may run side by side in several threads, also on the same problem, each with
+ * buffers of its own. The same input always gives the same answer. */
 #ifdef __cplusplus
 extern "C" {
 #endif
 
+/* The version of the library that is linked, as one number like FRONTIER_VERSION. It has all that this header declares
+ * if its major version is the header's and it is not older: if frontier_version() / 1000000 == FRONTIER_VERSION_MAJOR
+ * and frontier_version() >= FRONTIER_VERSION. */
+uint32_t frontier_version(void);
+
 /* Lists the frontier of a problem into the buffers that it is lent.
+ *
+ *   pointer  valid for                         null  may overlap
+ *   problem  problem_len bytes, read           no    nothing
+ *   costs    costs_len numbers, written        no    nothing
+ *   choices  choices_len bytes, written        no    nothing
+ *   work     work_len numbers, written         no    nothing
+ *   place    one number, written               no    nothing
+ *   count    one number, written               no    nothing
  *
  * A listed point is a cost vector and a choice that has it. The points stand in rising order of their vectors,
  * objective 0 compared first, then 1, and so on. Each vector stands once, however many allowed choices have it, with
@@ -80,36 +118,42 @@ extern "C" {
  *
  * costs is for the vectors: cost k of point i becomes costs[i * p + k]. choices is for the choices: the value of
  * variable v in point i becomes choices[i * n + v]. Lengths are in elements. Room, the number of points that fit, is
- * the least of costs_len / p, choices_len / n (both rounded down) and FRONTIER_MAX_POINTS, so 64 * 4 costs and 64 * 24
- * choices do for every problem. Room 0 is allowed. It suffices where no choice is allowed: such a problem is accepted,
- * with 0 points.
+ * the least of costs_len / p, choices_len / n (both rounded down) and FRONTIER_MAX_POINTS, so FRONTIER_COSTS_LEN and
+ * FRONTIER_CHOICES_LEN do for every problem. Room 0 is allowed. It suffices where no choice is allowed: such a problem
+ * is accepted, with 0 points.
  *
- * work is memory for the search: at least FRONTIER_LEAST_WORK numbers, whatever the problem. With more the search may be
- * quicker; all of it is cleared. Nothing in the answer depends on what the three buffers held before.
+ * work is memory for the search: at least FRONTIER_LEAST_WORK numbers, whatever the problem. With more the search may
+ * be quicker; all of it is cleared. Nothing in the answer depends on what the three buffers held before.
  *
- * The number of refusal is the result: 0 for none, 1 to 11 for the problem, then FRONTIER_WORK if work is too short,
- * then FRONTIER_FULL if the frontier has more points than room. *place becomes the place of the refusal, and 0 without
- * one; *count becomes the number of points listed, and 0 after a refusal. Both are always written, whatever they held.
- * What the buffers hold afterwards:
+ * The number of refusal is the result: 0 for none, 1 to 11 for the problem, then FRONTIER_REFUSED_WORK if work is too
+ * short, then FRONTIER_REFUSED_FULL if the frontier has more points than room. *place becomes the place of the refusal,
+ * and 0 without one; *count becomes the number of points listed, and 0 after a refusal. Both are always written,
+ * whatever they held. What the buffers hold afterwards:
  *
- *   result          costs and choices                                                           work
- *   0               the first *count * p costs and *count * n choices are the points,           all 0
- *                   the rest is unchanged
- *   FRONTIER_FULL   unchanged                                                                   all 0
- *   another number  unchanged                                                                   unchanged
+ *   result                 costs and choices                                                           work
+ *   FRONTIER_ACCEPTED      the first *count * p costs and *count * n choices are the points,           all 0
+ *                          the rest is unchanged
+ *   FRONTIER_REFUSED_FULL  unchanged                                                                   all 0
+ *   another number         unchanged                                                                   unchanged
  *
  * The time it takes can grow with the number of choices, which is the product of the domain sizes, and the call cannot
  * be interrupted. A program with a time limit runs it in a process of its own. */
 uint8_t frontier_solve(const uint8_t *problem, size_t problem_len, uint32_t *costs, size_t costs_len, uint8_t *choices,
                        size_t choices_len, uint32_t *work, size_t work_len, uint32_t *place, uint32_t *count);
 
-/* The same answer by the first form of the search, which needs much longer for most problems: for measurements. */
-uint8_t frontier_solve_by_passes(const uint8_t *problem, size_t problem_len, uint32_t *costs, size_t costs_len,
-                                 uint8_t *choices, size_t choices_len, uint32_t *work, size_t work_len, uint32_t *place,
-                                 uint32_t *count);
-
 /* Lists the frontier of a problem that falls into two halves, into the buffers that it is lent: the points that
  * frontier_solve lists, by way of the halves' own frontiers.
+ *
+ *   pointer  valid for                         null  may overlap
+ *   problem  problem_len bytes, read           no    sides
+ *   sides    sides_len bytes, read             no    problem
+ *   costs    costs_len numbers, written        no    nothing
+ *   choices  choices_len bytes, written        no    nothing
+ *   work     work_len numbers, written         no    nothing
+ *   place    one number, written               no    nothing
+ *   count    one number, written               no    nothing
+ *   first    one number, written               no    nothing
+ *   second   one number, written               no    nothing
  *
  * The side list has a side for each variable, one byte each: sides[v] is the side of variable v, 0 or 1, and sides_len
  * is n. A record is linked if its scope has variables of both sides; there must be none. Half 0 has the variables of
@@ -128,20 +172,20 @@ uint8_t frontier_solve_by_passes(const uint8_t *problem, size_t problem_len, uin
  * costs, choices, their room and work are as in frontier_solve, and nothing in the answer depends on what they held
  * before.
  *
- * The number of refusal is the result: 0 for none, 1 to 11 for the problem, then FRONTIER_WORK if work is too short,
- * then FRONTIER_SIDES if sides_len is not n or a side is neither 0 nor 1, then FRONTIER_LINKED if a record is linked,
- * then FRONTIER_FULL if the frontier of a half has more than FRONTIER_MAX_POINTS points, or that of the problem more
- * points than room; how many sums there are on the way does not count. *place becomes the place of the refusal, with
- * FRONTIER_LINKED the first byte of the first linked record, and 0 without a refusal. *count becomes the number of
- * points listed, *first and *second become the half sizes: how many points the frontiers of half 0 and of half 1 have.
- * After a refusal these three are 0. All four are always written, whatever they held. What the buffers hold
- * afterwards:
+ * The number of refusal is the result: 0 for none, 1 to 11 for the problem, then FRONTIER_REFUSED_WORK if work is too
+ * short, then FRONTIER_REFUSED_SIDES if sides_len is not n or a side is neither 0 nor 1, then FRONTIER_REFUSED_LINKED
+ * if a record is linked, then FRONTIER_REFUSED_FULL if the frontier of a half has more than FRONTIER_MAX_POINTS points,
+ * or that of the problem more points than room; how many sums there are on the way does not count. *place becomes the
+ * place of the refusal, with FRONTIER_REFUSED_LINKED the first byte of the first linked record, and 0 without a
+ * refusal. *count becomes the number of points listed, *first and *second become the half sizes: how many points the
+ * frontiers of half 0 and of half 1 have. After a refusal these three are 0. All four are always written, whatever they
+ * held. What the buffers hold afterwards:
  *
- *   result          costs and choices                                                           work
- *   0               the first *count * p costs and *count * n choices are the points,           all 0
- *                   the rest is unchanged
- *   FRONTIER_FULL   unchanged                                                                   all 0
- *   another number  unchanged                                                                   unchanged
+ *   result                 costs and choices                                                           work
+ *   FRONTIER_ACCEPTED      the first *count * p costs and *count * n choices are the points,           all 0
+ *                          the rest is unchanged
+ *   FRONTIER_REFUSED_FULL  unchanged                                                                   all 0
+ *   another number         unchanged                                                                   unchanged
  *
  * The time it takes can grow with the number of choices of each half, and like frontier_solve it cannot be
  * interrupted. */
@@ -151,14 +195,20 @@ uint8_t frontier_cut(const uint8_t *problem, size_t problem_len, const uint8_t *
 
 /* Bounds from below what any completion of a partial choice costs.
  *
+ *   pointer  valid for                         null  may overlap
+ *   problem  problem_len bytes, read           no    prefix
+ *   prefix   prefix_len bytes, read            no    problem
+ *   least    four numbers, written             no    nothing
+ *   place    one number, written               no    nothing
+ *
  * The prefix has the values of variables 0, 1, and so on, one byte each; the variables after it are free. With length 0
  * all are free, with length n none is, and then the bound is the cost itself.
  *
  * least[k] becomes the sum, over the records of objective k, of the least table entry that agrees with the prefix:
  * below 2^40, and 0 for k from p on. Ceilings play no part. The number of refusal is the result: 0 for none, 1 to 11
- * for the problem, or FRONTIER_PREFIX for the prefix, which is looked at last. *place becomes the place of the refusal,
- * and 0 without one. All four numbers of least and *place are always written, whatever they held; after a refusal least
- * is all 0. */
+ * for the problem, or FRONTIER_REFUSED_PREFIX for the prefix, which is looked at last. *place becomes the place of the
+ * refusal, and 0 without one. All four numbers of least and *place are always written, whatever they held; after a
+ * refusal least is all 0. */
 uint8_t frontier_bound(const uint8_t *problem, size_t problem_len, const uint8_t *prefix, size_t prefix_len,
                        uint64_t least[FRONTIER_MAX_OBJECTIVES], uint32_t *place);
 
@@ -172,20 +222,27 @@ struct frontier_point {
 /* Lists the frontier of a problem into the point records that it is lent: the points that frontier_solve lists, in the
  * same order.
  *
- * points is a list of points_len records. Room, the number of points that fit, is the smaller of points_len and
- * FRONTIER_MAX_POINTS, so 64 records do for every problem. Room 0 is allowed, and suffices where no choice is allowed.
- * work is as in frontier_solve. Nothing in the answer depends on what the records and work held before.
+ *   pointer  valid for                         null  may overlap
+ *   problem  problem_len bytes, read           no    nothing
+ *   points   points_len records, written       no    nothing
+ *   work     work_len numbers, written         no    nothing
+ *   place    one number, written               no    nothing
+ *   count    one number, written               no    nothing
  *
- * The number of refusal is the result: 0 for none, 1 to 11 for the problem, then FRONTIER_WORK if work is too short,
- * then FRONTIER_FULL if the frontier has more points than room. *place becomes the place of the refusal, and 0 without
- * one; *count becomes the number of points listed, and 0 after a refusal. Both are always written, whatever they held.
- * What the records and work hold afterwards:
+ * Room, the number of points that fit, is the smaller of points_len and FRONTIER_MAX_POINTS, so FRONTIER_POINTS_LEN
+ * records do for every problem. Room 0 is allowed, and suffices where no choice is allowed. work is as in
+ * frontier_solve. Nothing in the answer depends on what the records and work held before.
  *
- *   result          points                                                                      work
- *   0               the first *count records are the points, every field of them written,       all 0
- *                   the rest is unchanged
- *   FRONTIER_FULL   unchanged                                                                   all 0
- *   another number  unchanged                                                                   unchanged
+ * The number of refusal is the result: 0 for none, 1 to 11 for the problem, then FRONTIER_REFUSED_WORK if work is too
+ * short, then FRONTIER_REFUSED_FULL if the frontier has more points than room. *place becomes the place of the refusal,
+ * and 0 without one; *count becomes the number of points listed, and 0 after a refusal. Both are always written,
+ * whatever they held. What the records and work hold afterwards:
+ *
+ *   result                 points                                                                      work
+ *   FRONTIER_ACCEPTED      the first *count records are the points, every field of them written,       all 0
+ *                          the rest is unchanged
+ *   FRONTIER_REFUSED_FULL  unchanged                                                                   all 0
+ *   another number         unchanged                                                                   unchanged
  *
  * It takes as long as frontier_solve, and cannot be interrupted either. */
 uint8_t frontier_points(const uint8_t *problem, size_t problem_len, struct frontier_point *points, size_t points_len,

@@ -1,3 +1,4 @@
--- What the public calls promise, and what a caller has by these promises.
+-- What the public calls promise, what a caller has by these promises, and the version.
 pub mod Says
 pub mod Demands
+pub mod Version

@@ -1,6 +1,22 @@
-// The public calls, and their exports for C.
+// The public calls, and their exports for C; the version.
+ghost use mathlib.Core.Path.{_≡_};
 ghost use Rattle.model.specs.Calls.{solveOutcome, listOutcome, cutOutcome, boundOutcome};
 ghost use Rattle.frontier.specs.Says.{asPoints, SolveExports, ListExports, CutExports, BoundExports};
+ghost use Rattle.frontier.specs.Version.{version};
+
+// The version of the interface; include/frontier.h has the same three numbers.
+const VERSION_MAJOR: u32 = 1;
+
+const VERSION_MINOR: u32 = 0;
+
+const VERSION_PATCH: u32 = 0;
+
+#[no_mangle]
+pub extern "C" fn frontier_version() -> u32
+    ensures { λ r. ⌜ r ≡ version ⌝ }
+{
+    VERSION_MAJOR * 1000000 + VERSION_MINOR * 1000 + VERSION_PATCH
+}
 
 // The plain call by the second form of the search, or by the first one alone.
 fn solve_as(

@@ -3,9 +3,11 @@
 use crate::lent::PointRecord;
 use crate::limits::MAX_OBJECTIVES;
 
-// The exported calls. Nothing checks these lines against the library, so they stand together and
-// in the header's order, to be compared by eye.
+// The exported calls. No compiler checks these lines against the library, so they stand together:
+// the test `header` compares them with the library's source.
 extern "C" {
+    pub fn frontier_version() -> u32;
+
     pub fn frontier_solve(
         problem: *const u8,
         problem_len: usize,

@@ -40,8 +40,10 @@ mod list;
 pub mod measure;
 mod problem;
 pub mod refusal;
+mod version;
 
 pub use chooser::{Bound, Chooser, Cut};
 pub use list::{Frontier, Point, Points};
 pub use problem::{Problem, Table, FORBIDDEN};
 pub use refusal::Refusal;
+pub use version::version;

@@ -6,6 +6,7 @@
 
 pub mod bound;
 pub mod brute;
+pub mod c_compiler;
 pub mod checker;
 pub mod chooser_run;
 pub mod cut;

@@ -5,6 +5,8 @@ use std::fs;
 use std::path::{Path, PathBuf};
 use std::process::{Command, Output};
 
+use testing::c_compiler::{write_later_header, C99};
+use testing::chooser_run::folder;
 use testing::examples::{colours, objects, staircase};
 use testing::owned::list_text;
 
@@ -16,23 +18,12 @@ fn scratch(name: &str) -> PathBuf {
     Path::new(env!("CARGO_TARGET_TMPDIR")).join(name)
 }
 
-/// Builds the C example as its comment says, with every warning an error; the program's file.
-fn built_link(name: &str) -> PathBuf {
+/// Builds the C example with the headers of a folder; the program's file.
+fn built_link(name: &str, include: &Path) -> PathBuf {
     let program = scratch(name);
-    let compiled = Command::new("cc")
-        .args(["-std=c11", "-Wall", "-Wextra", "-Wpedantic", "-Werror"])
-        .args([
-            "-Iinclude",
-            "examples/link.c",
-            "target/staticlib/libfrontier.a",
-            "-o",
-        ])
-        .arg(&program)
-        .current_dir(ROOT)
-        .output()
-        .expect("the C compiler starts; install 'gcc' or another with the name 'cc'");
-    let complaint = String::from_utf8_lossy(&compiled.stderr);
-    assert!(compiled.status.success(), "{complaint}");
+    let source = Path::new(ROOT).join("examples/link.c");
+    let built = C99.build(include, &source, &program);
+    built.unwrap_or_else(|complaint| panic!("{complaint}"));
     program
 }
 
@@ -96,7 +87,25 @@ fn assert_lists(program: &Path, name: &str) {
 
 #[test]
 fn the_c_example_lists_the_points() {
-    assert_lists(&built_link("link"), "link_c");
+    let program = built_link("link", &Path::new(ROOT).join("include"));
+    assert_lists(&program, "link_c");
+    let refused = run(&program, Path::new("/dev/null"));
+    let complaint = "link: /dev/null is refused with number 2 (cut short) at byte 0\n";
+    assert_eq!(String::from_utf8_lossy(&refused.stderr), complaint);
+}
+
+#[test]
+fn the_c_example_tells_a_library_that_is_older_than_the_header() {
+    let folder = folder("later_header");
+    let example = Path::new(ROOT).join("examples/firmware.bin");
+    for part in ["MAJOR", "PATCH"] {
+        write_later_header(&folder, part);
+        let refused = run(&built_link("link_later", &folder), &example);
+        let complaint = String::from_utf8_lossy(&refused.stderr);
+        let expected = format!("the library has version {}", env!("CARGO_PKG_VERSION"));
+        assert!(complaint.contains(&expected), "{part}: {complaint}");
+        assert_eq!((refused.status.code(), refused.stdout), (Some(2), vec![]));
+    }
 }
 
 #[test]

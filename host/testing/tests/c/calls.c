@@ -1,4 +1,4 @@
-/* Calls the static library as a C or C++ program would; header.rs compiles it and reads what it prints. */
+/* Calls the static library as a C or C++ program would; tests/header compiles it and reads what it prints. */
 #include "frontier.h"
 #include "frontier.h" /* a second time, which must do no harm */
 

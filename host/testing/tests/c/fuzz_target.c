@@ -41,7 +41,7 @@ static void note(uint8_t number, uint32_t place, uint32_t count) {
 
 /* A call must clear the work buffer after 0 and 15, and leave it alone after any other number. */
 static void check_work(uint8_t number, const uint32_t *work, size_t work_len, uint32_t junk) {
-    uint32_t due = number == 0 || number == FRONTIER_FULL ? 0 : junk;
+    uint32_t due = number == 0 || number == FRONTIER_REFUSED_FULL ? 0 : junk;
     for (size_t i = 0; i < work_len; i++)
         if (work[i] != due)
             abort();
@@ -101,7 +101,7 @@ int LLVMFuzzerTestOneInput(const uint8_t *data, size_t size) {
     uint8_t number = frontier_bound(problem, size, problem, size < 3 ? size : 3, least, &place);
     note(number, place, 0);
     struct lent lent = {problem, size, FRONTIER_MAX_VARIABLES, FRONTIER_MAX_OBJECTIVES, FRONTIER_LEAST_WORK};
-    if (number == 0 || number == FRONTIER_PREFIX) {
+    if (number == 0 || number == FRONTIER_REFUSED_PREFIX) {
         lent.n = problem[2];
         lent.p = problem[3];
         lent.work_len -= !is_small(problem); /* too short, so that a large problem is not searched */

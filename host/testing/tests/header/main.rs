@@ -1,0 +1,182 @@
+//! The C headers and the Rust package say what the Rattle source says: limits, numbers of refusal,
+//! calls, the point record and the version, compared as texts. `programs` compiles and calls them.
+
+mod declared;
+mod programs;
+mod source;
+
+use std::collections::BTreeMap;
+
+use declared::{calls_in_c, calls_in_rust, defined, fields, pointer_lines};
+use frontier::limits as limit;
+use frontier::refusal as number;
+use source::{constants, exports, fields_in_c, numbers, Export};
+
+const HEADER: &str = include_str!("../../../../include/frontier.h");
+const MEASURE_HEADER: &str = include_str!("../../../../include/frontier_measure.h");
+const RUST_CALLS: &str = include_str!("../../../frontier/src/ffi.rs");
+
+/// The Rattle source: the exported calls, the kinds with their limits, what calls refuse.
+const CALLS: &str = include_str!("../../../../crates/frontier/src/lib.rt");
+const KINDS: &str = include_str!("../../../../crates/model/src/lib.rt");
+const ANSWERS: &str = include_str!("../../../../crates/answers/src/lib.rt");
+
+/// The specifications of the numbers of refusal and of the version.
+const REFUSALS: &str = include_str!("../../../../crates/model/specs/Refusals.antt");
+const VERSION: &str = include_str!("../../../../crates/frontier/specs/Version.antt");
+
+#[test]
+fn limits_agree() {
+    let expected = [
+        ("MAX_BYTES", "Header::MAX_BYTES", limit::MAX_BYTES),
+        (
+            "MAX_VARIABLES",
+            "Header::MAX_VARIABLES",
+            limit::MAX_VARIABLES,
+        ),
+        (
+            "MAX_OBJECTIVES",
+            "Header::MAX_OBJECTIVES",
+            limit::MAX_OBJECTIVES,
+        ),
+        ("MAX_TABLES", "Header::MAX_TABLES", limit::MAX_TABLES),
+        ("MAX_DOMAIN", "Domain::MAX_SIZE", limit::MAX_DOMAIN),
+        ("MAX_ARITY", "CostRecord::MAX_ARITY", limit::MAX_ARITY),
+        ("MAX_POINTS", "Point::MAX_COUNT", limit::MAX_POINTS),
+        ("LEAST_WORK", "LEAST_WORK", limit::LEAST_WORK),
+    ];
+    let (defined, mut source) = (defined(HEADER), constants(KINDS));
+    source.extend(constants(ANSWERS));
+    for (name, in_source, in_rust) in expected {
+        assert_eq!(defined.get(name), source.get(in_source), "FRONTIER_{name}");
+        assert_eq!(defined.get(name), Some(&in_rust), "FRONTIER_{name}");
+    }
+    let limits = defined.keys().filter(|name| name.starts_with("MAX_"));
+    assert_eq!(limits.count() + 1, expected.len(), "each limit has a row");
+}
+
+/// The numbers of refusal that the header defines, by name without the prefix.
+fn refusals() -> BTreeMap<&'static str, usize> {
+    let named =
+        |(name, number): (&'static str, usize)| Some((name.strip_prefix("REFUSED_")?, number));
+    defined(HEADER).into_iter().filter_map(named).collect()
+}
+
+#[test]
+fn numbers_of_refusal_agree() {
+    let expected = [
+        ("OVERSIZE", number::OVERSIZE),
+        ("CUT_SHORT", number::CUT_SHORT),
+        ("STRAY_MARK", number::STRAY_MARK),
+        ("VARIABLES", number::VARIABLES),
+        ("OBJECTIVES", number::OBJECTIVES),
+        ("TABLES", number::TABLES),
+        ("DOMAIN", number::DOMAIN),
+        ("OWNER", number::OWNER),
+        ("ARITY", number::ARITY),
+        ("SCOPE", number::SCOPE),
+        ("LEFTOVER", number::LEFTOVER),
+        ("WORK", number::WORK),
+        ("SIDES", number::SIDES),
+        ("LINKED", number::LINKED),
+        ("FULL", number::FULL),
+        ("PREFIX", number::PREFIX),
+    ];
+    let refusals = refusals();
+    for (name, value) in expected {
+        assert_eq!(refusals.get(name), Some(&value.into()), "{name}");
+    }
+}
+
+#[test]
+fn numbers_of_refusal_are_those_of_the_specification() {
+    let (refusals, specified) = (refusals(), numbers(REFUSALS));
+    assert_eq!(refusals.len(), specified.len());
+    for (name, number) in refusals {
+        // The specification has `cutShort`, `badScope`, `workShort`.
+        let letters = name.replace('_', "").to_lowercase();
+        let has_letters = |(name, _): &(&&str, &usize)| name.to_lowercase().contains(&letters);
+        let named: Vec<_> = specified.iter().filter(has_letters).collect();
+        assert!(named.len() == 1, "{name}: {named:?}");
+        assert_eq!(*named[0].1, number, "{name}");
+    }
+}
+
+#[test]
+fn a_refusal_has_the_name_of_its_word() {
+    let words = (1..=u8::MAX).map(|number| (number::word_of(number), usize::from(number)));
+    let known = words.filter(|(word, _)| *word != "unknown");
+    let names = known.map(|(word, number)| (word.to_uppercase().replace(' ', "_"), number));
+    let expected = refusals().into_iter();
+    let expected: BTreeMap<_, _> = expected.map(|(name, n)| (name.to_string(), n)).collect();
+    assert_eq!(names.collect::<BTreeMap<_, _>>(), expected);
+}
+
+/// Asserts that each export of the library is declared, once and alike, and nothing else.
+fn assert_declared(mut declared: Vec<String>, written: fn(&Export) -> String) {
+    let mut exported: Vec<String> = exports(CALLS).iter().map(written).collect();
+    assert!(exported.len() > 4, "the calls are found in the source");
+    declared.sort();
+    exported.sort();
+    assert_eq!(declared, exported, "left: declared, right: the source");
+}
+
+#[test]
+fn the_headers_declare_each_export_once() {
+    let lengths = defined(HEADER);
+    let mut declared = calls_in_c(HEADER, &lengths);
+    declared.extend(calls_in_c(MEASURE_HEADER, &lengths));
+    assert_declared(declared, Export::in_c);
+}
+
+#[test]
+fn rust_declares_each_export_once() {
+    assert_declared(calls_in_rust(RUST_CALLS, &defined(HEADER)), Export::in_rust);
+}
+
+/// What the header must say of a pointer: none may be null, and only what is read may overlap what is
+/// read.
+fn pointer_line((name, is_read): (&str, bool), all: &[(&str, bool)]) -> String {
+    let mut others = all.iter().filter(|other| other.1 && other.0 != name);
+    match others.next() {
+        _ if !is_read => format!("{name} written no nothing"),
+        Some((other, _)) => format!("{name} read no {other}"),
+        None => format!("{name} read no nothing"),
+    }
+}
+
+#[test]
+fn the_comment_of_a_call_has_a_line_for_each_pointer() {
+    for export in exports(CALLS) {
+        let pointers = export.pointers();
+        let expected = pointers.iter().map(|p| pointer_line(*p, &pointers));
+        let lines = pointer_lines(&[HEADER, MEASURE_HEADER], &export.name);
+        assert_eq!(lines, expected.collect::<Vec<_>>(), "{}", export.name);
+    }
+}
+
+#[test]
+fn the_point_record_has_the_fields_of_the_source() {
+    let declared = fields(HEADER, "frontier_point", &defined(HEADER));
+    assert_eq!(declared, fields_in_c(KINDS, "Point"));
+}
+
+#[test]
+fn one_version_is_told_everywhere() {
+    let names = ["VERSION_MAJOR", "VERSION_MINOR", "VERSION_PATCH"];
+    let header = defined(HEADER);
+    let expected = names.map(|name| header[name]);
+    let (code, specified) = (constants(CALLS), numbers(VERSION));
+    assert_eq!(
+        names.map(|name| code[name]),
+        expected,
+        "crates/frontier/src/lib.rt"
+    );
+    let specified = ["major", "minor", "patch"].map(|name| specified[name]);
+    assert_eq!(specified, expected, "crates/frontier/specs/Version.antt");
+    let dotted = expected.map(|number| number.to_string()).join(".");
+    assert_eq!(env!("CARGO_PKG_VERSION"), dotted, "host/Cargo.toml");
+    let changes = include_str!("../../../../CHANGELOG.md").lines();
+    let newest = changes.filter_map(|line| line.strip_prefix("## ")).next();
+    assert_eq!(newest, Some(&dotted[..]), "CHANGELOG.md");
+}
