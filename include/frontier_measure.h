@@ -25,6 +25,29 @@ uint8_t frontier_solve_by_passes(const uint8_t *problem, size_t problem_len, uin
                                  uint8_t *choices, size_t choices_len, uint32_t *work, size_t work_len, uint32_t *place,
                                  uint32_t *count);
 
+/* frontier_solve, and what its search took. The answer and what the buffers hold afterwards are those of
+ * frontier_solve. Of the measures nothing is promised but that all eight are written:
+ *
+ *   measures[0]       which form of the search answered: 1 or 2, and 0 where the problem was refused before a search
+ *   measures[1]       how many plans of the second form were made
+ *   measures[2]       how many of them failed their test, so that nothing was searched by them
+ *   measures[3]       how many passes were made by the others
+ *   measures[4]       how many partial choices these opened
+ *   measures[5 to 7]  0
+ *
+ *   pointer   valid for                         null  may overlap
+ *   problem   problem_len bytes, read           no    nothing
+ *   costs     costs_len numbers, written        no    nothing
+ *   choices   choices_len bytes, written        no    nothing
+ *   work      work_len numbers, written         no    nothing
+ *   place     one number, written               no    nothing
+ *   count     one number, written               no    nothing
+ *   measures  eight numbers, written            no    nothing
+ */
+uint8_t frontier_solve_measured(const uint8_t *problem, size_t problem_len, uint32_t *costs, size_t costs_len,
+                                uint8_t *choices, size_t choices_len, uint32_t *work, size_t work_len, uint32_t *place,
+                                uint32_t *count, uint64_t measures[8]);
+
 #ifdef __cplusplus
 }
 #endif

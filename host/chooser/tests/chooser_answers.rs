@@ -37,6 +37,16 @@ fn a_text_problem_is_answered_with_its_names() {
 }
 
 #[test]
+fn stats_are_told_beside_the_answer() {
+    let ended = run(&["solve", "examples/firmware.txt", "--stats"]).with(0);
+    assert_eq!(ended.text(), FIRMWARE);
+    let ended = ended.tells(&["the second form", "plans made: 1", "failed their test: 0"]);
+    assert!(ended.err.contains("passes: 1"), "{}", ended.err);
+    let refused = run_with(&["solve", "-", "--stats"], b"HD").with(1);
+    refused.tells(&["search: none", "cut short"]);
+}
+
+#[test]
 fn a_binary_problem_is_answered_with_numbers() {
     let due = "\
 2 points

@@ -40,9 +40,8 @@ pub struct Measures {
 }
 
 impl Measures {
-    /// From the numbers that the library writes.
-    fn new(numbers: [u64; 8]) -> Measures {
-        let [form, plans, failed, passes, opened, ..] = numbers;
+    /// From the numbers that the library writes, the first five of them.
+    pub fn new([form, plans, failed, passes, opened]: [u64; 5]) -> Measures {
         let form = match form {
             1 => Some(Form::First),
             2 => Some(Form::Second),
@@ -55,6 +54,16 @@ impl Measures {
             passes,
             opened,
         }
+    }
+
+    /// The numbers that they were made from.
+    pub fn numbers(&self) -> [u64; 5] {
+        let form = match self.form {
+            None => 0,
+            Some(Form::First) => 1,
+            Some(Form::Second) => 2,
+        };
+        [form, self.plans, self.failed, self.passes, self.opened]
     }
 }
 
@@ -89,5 +98,7 @@ pub fn solve_measured(
         place,
         count,
     };
-    (answer, Measures::new(measures))
+    let [form, plans, failed, passes, opened, ..] = measures;
+    let measures = Measures::new([form, plans, failed, passes, opened]);
+    (answer, measures)
 }

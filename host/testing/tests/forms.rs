@@ -6,7 +6,7 @@ use std::ops::Range;
 use chooser::junk::{junk, Rng};
 use frontier::lent::{solve_problem, Answer, SolveCall};
 use frontier::limits::{LEAST_WORK, MAX_OBJECTIVES, MAX_POINTS, MAX_VARIABLES};
-use frontier::measure::solve_by_passes;
+use frontier::measure::{solve_by_passes, solve_measured, Form};
 use testing::checker::case::ask_seeds;
 use testing::checker::law::agreement_law;
 use testing::random::{random_problem, Shape};
@@ -41,6 +41,31 @@ fn larger_problems(seeds: Range<u64>, each: impl Fn(&[u8], &str)) {
         let problem = random_problem(&mut Rng::new(seed), &shape);
         each(&problem.encode(), &format!("seed {seed}"));
     }
+}
+
+#[test]
+fn the_measuring_call_answers_as_the_brute_force_does() {
+    ask_seeds(320_000..330_000, |case| {
+        agreement_law(case, &|problem, costs, choices, work| {
+            solve_measured(problem, costs, choices, work).0
+        })
+    });
+}
+
+#[test]
+fn the_measuring_call_tells_what_the_search_took() {
+    larger_problems(0..100, |bytes, name| {
+        let mut lent = junk(&mut Rng::new(7), 256, 1_536, LEAST_WORK);
+        let (costs, choices, work) = (&mut lent.costs, &mut lent.choices, &mut lent.work);
+        let (_, measures) = solve_measured(bytes, costs, choices, work);
+        assert_eq!(measures.form, Some(Form::Second), "{name}");
+        assert_eq!((measures.plans, measures.failed), (1, 0), "{name}");
+        assert!(measures.passes >= 1, "{name}");
+        let (_, again) = solve_measured(bytes, costs, choices, work);
+        assert_eq!(measures, again, "{name}");
+        let (_, refused) = solve_measured(&bytes[1..], costs, choices, work);
+        assert_eq!(refused.numbers(), [0; 5], "{name}");
+    });
 }
 
 #[test]

@@ -216,7 +216,12 @@ fn print_report(options: &Options, columns: Columns, report: &Report) {
     };
     println!("{toulbar2}");
     println!("\n{}", report.table());
-    for line in [report.small_line(), report.sparse_line()].iter().flatten() {
+    let lines = [
+        report.searches_line(),
+        report.small_line(),
+        report.sparse_line(),
+    ];
+    for line in lines.iter().flatten() {
         println!("{line}");
     }
     for fault in &report.faults {

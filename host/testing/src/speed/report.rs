@@ -8,6 +8,7 @@ use super::table::table_text;
 use super::toulbar2::least_cost_listed;
 use crate::night::difference;
 use crate::reading::read_problem;
+use frontier::measure::{Form, Measures};
 
 /// Answers that take longer than this are counted.
 pub const SLOW: Duration = Duration::from_secs(2);
@@ -120,6 +121,27 @@ impl Ratio {
     }
 }
 
+/// What the chooser's searches took together.
+#[derive(Default)]
+struct Searches {
+    problems: usize,
+    /// So many of them were answered by the first form.
+    first_form: usize,
+    plans: u64,
+    failed: u64,
+    opened: u64,
+}
+
+impl Searches {
+    fn add(&mut self, measures: &Measures) {
+        self.problems += 1;
+        self.first_form += usize::from(measures.form == Some(Form::First));
+        self.plans += measures.plans;
+        self.failed += measures.failed;
+        self.opened += measures.opened;
+    }
+}
+
 /// The row of one family, or of all.
 #[derive(Clone, Default)]
 struct Row {
@@ -163,6 +185,7 @@ pub struct Report {
     rows: Vec<Row>,
     /// What the chooser took for small problems.
     small: Total,
+    searches: Searches,
     /// On how many sparse problems the chooser was no slower than toulbar2, and of how many.
     sparse: [usize; 2],
     compared: usize,
@@ -176,6 +199,7 @@ impl Report {
             columns,
             rows: Vec::new(),
             small: Total::default(),
+            searches: Searches::default(),
             sparse: [0; 2],
             compared: 0,
             faults: Vec::new(),
@@ -195,6 +219,10 @@ impl Report {
         });
         self.rows[number].add(runs);
         self.add_small(case, runs);
+        let chooser = runs.chooser.as_ref();
+        if let Some(measures) = chooser.and_then(|run| run.measures.as_ref()) {
+            self.searches.add(measures);
+        }
         self.add_sparse(case, runs);
         self.compare(case, runs);
     }
@@ -222,6 +250,20 @@ impl Report {
         let [faster, problems] = self.sparse;
         (problems > 0).then(|| {
             format!("{SPARSE}: the chooser is no slower than toulbar2's own preprocessing on {faster} of {problems} problems.")
+        })
+    }
+
+    /// A line about what the chooser's searches took, if it answered some problem.
+    pub fn searches_line(&self) -> Option<String> {
+        let Searches {
+            problems,
+            first_form,
+            plans,
+            failed,
+            opened,
+        } = self.searches;
+        (problems > 0).then(|| {
+            format!("Of {problems} problems that the chooser answered, {first_form} were answered by the first form; plans: {plans}, of which {failed} failed their test; opened partial choices: {opened}.")
         })
     }
 

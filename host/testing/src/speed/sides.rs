@@ -11,8 +11,8 @@ use chooser::clock::thread_time;
 use chooser::hex::{from_hex, to_hex};
 use chooser::junk::{fill_with_junk, junk_buffers};
 use chooser::worker::{self, serve, Worker};
-use frontier::lent::Buffers;
-use frontier::{lent, measure};
+use frontier::lent::{Answer, Buffers};
+use frontier::measure::{self, Measures};
 
 /// What one side made of a problem.
 pub struct Run {
@@ -21,6 +21,8 @@ pub struct Run {
     pub time: Duration,
     /// How many values were tried, where that is known.
     pub nodes: Option<u64>,
+    /// What the chooser's search took, where it answered by the plain call.
+    pub measures: Option<Measures>,
 }
 
 #[derive(Debug, PartialEq, Eq)]
@@ -89,10 +91,11 @@ impl ChooserSide {
     }
 
     pub fn run(&mut self, bytes: &[u8]) -> Result<Run, String> {
-        let run = |ending, time| Run {
+        let run = |ending, time, measures| Run {
             ending,
             time,
             nodes: None,
+            measures,
         };
         let asked = match self.calls.form {
             Form::First => BY_PASSES,
@@ -101,19 +104,19 @@ impl ChooserSide {
         let line = format!("{} {asked}{}", self.calls.work, to_hex(bytes));
         let ended = match self.worker.ask(&line, self.limit) {
             worker::Ending::Answered { text, .. } => {
-                let (time, text) = timed_answer(&text)?;
-                return Ok(run(Ending::Answered(text.to_string()), time));
+                let (time, measures, text) = timed_answer(&text)?;
+                return Ok(run(Ending::Answered(text.to_string()), time, measures));
             }
             worker::Ending::TooSlow => Ending::GivenUp,
             worker::Ending::Died => Ending::Died,
         };
         self.worker = Worker::start()?;
-        Ok(run(ended, self.limit))
+        Ok(run(ended, self.limit, None))
     }
 }
 
 /// What the worker does: for each line with the length of work memory and a problem in hex a line
-/// with the nanoseconds of the call, and then the list's text.
+/// with the nanoseconds of the call and what its search took, and then the list's text.
 pub fn serve_chooser() -> Result<(), String> {
     let mut lent = junk_buffers();
     serve(|line| {
@@ -124,21 +127,46 @@ pub fn serve_chooser() -> Result<(), String> {
         let by_passes = rest.strip_prefix(BY_PASSES);
         let hex = by_passes.unwrap_or(rest);
         let bytes = from_hex(hex).ok_or("standard input has a line that is no hex")?;
-        let (answer, time) = timed(&mut lent, |lent| match by_passes {
-            Some(_) => lent.lend(measure::solve_by_passes, &bytes),
-            None => lent.lend(lent::solve_problem, &bytes),
+        let ((answer, measures), time) = timed(&mut lent, |lent| match by_passes {
+            Some(_) => (lent.lend(measure::solve_by_passes, &bytes), None),
+            None => measured(lent, &bytes),
         });
         let text = answer_text(&lent, &bytes, answer);
-        Ok(format!("{}\n{text}", time.as_nanos()))
+        Ok(format!(
+            "{}{}\n{text}",
+            time.as_nanos(),
+            measures_text(measures)
+        ))
     })
 }
 
-/// The time and the text in a worker's answer.
-fn timed_answer(answer: &str) -> Result<(Duration, &str), String> {
+/// The plain call, and what its search took.
+fn measured(lent: &mut Buffers, bytes: &[u8]) -> (Answer, Option<Measures>) {
+    let Buffers {
+        costs,
+        choices,
+        work,
+    } = lent;
+    let (answer, measures) = measure::solve_measured(bytes, costs, choices, work);
+    (answer, Some(measures))
+}
+
+/// What a search took as a worker tells it, behind the time.
+fn measures_text(measures: Option<Measures>) -> String {
+    measures.map_or(String::new(), |measures| {
+        let numbers = measures.numbers();
+        numbers.iter().map(|number| format!(" {number}")).collect()
+    })
+}
+
+/// The time, what the search took, and the text in a worker's answer.
+fn timed_answer(answer: &str) -> Result<(Duration, Option<Measures>, &str), String> {
     let parts = answer.split_once('\n');
-    let timed = parts.and_then(|(time, text)| Some((time.parse().ok()?, text)));
-    let (time, text) = timed.ok_or("the second process answers without a time")?;
-    Ok((Duration::from_nanos(time), text))
+    let (line, text) = parts.ok_or("the second process answers without a time")?;
+    let numbers: Result<Vec<u64>, _> = line.split(' ').map(str::parse).collect();
+    let numbers = numbers.map_err(|_| "the second process answers without a time")?;
+    let measures = numbers[1..].try_into().ok().map(Measures::new);
+    Ok((Duration::from_nanos(numbers[0]), measures, text))
 }
 
 /// Plain Rust with these settings, each problem with this limit.
@@ -177,6 +205,7 @@ impl PlainSide {
             ending: text.map_or(Ending::GivenUp, Ending::Answered),
             time,
             nodes: Some(outcome.nodes),
+            measures: None,
         }
     }
 }

@@ -130,6 +130,7 @@ fn run_on_file(file: &PathBuf, limit: Duration) -> Result<(Run, Option<Duration>
         ending,
         time: time.min(limit),
         nodes: None,
+        measures: None,
     };
     Ok((run, own_time_printed(&printed)))
 }
