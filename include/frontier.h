@@ -32,6 +32,11 @@
 #include <stddef.h>
 #include <stdint.h>
 
+/* the version: the one place where it stands */
+#define FRONTIER_VERSION_MAJOR 1
+#define FRONTIER_VERSION_MINOR 0
+#define FRONTIER_VERSION_PATCH 0
+
 /* limits of a problem */
 #define FRONTIER_MAX_BYTES 60000
 #define FRONTIER_MAX_VARIABLES 24
