@@ -50,7 +50,7 @@ check:
 
 # builds nothing, so that root can install what somebody else has built and tried
 install:
-	@DESTDIR='$(DESTDIR)' PREFIX='$(PREFIX)' bash packaging/install
+	@CHOOSER='$(CHOOSER)' DESTDIR='$(DESTDIR)' PREFIX='$(PREFIX)' bash packaging/install
 
 disc: all
 	@bash packaging/disc

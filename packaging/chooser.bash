@@ -7,7 +7,7 @@ _chooser_subcommands() { "$1" help 2>/dev/null | sed -n -e '/^Example:/q' -e 's/
 
 # The options of a subcommand: the words of its usage that begin with a dash.
 _chooser_options() { # COMMAND SUBCOMMAND
-    "$1" help "$2" 2>/dev/null | sed -e '/^$/q' | grep -o -e '-[-a-z][a-z]*' | grep -v -e '^-[a-z][a-z]'
+    "$1" help "$2" 2>/dev/null | sed -e '/^$/q' | grep -o -e '--[a-z][-a-z0-9]*' -e '-[a-z]\>'
 }
 
 _chooser() {
