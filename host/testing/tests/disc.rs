@@ -25,7 +25,7 @@ const OTHER_SETTINGS: [(&str, &str); 4] = [
     ("LC_ALL", "en_US.UTF-8"),
     ("LANG", "de_DE.UTF-8"),
     ("TZ", "Asia/Tokyo"),
-    ("TAR_OPTIONS", "--owner=7 --mode=0640"),
+    ("TAR_OPTIONS", "--exclude=*.md"),
 ];
 
 /// Runs a command line in a folder, with these settings.
@@ -57,13 +57,13 @@ fn script(name: &str) -> String {
     format!("bash '{}/packaging/{name}'", root.display())
 }
 
-/// Writes the files of the small disc into a new folder `tree`; `extra` is added to each mode.
-fn write_tree(folder: &Path, extra: u32) {
+/// Writes the files of the small disc into a new folder `tree`, without the bits of `umask` in their modes.
+fn write_tree(folder: &Path, umask: u32) {
     for (path, text, mode) in FILES {
         let file = folder.join("tree").join(path);
         fs::create_dir_all(file.parent().expect("a folder")).expect("a folder can be made");
         fs::write(&file, text).expect("a file can be written");
-        let mode = fs::Permissions::from_mode(mode | extra);
+        let mode = fs::Permissions::from_mode(mode & !umask);
         fs::set_permissions(&file, mode).expect("a mode can be set");
     }
 }
@@ -93,7 +93,7 @@ fn two_folders_give_the_same_bytes() {
     let one = packed("disc_one");
     let other = folder("disc_other").join("in/a/deeper/folder");
     fs::create_dir_all(&other).expect("a folder can be made");
-    write_tree(&other, 0o022);
+    write_tree(&other, 0o077);
     must(&other, "find tree -exec touch -d 2001-02-03 {} +", &[]);
     let line = format!("umask 077 && {}", pack_line());
     must(&other, &line, &OTHER_SETTINGS);
