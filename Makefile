@@ -22,8 +22,8 @@ CHOOSER = host/target/release/chooser
 # what rt proves; it looks itself which of it has changed
 PROVED_FILES := crates.txt $(shell find crates -type f -not -path '*/must-fail/*')
 
-# what is set for other work must not get into the binaries
-unexport $(filter RUSTFLAGS RUSTC_% CARGO_ENCODED_% CARGO_BUILD_% CARGO_PROFILE_% CARGO_TARGET_%,$(.VARIABLES))
+# what is set for other work must not get into the binaries, nor these settings into another make
+unexport MAKEFLAGS $(filter RUSTFLAGS RUSTC_% CARGO_ENCODED_% CARGO_BUILD_% CARGO_PROFILE_% CARGO_TARGET_%,$(.VARIABLES))
 
 .PHONY: all demo check install disc check-disc clean chooser
 .NOTPARALLEL: # rt and cargo use all processors by themselves

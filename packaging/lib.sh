@@ -66,7 +66,7 @@ build_disc() { # COMMIT FOLDER
         rm -rf "$2/target/staticlib" "$2/target/bin" "$2/target/stamp/list" "$2/target/disc"
     fi
     say "building commit $1 in $2; without proofs to start from it takes minutes"
-    make -C "$2" disc >"$log" 2>&1 </dev/null || {
+    env -u MAKEFLAGS make -C "$2" disc >"$log" 2>&1 </dev/null || {
         tail -n 20 "$log"
         fail "'make disc' failed in a clone of commit $1; see above"
     }

@@ -4,9 +4,9 @@
 use std::fs;
 use std::os::unix::fs::PermissionsExt;
 use std::path::{Path, PathBuf};
-use std::process::{Command, Output};
 
 use testing::chooser_run::{folder, root};
+use testing::scripts::{bash, must, printed};
 
 /// The files of a small disc: their paths, texts and modes. Their order differs between languages.
 const FILES: [(&str, &str, u32); 5] = [
@@ -27,29 +27,6 @@ const OTHER_SETTINGS: [(&str, &str); 4] = [
     ("TZ", "Asia/Tokyo"),
     ("TAR_OPTIONS", "--exclude=*.md"),
 ];
-
-/// Runs a command line in a folder, with these settings.
-fn bash(folder: &Path, line: &str, settings: &[(&str, &str)]) -> Output {
-    Command::new("bash")
-        .args(["-c", line])
-        .envs(settings.iter().copied())
-        .current_dir(folder)
-        .output()
-        .expect("bash starts")
-}
-
-/// All that a run printed.
-fn printed(output: &Output) -> String {
-    let [out, err] = [&output.stdout, &output.stderr].map(|bytes| String::from_utf8_lossy(bytes));
-    format!("{out}{err}")
-}
-
-/// Runs a command line that must end well.
-fn must(folder: &Path, line: &str, settings: &[(&str, &str)]) -> String {
-    let output = bash(folder, line, settings);
-    assert!(output.status.success(), "{line}: {}", printed(&output));
-    printed(&output)
-}
 
 /// A script of the folder `packaging/`.
 fn script(name: &str) -> String {
