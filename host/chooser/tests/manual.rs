@@ -42,6 +42,10 @@ fn one_space(text: &str) -> String {
 #[test]
 fn the_page_of_chooser_has_every_word_of_the_helps() {
     let page = fs::read_to_string(page("chooser.1", "words")).expect("the page");
+    assert!(
+        !page.contains("--"),
+        "roff would print hyphens, which no shell takes"
+    );
     let page = plain(&page);
     let mut helps = vec![run(&["help"]).with(0).text().to_string()];
     for name in subcommands() {
