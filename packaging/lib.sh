@@ -43,6 +43,19 @@ need_gnu_tar() {
         fail "'tar' is not GNU tar, which alone can fix order, times and owners; install GNU tar and put it on the PATH as 'tar'"
 }
 
+# The tools that have to be the same for the same bytes, as lines of a MANIFEST.
+print_tools() {
+    print_tool kit rt version && print_tool rustc rustc --version && print_tool cargo cargo --version &&
+        print_tool cc cc --version
+}
+
+print_tool() { # NAME COMMAND...
+    local told
+    told=$("${@:2}" | head -n 1)
+    [ -n "$told" ] || fail "'${*:2}' tells no version; put $2 on the PATH"
+    printf '%s: %s\n' "$1" "$told"
+}
+
 # The files of a folder with their digests and lengths, in the order of their names: the list of a MANIFEST.
 list_files() { # FOLDER
     (

@@ -204,6 +204,22 @@ fn a_byte_changed_in_the_archive_is_found_twice() {
 }
 
 #[test]
+fn a_disc_without_a_commit_cannot_be_built_again() {
+    let folder = packed("disc_no_commit");
+    let output = bash(
+        &folder,
+        &format!("{} out/small.tar", script("check-disc")),
+        &[],
+    );
+    let told = printed(&output);
+    assert!(!output.status.success(), "{told}");
+    assert!(
+        told.contains("the MANIFEST names no commit, but 'none'"),
+        "{told}"
+    );
+}
+
+#[test]
 fn what_is_no_disc_is_told() {
     let folder = folder("disc_none");
     let disc = folder.join("small.tar");
@@ -223,8 +239,8 @@ fn what_is_no_disc_is_told() {
 fn small_repository(name: &str) -> PathBuf {
     let folder = folder(name);
     write_tree(&folder, 0);
-    let makefile = "disc:\n\t@printf 'name: small\\ncommit: %s\\n' \"$$(git rev-parse HEAD)\" | \
-                    bash packaging/pack tree small 0 target/disc\n";
+    let makefile = "disc:\n\t@printf 'name: small\\ncommit: %s\\nkit: another kit\\n' \
+                    \"$$(git rev-parse HEAD)\" | bash packaging/pack tree small 0 target/disc\n";
     fs::write(folder.join("Makefile"), makefile).expect("a file can be written");
     fs::write(folder.join(".gitignore"), "target/\n").expect("a file can be written");
     let scripts = root().canonicalize().expect("the root");
@@ -247,10 +263,12 @@ fn a_disc_is_held_to_what_its_commit_gives() {
     let check = "bash packaging/check-disc target/disc/small.tar";
     must(&folder, "make disc", &[]);
     let told = must(&folder, check, &[]);
-    assert!(
-        told.contains("gives the same disc, byte for byte"),
-        "{told}"
-    );
+    for part in [
+        "gives the same disc, byte for byte",
+        "and the disc was made with 'another kit'",
+    ] {
+        assert!(told.contains(part), "{told}");
+    }
     // with digests of its own, and yet not what the commit gives
     must(
         &folder,
