@@ -32,10 +32,11 @@
 #include <stddef.h>
 #include <stdint.h>
 
-/* the version: the one place where it stands */
+/* The version of this header, and in one number: 1002003 is 1.2.3. frontier_version gives that of the library. */
 #define FRONTIER_VERSION_MAJOR 1
 #define FRONTIER_VERSION_MINOR 0
 #define FRONTIER_VERSION_PATCH 0
+#define FRONTIER_VERSION (FRONTIER_VERSION_MAJOR * 1000000 + FRONTIER_VERSION_MINOR * 1000 + FRONTIER_VERSION_PATCH)
 
 /* limits of a problem */
 #define FRONTIER_MAX_BYTES 60000
