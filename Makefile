@@ -1,4 +1,5 @@
-# Builds, tests, installs and packs Frontier; the work is done by rt, cargo and the scripts in packaging/.
+# Builds, tests, installs and packs Frontier; the work is done by rt, cargo and the scripts in packaging/. The lines of
+# this comment that begin with 'make' are what 'make help' prints.
 #
 #   make            prove the library, and build the programs list and chooser
 #   make demo       prove the library, build chooser, and solve the example
@@ -25,7 +26,7 @@ PROVED_FILES := crates.txt $(shell find crates -type f -not -path '*/must-fail/*
 # what is set for other work must not get into the binaries, nor these settings into another make
 unexport MAKEFLAGS $(filter RUSTFLAGS RUSTC_% CARGO_ENCODED_% CARGO_BUILD_% CARGO_PROFILE_% CARGO_TARGET_%,$(.VARIABLES))
 
-.PHONY: all demo check install disc check-disc clean chooser
+.PHONY: all chooser demo check install disc check-disc clean help
 .NOTPARALLEL: # rt and cargo use all processors by themselves
 
 all: $(LIBRARY) $(LIST) chooser
@@ -60,3 +61,6 @@ check-disc:
 
 clean:
 	rm -rf target host/target
+
+help:
+	@sed -n 's/^#   //p' Makefile
