@@ -2,14 +2,20 @@
 
 use std::process::Command;
 
-/// Tools that one test each needs and that may be missing: the cfg that the test asks for, and
+/// Tools that a test needs and that may be missing: the cfg that the test asks for, and
 /// commands of which one ends well where the tool is installed.
-const TOOLS: [(&str, &[&[&str]]); 3] = [
+const TOOLS: [(&str, &[&[&str]]); 6] = [
     ("has_cxx", &[&["c++", "--version"]]),
+    (
+        "has_git_and_make",
+        &[&["bash", "-c", "git --version && make --version"]],
+    ),
+    ("has_groff", &[&["groff", "--version"]]),
     (
         "has_libfuzzer",
         &[&["bash", "../../.ci/libfuzzer", "--installed"]],
     ),
+    ("has_pkg_config", &[&["pkg-config", "--version"]]),
     (
         "has_renderer",
         &[

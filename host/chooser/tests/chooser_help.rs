@@ -4,18 +4,7 @@ use std::env;
 use std::os::unix::fs::symlink;
 use std::process::Command;
 
-use testing::chooser_run::{chooser, folder, root, run};
-
-/// The names of all subcommands, from the overview.
-fn subcommands() -> Vec<String> {
-    let overview = run(&["help"]).with(0).text().to_string();
-    let (listed, _) = overview
-        .split_once("\n\n'chooser help")
-        .expect("the list ends");
-    let (_, listed) = listed.rsplit_once("\n\n").expect("the list begins");
-    let name = |line: &str| line.split_whitespace().next().map(String::from);
-    listed.lines().filter_map(name).collect()
-}
+use testing::chooser_run::{chooser, folder, root, run, subcommands};
 
 /// All helps: that of the command and those of the subcommands.
 fn helps() -> Vec<String> {

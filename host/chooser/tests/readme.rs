@@ -9,6 +9,8 @@ use std::process::{Command, Output};
 use testing::chooser_run::{chooser, folder, root};
 
 const README: &str = include_str!("../../../README.md");
+const MAKEFILE: &str = include_str!("../../../Makefile");
+const VERSION: &str = env!("CARGO_PKG_VERSION");
 
 /// A block between fences: the words behind the first fence, and the text.
 struct Block {
@@ -67,13 +69,26 @@ fn every_short_command_runs_and_prints_what_stands_below() {
         }
         ran += 1;
     }
-    assert_eq!(ran, 7, "another number of commands: is each block marked?");
+    assert_eq!(ran, 6, "another number of commands: is each block marked?");
     assert!(folder.join("firmware.svg").is_file());
     let [packed, example] = [
         folder.join("firmware.bin"),
         root().join("examples/firmware.bin"),
     ];
     assert_eq!(fs::read(packed).unwrap(), fs::read(example).unwrap());
+}
+
+#[test]
+#[cfg_attr(not(has_git_and_make), ignore = "git or make is not installed")]
+fn the_demo_prints_what_stands_below() {
+    let blocks = blocks(README);
+    let demo = blocks.iter().position(|block| block.text == "make demo\n");
+    let below = &blocks[demo.expect("the demo") + 1];
+    // the library was proved before this test was built, and is not proved again here
+    let output = run(&root(), "make -o target/staticlib/libfrontier.a demo");
+    let complaint = String::from_utf8_lossy(&output.stderr);
+    assert!(output.status.success(), "{complaint}");
+    assert_eq!(String::from_utf8_lossy(&output.stdout), below.text);
 }
 
 #[test]
@@ -84,19 +99,28 @@ fn what_the_long_commands_name_is_there() {
         .map(|block| block.text)
         .collect();
     let expected = [
-        "rt staticlib frontier && cargo build --release --offline --manifest-path host/Cargo.toml\n",
+        "make demo\n",
+        "make check\n",
         "host/target/release/chooser batch host/data/nightly --limit 2\n",
+        "make && make install PREFIX=$HOME/frontier\n",
+        "cc examples/link.c $(PKG_CONFIG_PATH=$HOME/frontier/lib/pkgconfig pkg-config --cflags --libs \
+         frontier) -o link\n",
+        "make disc\n",
+        &format!("make check-disc DISC=target/disc/frontier-{VERSION}-x86_64-linux.tar\n"),
         "rt check list && target/bin/list < examples/colours.bin\n",
-        "bash .ci/run\n",
     ];
     assert_eq!(long, expected);
     for path in [
         "host/Cargo.toml",
         "host/data/nightly",
         "examples/colours.bin",
-        ".ci/run",
+        "examples/link.c",
     ] {
         assert!(root().join(path).exists(), "{path}");
+    }
+    for target in ["demo:", "check:", "install:", "disc:", "check-disc:"] {
+        let found = MAKEFILE.lines().any(|line| line.starts_with(target));
+        assert!(found, "{target}");
     }
     let crates = fs::read_to_string(root().join("crates.txt")).expect("crates.txt");
     for name in ["frontier:", "list:"] {

@@ -21,6 +21,7 @@ pub mod plain;
 pub mod point_records;
 pub mod random;
 pub mod reading;
+pub mod scripts;
 pub mod speed;
 pub mod stored;
 pub mod xml;

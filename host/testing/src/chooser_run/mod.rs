@@ -83,6 +83,17 @@ pub fn run<S: AsRef<OsStr>>(words: &[S]) -> Ended {
     run_with(words, &[])
 }
 
+/// The names of all subcommands, from the overview.
+pub fn subcommands() -> Vec<String> {
+    let overview = run(&["help"]).with(0).text().to_string();
+    let (listed, _) = overview
+        .split_once("\n\n'chooser help")
+        .expect("the list ends");
+    let (_, listed) = listed.rsplit_once("\n\n").expect("the list begins");
+    let name = |line: &str| line.split_whitespace().next().map(String::from);
+    listed.lines().filter_map(name).collect()
+}
+
 /// The repository's root.
 pub fn root() -> PathBuf {
     Path::new(env!("CARGO_MANIFEST_DIR")).join("../..")
