@@ -74,7 +74,7 @@ fn the_bytes_are_those_of_the_example() {
 }
 
 #[test]
-fn the_limits_are_those_of_document_01() {
+fn the_limits_are_those_of_the_library() {
     let rows = [
         ("modules, n", "1", MAX_VARIABLES),
         ("costs, p", "1", MAX_OBJECTIVES),
