@@ -3,7 +3,7 @@ use mathlib.Core.List.{List, [], _∷_}
 use Prim.Native.Nat.{ℕ}
 use Rattle.model.proofs.ExampleBytes.{table, problem}
 
--- Document 01's problems, by their ceilings.
+-- The problems of the reference, section 12, by their ceilings.
 abbrev pub colours : ℕ → ℕ → List ℕ
 colours c e =
     problem (c ∷ e ∷ []) (2 ∷ 2 ∷ 2 ∷ []) (
@@ -93,7 +93,7 @@ interleaved =
     ∷ table 1 (1 ∷ []) (0 ∷ 3 ∷ 1 ∷ [])
     ∷ [])
 
--- source document 000, examples 2 to 4
+-- four objects, each taken or left; forbidden pairs, and three objectives
 abbrev pub objects : List ℕ
 objects =
     problem (13 ∷ 100 ∷ 100 ∷ []) (2 ∷ 2 ∷ 2 ∷ 2 ∷ []) (

@@ -82,7 +82,7 @@ lower-sound q low l ps f pre h d k r s =
     (subst (AtMost (low pre)) (sym (s .0 .0 .exact)) (l .below pre (r .choice) (s .1)))
     h d (held-earlier q ps pre h k (r .choice) (s .1 .1))
 
--- the bound of document 01 is such a vector
+-- the bound of a prefix (reference, section 9) is such a vector
 pub bound-lower : (q : Problem) → Lower q (boundOf q)
 bound-lower q = record {
   width = λ pre y t. bound-length q pre;

@@ -1,4 +1,4 @@
--- The one table of examples, from bytes, under one statement: document 01's starred cases first, then rows that tell
+-- The one table of examples, from bytes, under one statement: the reference's starred cases first, then rows that tell
 -- the definitions from near ones.
 use mathlib.Core.List.{List, _++_}
 use Rattle.model.specs.Basics.{All}

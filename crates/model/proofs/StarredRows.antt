@@ -1,4 +1,4 @@
--- The starred cases of document 01, in its order.
+-- The starred cases of the reference, section 12, in its order.
 use mathlib.Core.Path.{refl}
 use mathlib.Core.List.{List, [], _∷_}
 use Rattle.model.specs.Basics.{All}

@@ -26,7 +26,7 @@ unfoldable pub divided : ℕ → ℕ → ℕ
 divided a zero = 0
 divided a (suc b) = a / suc b
 
--- "room" is document 01's term: how many points the cost and choice buffers hold, at most 64
+-- "room" (reference, section 7): how many points the cost and choice buffers hold, at most 64
 unfoldable pub roomOf : Problem → List ℕ → List ℕ → ℕ
 roomOf q costs choices =
     min (divided (length costs) (q .objectives)) (min (divided (length choices) (length (q .domains))) maxPoints)

@@ -1,5 +1,5 @@
 -- The cut: sides, halves, and the list that is made from the halves' frontier lists.
--- "Side" and "half" are document 01's terms.
+-- The reference, section 10, says it in words.
 use mathlib.Core.Bool.{Bool, true, false, _&&_, _||_, not}
 use mathlib.Core.List.{List, [], _∷_, _++_}
 use Prim.Native.Nat.{ℕ, zero, suc, _+_}
@@ -75,7 +75,7 @@ half k q ss =
       tables = halfTables k ss (q .tables);
     }
 
--- "merged choice" is document 01's term: each variable has the value of its half's choice
+-- "merged choice" (reference, section 10): each variable has the value of its half's choice
 unfoldable pub merged : List ℕ → List ℕ → List ℕ → List ℕ
 merged [] xs ys = []
 merged (zero ∷ ss) [] ys = []

@@ -9,7 +9,7 @@ use Rattle.model.specs.Problems.{Problem}
 use Rattle.model.specs.Vectors.{under, atMost, same, beats, earlier}
 use Rattle.model.specs.Costs.{isChoice, costsOf}
 
--- "consistent" is document 01's term: each cost strictly below its ceiling
+-- "consistent" (reference, section 2): each cost strictly below its ceiling
 unfoldable pub consistent : Problem → List ℕ → Bool
 consistent q xs = under (costsOf q xs) (q .ceilings)
 

@@ -1,4 +1,4 @@
--- What a reader must believe: document 01 as definitions, with no proof among them. Read them in this order.
+-- What a reader must believe: docs/REFERENCE.md as definitions, with no proof among them. Read them in this order.
 pub mod Basics
 pub mod Limits
 pub mod Refusals

@@ -1,4 +1,4 @@
--- The limits of document 01, each named after the kind that it limits.
+-- The limits (reference, section 5), each named after the kind that it limits.
 use Prim.Native.Nat.{ℕ}
 
 -- a problem: bytes, variables (n), objectives (p), cost records (r)

@@ -57,7 +57,7 @@ pub record TableRules (p : ℕ) (ds : List ℕ) (t : Table) : Type 0 where
   pub entries : length (t .costs) ≡ sizeOf ds (t .scope)
   pub words : All Word (t .costs)
 
--- the record rules: what document 01 asks of a problem, but for the length of its bytes
+-- the record rules: what the reference, sections 4 and 5, asks of a problem, but for the length of its bytes
 pub record RecordRules (q : Problem) : Type 0 where
   pub some-variable : 1 ≤ length (q .domains)
   pub few-variables : length (q .domains) ≤ maxVariables

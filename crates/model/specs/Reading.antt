@@ -1,4 +1,4 @@
--- Reading bytes as a problem: numbers 1 to 11 with their places, in document 01's order,
+-- Reading bytes as a problem: numbers 1 to 11 with their places, in the order of the reference, section 6,
 -- and the problem that the records hold.
 use mathlib.Core.Bool.{Bool, _&&_, _||_, not}
 use mathlib.Core.List.{List, [], _∷_}

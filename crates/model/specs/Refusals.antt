@@ -42,7 +42,7 @@ workShort = 12
 abbrev pub badSides : ℕ
 badSides = 13
 
--- "linked" is document 01's term for a record whose scope has both sides
+-- "linked" (reference, section 10) is a record whose scope has both sides
 abbrev pub linked : ℕ
 linked = 14
 

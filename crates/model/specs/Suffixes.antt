@@ -1,4 +1,4 @@
--- The problem of the last variables in one objective (document 01 calls it a Russian doll),
+-- The problem of the last variables in one objective (in the field a Russian doll),
 -- and what its least cost adds to a bound.
 -- Nobody has to believe it: proofs/Suffixes.antt shows that the sharper bound is still below every completion's cost.
 use mathlib.Core.Bool.{Bool, _&&_}

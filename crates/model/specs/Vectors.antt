@@ -10,7 +10,7 @@ under [] cs = true
 under (x ∷ xs) [] = true
 under (x ∷ xs) (c ∷ cs) = ltb x c && under xs cs
 
--- at most as large everywhere: document 01's "matches or beats"
+-- at most as large everywhere: "matches or beats" (reference, section 2)
 unfoldable pub atMost : List ℕ → List ℕ → Bool
 atMost [] ys = true
 atMost (x ∷ xs) [] = true
@@ -22,7 +22,7 @@ same [] (y ∷ ys) = false
 same (x ∷ xs) [] = false
 same (x ∷ xs) (y ∷ ys) = eqb x y && same xs ys
 
--- "beats" is document 01's term for dominates: at most as large everywhere, and different
+-- "beats" (reference, section 2), which others call "dominates": at most as large everywhere, and different
 abbrev pub beats : List ℕ → List ℕ → Bool
 beats xs ys = atMost xs ys && not (same xs ys)
 

@@ -1,4 +1,4 @@
-// The model: document 01 as definitions (specs/), the theorems about them (proofs/),
+// The model: the rules of docs/REFERENCE.md as definitions (specs/), the theorems about them (proofs/),
 // and here the kinds with their limits.
 ghost use mathlib.Core.Path.{_≡_};
 ghost use mathlib.Core.Bool.{not};

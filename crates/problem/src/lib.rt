@@ -406,7 +406,7 @@ fn next_place(s: &[u8], at: usize, sizes: &[u8]) -> usize
     at + t.length
 }
 
-// "The reader" is document 01's term: a problem's bytes, and its place in them. The functions over it are proved by
+// The reader: a problem's bytes, and its place in them. The functions over it are proved by
 // hand; each takes it apart and leaves the work to a function on a plain slice.
 pub struct Reader<'a> {
     pub bytes: &'a [u8],

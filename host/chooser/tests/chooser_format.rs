@@ -3,13 +3,9 @@
 use std::collections::BTreeSet;
 use std::fs;
 
-use chooser::hex::from_hex;
-use frontier::limits::{
-    MAX_ARITY, MAX_BYTES, MAX_DOMAIN, MAX_OBJECTIVES, MAX_TABLES, MAX_VARIABLES,
-};
 use frontier::{Problem, Table, FORBIDDEN};
 use testing::chooser_run::json::{parse, Value};
-use testing::chooser_run::{folder, root, run, run_with};
+use testing::chooser_run::{folder, run, run_with};
 use testing::reading::read_problem;
 
 const FORMAT: &str = include_str!("../../../docs/FORMAT.md");
@@ -57,39 +53,6 @@ fn the_fault_is_told_in_these_words() {
         "",
     );
     assert_eq!(short, block("modules.txt:").trim_end());
-}
-
-#[test]
-fn the_bytes_are_those_of_the_example() {
-    let told: String = block("4844")
-        .lines()
-        .flat_map(|line| line.split("     ").next())
-        .map(|line| line.split("  its").next().unwrap_or(line))
-        .flat_map(|line| line.chars().filter(char::is_ascii_hexdigit))
-        .collect();
-    let bytes = from_hex(&told).expect("they are hexadecimal digits");
-    let colours = fs::read(root().join("examples/colours.bin")).expect("it is there");
-    assert_eq!(bytes, colours[..bytes.len()]);
-    assert_eq!(bytes.len(), 14 + 9 + 22);
-}
-
-#[test]
-fn the_limits_are_those_of_document_01() {
-    let rows = [
-        ("modules, n", "1", MAX_VARIABLES),
-        ("costs, p", "1", MAX_OBJECTIVES),
-        ("tables, r", "0", MAX_TABLES),
-        ("variants of a module, d", "1", MAX_DOMAIN),
-        ("modules of a table", "0", MAX_ARITY),
-        ("a ceiling or an entry", "0", u32::MAX as usize),
-        ("bytes in records", "", MAX_BYTES),
-    ];
-    let plain = FORMAT.replace(',', "");
-    for (what, least, most) in rows {
-        let row =
-            format!("| {} | {least} | {most} |\n", what.replace(',', "")).replace("|  |", "| |");
-        assert!(plain.contains(&row), "{row}");
-    }
 }
 
 /// The names of an object's members.

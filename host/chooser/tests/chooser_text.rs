@@ -375,7 +375,7 @@ fn sized(costs: usize, modules: usize, variants: usize, tables: usize) -> String
 }
 
 #[test]
-fn every_limit_of_document_01_is_kept_and_told() {
+fn every_limit_is_kept_and_told() {
     let packed = run_with(&["pack", "-"], sized(4, 24, 8, 256).as_bytes()).with(0);
     run_with(&["bound", "-", "-"], &packed.out).with(0);
     assert_fault(&sized(5, 1, 1, 0), 1, 23, "one cost more than 4");

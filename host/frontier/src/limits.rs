@@ -1,4 +1,4 @@
-//! The limits of document 01, each with one name.
+//! The limits (reference, section 5), each with one name.
 
 /// n, the number of variables, is 1 to this. A point record has this many choices.
 pub const MAX_VARIABLES: usize = 24;

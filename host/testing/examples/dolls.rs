@@ -1,4 +1,4 @@
-//! Measures what frontier lists of the problems of the last variables would take: document 01 calls
+//! Measures what frontier lists of the problems of the last variables would take: the field calls
 //! these problems Russian dolls. For each of the night's problems it counts, from the last variable
 //! to the second, the points of the list, and how many 32-bit numbers their costs would fill.
 //! See `docs/DECISIONS.md`, entry 59.

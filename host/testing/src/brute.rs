@@ -11,7 +11,7 @@ use frontier::limits::{LEAST_WORK, MAX_OBJECTIVES, MAX_POINTS, MAX_VARIABLES};
 use frontier::{Problem, Refusal, Table};
 
 /// A frontier list: cost vectors in rising order, objective 0 compared first, each with its
-/// earliest choice. The order of the map's keys is the order document 01 asks for.
+/// earliest choice. The order of the map's keys is that of the reference, section 3.
 pub(crate) type FrontierList = BTreeMap<Vec<u64>, Vec<u8>>;
 
 /// Whether each cost is strictly below its ceiling.
@@ -19,14 +19,13 @@ pub(crate) fn is_consistent(costs: &[u64], ceilings: &[u32]) -> bool {
     costs.iter().zip(ceilings).all(|(c, &t)| *c < u64::from(t))
 }
 
-/// Whether `one` matches or beats `other`: document 01's word for "at most as large in each
-/// objective", which source document 001 calls dominating and which holds of a vector and itself.
+/// Whether `one` matches or beats `other`: it is at most as large in each objective, which holds
+/// of a vector and itself too.
 fn matches_or_beats(one: &[u64], other: &[u64]) -> bool {
     one.iter().zip(other).all(|(a, b)| a <= b)
 }
 
-/// Whether `one` beats `other`: at most as large in each objective, and the two differ. This is
-/// the strict relation of source document 000.
+/// Whether `one` beats `other`: at most as large in each objective, and the two differ.
 fn beats(one: &[u64], other: &[u64]) -> bool {
     matches_or_beats(one, other) && one != other
 }
@@ -104,7 +103,7 @@ pub(crate) fn read_with_work(bytes: &[u8], work: &[u32]) -> Result<Reading, Refu
     Ok(reading)
 }
 
-/// Room, as document 01 calls it: how many points the lent flat buffers can take, at most 64.
+/// Room (reference, section 7): how many points the lent flat buffers can take, at most 64.
 fn flat_room(problem: &Problem, costs: &[u32], choices: &[u8]) -> usize {
     let by_costs = costs.len() / problem.objectives();
     let by_choices = choices.len() / problem.variables();

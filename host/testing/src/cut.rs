@@ -8,14 +8,14 @@ use frontier::lent::Halves;
 use frontier::limits::MAX_POINTS;
 use frontier::{Problem, Refusal, Table};
 
-/// A half, as document 01 calls it: the variables of one side in order, and their frontier list.
+/// A half (reference, section 10): the variables of one side in order, and their frontier list.
 struct Half {
     variables: Vec<usize>,
     list: FrontierList,
 }
 
-/// The side of a record: the one side, as document 01 calls the 0 or 1 of each variable in the
-/// side list, that its scope has. Arity 0 belongs to half 0; `None` if the scope has both sides.
+/// The side of a record: the one side (the 0 or 1 that the side list has for a variable) that its
+/// scope has. Arity 0 belongs to half 0; `None` if the scope has both sides.
 fn table_side(table: &Table, sides: &[u8]) -> Option<u8> {
     let side_of = |v: &u8| sides[usize::from(*v)];
     let side = table.scope.first().map_or(0, side_of);

@@ -1,4 +1,4 @@
-//! The named example problems: those of document 01, and further ones from the source documents.
+//! The named example problems: those of the reference, section 12, and further ones.
 
 use frontier::limits::MAX_DOMAIN;
 use frontier::{Problem, Table, FORBIDDEN};
@@ -12,8 +12,8 @@ fn binary(ceilings: &[u32], variables: usize, tables: Vec<Table>) -> Problem {
     }
 }
 
-/// Colours (source document 003, example 2, weights times ten): three variables, objective 0
-/// charges equal values and objective 1 unequal ones. Document 01 gives it ceilings 100 and 100.
+/// Colours: three variables, objective 0 charges equal values and objective 1 unequal ones. The
+/// reference, section 12, has it with ceilings 100 and 100.
 pub fn colours(ceilings: [u32; 2]) -> Problem {
     let pairs = [[0, 1], [0, 2], [1, 2]];
     let equal = pairs.iter().zip([1, 3, 6]);
@@ -55,8 +55,8 @@ pub fn three(ceilings: [u32; 2]) -> Problem {
     ternary(ceilings, [0, 1, 2], [2, 1, 0])
 }
 
-/// The three degrees (-3, 4), (-6, 6) and (-1, 1) of source document 004, section 1, as costs:
-/// days taken, and gain missed against the greatest.
+/// Three offers of (days taken, gain), (3, 4), (6, 6) and (1, 1), as costs: days taken, and gain
+/// missed against the greatest.
 pub fn days_and_gain(ceilings: [u32; 2]) -> Problem {
     ternary(ceilings, [3, 6, 1], [2, 0, 5])
 }
@@ -89,7 +89,7 @@ pub fn pair_with_constant(ceilings: [u32; 2]) -> Problem {
     problem
 }
 
-/// Objects (source document 000, examples 2 to 4): four variables, three objectives.
+/// Objects, each taken or left: four variables, three objectives, and pairs that are forbidden.
 pub fn objects(ceilings: [u32; 3]) -> Problem {
     const F: u32 = FORBIDDEN;
     let mut tables = vec![
@@ -147,8 +147,7 @@ pub fn every_arity() -> Problem {
     }
 }
 
-/// All 2-clauses over n variables (the problem of source document 000, section 7, complete):
-/// objective 0 counts violated clauses, objective 1 variables at 0. Every choice violates one
+/// All 2-clauses over n variables: objective 0 counts violated clauses, objective 1 variables at 0. Every choice violates one
 /// clause of each pair.
 pub fn all_clauses(variables: u8) -> Problem {
     let mut tables = Vec::new();

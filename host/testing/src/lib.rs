@@ -1,5 +1,5 @@
-//! What the chooser is tried and measured with: an independent brute force, written from the prose of
-//! document 01, generators of problems, guarded memory, the search in plain Rust, and what tests share.
+//! What the chooser is tried and measured with: an independent brute force, written from the rules'
+//! prose, generators of problems, guarded memory, the search in plain Rust, and what tests share.
 //!
 //! The brute force finds every answer by going through all complete choices, so nothing in it is
 //! fast and nothing is clever. Feed it only problems whose choices can be counted through.

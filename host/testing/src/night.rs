@@ -1,5 +1,5 @@
 //! The night's problems: a folder of problem files, and beside it the text that the list program
-//! of document 01 prints for each of them.
+//! prints for each of them.
 
 use std::collections::BTreeMap;
 use std::fs;

@@ -70,7 +70,7 @@ fn spaced<T: ToString>(numbers: &[T]) -> String {
     numbers.iter().map(|x| x.to_string() + " ").collect()
 }
 
-/// What the list program of document 01 prints for a problem that a flat call answers, lent these
+/// What the list program prints for a problem that a flat call answers, lent these
 /// buffers; they must have room for 64 points.
 pub fn list_text_by(call: SolveCall, lent: &mut Buffers, bytes: &[u8]) -> String {
     let answer = lent.lend(call, bytes);
@@ -104,7 +104,7 @@ pub fn cut_of(bytes: &[u8], sides: &[u8]) -> Result<Cut, Refusal> {
     cut_by(solve_cut, bytes, sides)
 }
 
-/// What the list program of document 01 prints for a problem, by the brute force.
+/// What the list program prints for a problem, by the brute force.
 pub fn list_text(bytes: &[u8]) -> String {
     list_text_by(solve_problem, &mut Buffers::full(), bytes)
 }

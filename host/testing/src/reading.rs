@@ -1,4 +1,4 @@
-//! The reader of a problem's bytes, with refusals 1 to 11 in document 01's order.
+//! The reader of a problem's bytes, with refusals 1 to 11 in the order of the reference, section 6.
 
 use frontier::limits::{
     MAX_ARITY, MAX_BYTES, MAX_DOMAIN, MAX_OBJECTIVES, MAX_TABLES, MAX_VARIABLES,

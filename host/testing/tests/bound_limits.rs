@@ -1,5 +1,5 @@
 //! The bound call of the static library over every value of each limited field, and over every
-//! prefix of a small problem. The numbers expected are written from document 01's limits.
+//! prefix of a small problem. The numbers expected are written from the limits of the reference, section 5.
 
 use frontier::lent;
 use frontier::limits::{MAX_ARITY, MAX_DOMAIN, MAX_OBJECTIVES, MAX_TABLES, MAX_VARIABLES};

@@ -1,4 +1,5 @@
-//! The cases of document 01: its table, its printed example, and each limit from both sides.
+//! The cases of the reference, section 12: its table, its printed example, and each limit from both
+//! sides.
 
 use frontier::lent;
 use frontier::lent::{Answer, Buffers, CutCall, Least, PointRecord, SolveCall};
@@ -105,7 +106,7 @@ fn second_table(problem: &Problem) -> u32 {
 }
 
 #[test]
-fn colours_prints_as_document_01_says() {
+fn colours_prints_as_the_reference_says() {
     let bytes = colours([100, 100]).encode();
     assert_eq!(bytes.len(), 155);
     let text = "points 2 objectives 2 variables 3\n1 4 : 0 0 1\n10 0 : 0 0 0\n";

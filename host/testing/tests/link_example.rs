@@ -1,5 +1,5 @@
 //! The examples that link the static library, from C and from Rust: they print what the list program
-//! of document 01 prints for the same file, without its first line.
+//! prints for the same file, without its first line.
 
 use std::fs;
 use std::path::{Path, PathBuf};

@@ -55,7 +55,7 @@ fn assert_lists(bytes: &[u8]) {
 }
 
 #[test]
-fn colours_as_document_01_prints_it() {
+fn colours_as_the_reference_prints_it() {
     let text = "points 2 objectives 2 variables 3\n1 4 : 0 0 1\n10 0 : 0 0 0\n";
     assert_prints(&colours([100, 100]).encode(), text);
     assert_lists(&colours([100, 100]).encode());

@@ -1,4 +1,4 @@
-//! Test vectors beyond document 01's table, most of them worked examples of the source documents.
+//! Test vectors beyond the table of the reference, section 12.
 
 use frontier::lent;
 use frontier::lent::{Answer, CutCall, PointRecord, SolveCall};
@@ -126,13 +126,13 @@ fn xor_constant_and_unary() {
 }
 
 #[test]
-fn colours_as_source_document_003_has_it() {
+fn colours_under_low_ceilings_and_in_one_objective() {
     assert_points(&colours([7, 7]), &[(&[1, 4], &[0, 0, 1])]);
     assert_points(&colours_first(100), &[(&[1], &[0, 0, 1])]);
 }
 
 #[test]
-fn degrees_of_source_document_004() {
+fn days_and_gain_of_three_offers() {
     let points: [(&[u32], &[u8]); 3] = [(&[1, 5], &[2]), (&[3, 2], &[0]), (&[6, 0], &[1])];
     assert_points(&days_and_gain([100, 100]), &points);
 }

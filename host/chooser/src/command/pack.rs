@@ -14,7 +14,7 @@ standard output or to FILE. A fault in the text is told with its line and
 column; then nothing is written, and with -o an old FILE stays as it is.
 What the records cannot say, and what a problem may not have (as 25 modules),
 is such a fault. Names, comments and layout are not kept in the records.
-docs/FORMAT.md describes both forms.
+docs/FORMAT.md describes the text, docs/REFERENCE.md the bytes.
 
 The exit status is 0, 1 where the text is at fault, and 2 where the words are
 wrong or a file cannot be read or written.

@@ -1,4 +1,4 @@
-//! A refusal told to people: its number, document 01's word, the place, what stands there, and what
+//! A refusal told to people: its number, its word, the place, what stands there, and what
 //! to mend.
 
 use super::source::Source;

@@ -17,7 +17,7 @@ standard output or to TEXT. Records have no names, so the costs are called
 cost0, cost1 and so on, the modules module0, module1, and the variants of each
 module v0, v1. 'chooser pack' makes the same bytes of it again. A refused
 problem is told as 'chooser solve' tells it, and nothing is written.
-docs/FORMAT.md describes both forms.
+docs/FORMAT.md describes the text, docs/REFERENCE.md the bytes.
 
 The exit status is 0, 1 for a refusal, and 2 where the words are wrong or a
 file cannot be read or written.

@@ -1,5 +1,5 @@
 //! From text to a problem with names, or to the first fault. What the records cannot say is a fault,
-//! and so is what document 01 refuses, so that each is told where it stands.
+//! and so is what the library would refuse, so that each is told where it stands.
 
 use super::cursor::Cursor;
 use super::fault::{quoted, Fault};
@@ -87,7 +87,7 @@ fn check_start(line: &Line, first: Word) -> Result<(), String> {
     Err(format!("{} starts no line; {nearest}", quoted(first.text)))
 }
 
-/// The costs stand first, then the modules, then the tables, no more than document 01 allows.
+/// The costs stand first, then the modules, then the tables, no more than a problem may have.
 fn check_order(named: &Named, statement: &str) -> Result<(), String> {
     let has_costs = !named.names.costs.is_empty();
     let (modules, tables) = (named.names.modules.len(), named.problem.tables.len());

@@ -243,7 +243,7 @@ pub fn exchange_law(case: &Case, sides: &[u8], cutter: Cutter) -> Verdict {
     ensure(kept, || format!("{sides:?} {one:?}, exchanged {other:?}"))
 }
 
-/// The bounds of the prefixes of some choices are what document 01 says.
+/// The bounds of the prefixes of some choices are what the reference, section 9, says.
 pub fn bound_law(case: &mut Case, bounder: Bounder) -> Verdict {
     let choices = all_choices(&case.problem);
     for _ in 0..6 {

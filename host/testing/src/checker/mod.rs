@@ -45,7 +45,7 @@ pub fn cost_of(problem: &Problem, choice: &[u8]) -> Vec<u64> {
     (0..problem.ceilings.len()).map(objective_cost).collect()
 }
 
-/// All complete choices, by extending shorter ones; not in document 01's order, on purpose.
+/// All complete choices, by extending shorter ones; not in the order of the list, on purpose.
 pub fn all_choices(problem: &Problem) -> Vec<Vec<u8>> {
     let mut choices = vec![Vec::new()];
     for &domain in &problem.domains {
@@ -155,7 +155,7 @@ pub fn check_bounds(
     ensure(complete, || format!("no exact bound at all of {choice:?}"))
 }
 
-/// Whether a problem keeps every limit of document 01 and every table has its size.
+/// Whether a problem keeps every limit (reference, section 5) and every table has its size.
 pub fn is_valid(problem: &Problem) -> bool {
     let (n, p) = (problem.domains.len(), problem.ceilings.len());
     let valid_table = |table: &Table| {

@@ -1,0 +1,289 @@
+//! What `docs/REFERENCE.md` tells is what the calls do: its limits, its words for refusals, the bytes
+//! and lists of its examples, and every row of its table of cases.
+
+use std::fs;
+
+use chooser::hex::from_hex;
+use frontier::lent::{bound_prefix, list_points, solve_cut, solve_problem, Buffers, PointRecord};
+use frontier::limits::{
+    LEAST_WORK, MAX_ARITY, MAX_BYTES, MAX_DOMAIN, MAX_OBJECTIVES, MAX_POINTS, MAX_TABLES,
+    MAX_VARIABLES,
+};
+use frontier::refusal::word_of;
+use frontier::Refusal;
+use testing::chooser_run::root;
+use testing::examples::{colours, lone, pair, three};
+use testing::owned::{cut_by, list_text, list_text_by, listed, Listed};
+
+const REFERENCE: &str = include_str!("../../../docs/REFERENCE.md");
+
+/// The rows below the table's line that starts so, each by its cells.
+fn rows(head: &str) -> Vec<Vec<&'static str>> {
+    let table = REFERENCE.lines().skip_while(|line| !line.starts_with(head));
+    let inside = table.skip(2).take_while(|line| line.starts_with('|'));
+    let rows: Vec<Vec<&str>> = inside
+        .map(|line| line.trim_matches('|').split('|').map(str::trim).collect())
+        .collect();
+    assert!(!rows.is_empty(), "no table that starts with '{head}'");
+    rows
+}
+
+#[test]
+fn the_limits_are_those_of_the_library() {
+    let number = |most: usize| most.to_string();
+    let due = [
+        ("variables, n", "1", number(MAX_VARIABLES)),
+        ("objectives, p", "1", number(MAX_OBJECTIVES)),
+        ("cost records, r", "0", number(MAX_TABLES)),
+        ("domain size, d", "1", number(MAX_DOMAIN)),
+        ("arity", "0", number(MAX_ARITY)),
+        ("a ceiling or an entry", "0", u32::MAX.to_string()),
+        ("bytes of a problem", "", number(MAX_BYTES)),
+        (
+            "points of a list that is handed out",
+            "0",
+            number(MAX_POINTS),
+        ),
+        (
+            "32-bit numbers of work memory",
+            &number(LEAST_WORK),
+            String::new(),
+        ),
+    ];
+    let rows = rows("| What | Least |");
+    assert_eq!(rows.len(), due.len());
+    for (row, (what, least, most)) in rows.iter().zip(due) {
+        let plain = |cell: &str| cell.replace(',', "");
+        assert_eq!(row[0], what);
+        assert_eq!(
+            (plain(row[1]), plain(row[2])),
+            (least.into(), most),
+            "{what}"
+        );
+    }
+}
+
+#[test]
+fn refusals_have_the_words_of_the_library() {
+    let rows = rows("| Number | Word |");
+    let told: Vec<(&str, &str)> = rows.iter().map(|row| (row[0], row[1])).collect();
+    let numbers: Vec<String> = (1..=16).map(|number: u8| number.to_string()).collect();
+    let due: Vec<(&str, &str)> = (1..)
+        .zip(&numbers)
+        .map(|(n, text)| (&text[..], word_of(n)))
+        .collect();
+    assert_eq!(told, due);
+}
+
+/// An example: its bytes as they are told, line by line, and what the list program prints.
+struct Example {
+    name: &'static str,
+    hex: &'static str,
+    list: &'static str,
+}
+
+impl Example {
+    /// The bytes of a line, which stand before its bar.
+    fn line_bytes(line: &str) -> Vec<u8> {
+        let (told, _) = line.split_once('|').expect("a line of bytes has a bar");
+        let digits: String = told.split_whitespace().collect();
+        from_hex(&digits).expect("before the bar stand hexadecimal digits")
+    }
+
+    fn bytes(&self) -> Vec<u8> {
+        self.hex.lines().flat_map(Example::line_bytes).collect()
+    }
+}
+
+/// What stands between the fences of a block of this kind.
+fn fenced<'a>(part: &'a str, kind: &str) -> Option<&'a str> {
+    let (_, rest) = part.split_once(&format!("```{kind}\n"))?;
+    rest.split_once("```").map(|(inside, _)| inside)
+}
+
+fn examples() -> Vec<Example> {
+    let example = |part: &'static str| {
+        Some(Example {
+            name: part.lines().next()?,
+            hex: fenced(part, "hex")?,
+            list: fenced(part, "list")?,
+        })
+    };
+    REFERENCE.split("\n### ").filter_map(example).collect()
+}
+
+fn bytes_of(name: &str) -> Vec<u8> {
+    let found = examples().into_iter().find(|example| example.name == name);
+    found
+        .unwrap_or_else(|| panic!("no example '{name}'"))
+        .bytes()
+}
+
+#[test]
+fn examples_are_listed_as_told() {
+    let names: Vec<&str> = examples().iter().map(|example| example.name).collect();
+    assert_eq!(names, ["Colours", "Three", "Pair", "Fixed", "One"]);
+    for example in examples() {
+        let bytes = example.bytes();
+        let library = list_text_by(solve_problem, &mut Buffers::full(), &bytes);
+        for text in [list_text(&bytes), library] {
+            assert_eq!(text, example.list, "{}", example.name);
+        }
+        let told = format!("{} bytes", bytes.len());
+        assert!(REFERENCE.contains(&told), "{}: {told}", example.name);
+    }
+}
+
+#[test]
+fn records_stand_at_the_places_that_are_told() {
+    for example in examples() {
+        let mut place = 0;
+        for line in example.hex.lines() {
+            let (_, comment) = line.split_once('|').expect("a line of bytes has a bar");
+            let told = comment.trim().split(':').next();
+            assert_eq!(told, Some(&place.to_string()[..]), "{line}");
+            place += Example::line_bytes(line).len();
+        }
+    }
+}
+
+#[test]
+fn examples_are_the_tests_own() {
+    assert_eq!(bytes_of("Colours"), colours([100, 100]).encode());
+    let stored = fs::read(root().join("examples/colours.bin")).expect("it is there");
+    assert_eq!(bytes_of("Colours"), stored);
+    assert_eq!(bytes_of("Three"), three([3, 3]).encode());
+    assert_eq!(bytes_of("Pair"), pair([9, 9]).encode());
+    assert_eq!(bytes_of("One"), lone(1, 1).encode());
+}
+
+/// The whole numbers among the words of a cell.
+fn numbers<T: std::str::FromStr>(cell: &str) -> Vec<T> {
+    let words = cell.split_whitespace();
+    words.filter_map(|word| word.parse().ok()).collect()
+}
+
+/// The bytes of a problem in the table of cases: an example, with what is said behind its name.
+fn case_bytes(cell: &str) -> Vec<u8> {
+    let cell = cell.trim_start_matches("* ");
+    let (name, change) = cell.split_once(", ").unwrap_or((cell, ""));
+    match name {
+        "nothing" => return Vec::new(),
+        "`HD` with n = 25 and p = 5" => return b"HD\x19\x05\0\0".to_vec(),
+        "60,001 bytes" => return vec![7; MAX_BYTES + 1],
+        _ => (),
+    }
+    let mut bytes = bytes_of(name);
+    let told: Vec<u32> = numbers(change);
+    match change.split(' ').next() {
+        Some("") => (),
+        Some("ceiling" | "ceilings") => {
+            for (k, ceiling) in told.iter().enumerate() {
+                bytes[6 + 4 * k..10 + 4 * k].copy_from_slice(&ceiling.to_le_bytes());
+            }
+        }
+        Some("domain") => *bytes.last_mut().expect("a DO record") = told[0] as u8,
+        Some("less") => bytes.truncate(bytes.len() - told[0] as usize),
+        Some("1") => bytes.push(0),
+        _ => panic!("'{change}' is no change of a problem"),
+    }
+    bytes
+}
+
+/// Numbers with a space between neighbours.
+fn spaced<T: ToString>(numbers: &[T]) -> String {
+    let words: Vec<String> = numbers.iter().map(T::to_string).collect();
+    words.join(" ")
+}
+
+/// A list as the table has it: of each point the costs and the choice.
+fn points(list: &[Listed]) -> String {
+    let told = |point: &Listed| format!("{} : {}", spaced(&point.costs), spaced(&point.choice));
+    match list {
+        [] => "no points".into(),
+        _ => list.iter().map(told).collect::<Vec<String>>().join("; "),
+    }
+}
+
+/// A refusal as the table has it.
+fn refused(refusal: Refusal) -> String {
+    format!("{} at {}", refusal.number(), refusal.place())
+}
+
+/// The plain call with so many costs lent.
+fn plain(bytes: &[u8], costs: usize) -> String {
+    let mut lent = Buffers {
+        costs: vec![7; costs],
+        ..Buffers::full()
+    };
+    let answer = lent.lend(solve_problem, bytes);
+    let list = listed(&lent, bytes, answer);
+    assert_records(bytes, costs, list.as_deref());
+    list.map_or_else(refused, |list| points(&list))
+}
+
+/// Asserts that the call for point records ends so with the room that so many costs give.
+fn assert_records(bytes: &[u8], costs: usize, due: Result<&[Listed], &Refusal>) {
+    let p = bytes.get(3).map_or(1, |&p| usize::from(p));
+    let junk = PointRecord {
+        costs: [7; MAX_OBJECTIVES],
+        choice: [7; MAX_VARIABLES],
+    };
+    let mut records = vec![junk; (costs / p).min(MAX_POINTS)];
+    let answer = list_points(bytes, &mut records, &mut [7; LEAST_WORK]);
+    assert_eq!(answer.count as usize, due.map_or(0, <[Listed]>::len));
+    match due {
+        Err(&refusal) => assert_eq!(answer, refusal.into()),
+        Ok(list) => {
+            for (record, point) in records.iter().zip(list) {
+                assert!(record.costs.starts_with(&point.costs), "{record:?}");
+                assert!(record.choice.starts_with(&point.choice), "{record:?}");
+            }
+        }
+    }
+}
+
+fn cut(bytes: &[u8], sides: &[u8]) -> String {
+    let told = |(list, halves): (Vec<Listed>, [u32; 2])| {
+        format!("{}; halves {}", points(&list), spaced(&halves))
+    };
+    cut_by(solve_cut, bytes, sides).map_or_else(refused, told)
+}
+
+fn bound(bytes: &[u8], prefix: &[u8]) -> String {
+    let bound = bound_prefix(bytes, prefix);
+    match Refusal::new(bound.number, bound.place) {
+        Some(refusal) => refused(refusal),
+        None => spaced(&bound.least),
+    }
+}
+
+/// What a call of the table gives for a problem.
+fn outcome(call: &str, bytes: &[u8]) -> String {
+    let full = MAX_POINTS * MAX_OBJECTIVES;
+    match call.split_once(", ").unwrap_or((call, "")) {
+        ("plain", "") => plain(bytes, full),
+        ("plain", lent) => plain(bytes, numbers(lent)[0]),
+        ("cut", sides) => cut(bytes, &numbers(sides)),
+        ("bound", prefix) => bound(bytes, &numbers(prefix)),
+        ("any", "") => {
+            let told = plain(bytes, full);
+            assert_eq!(
+                (cut(bytes, &[]), bound(bytes, &[])),
+                (told.clone(), told.clone())
+            );
+            told
+        }
+        _ => panic!("'{call}' is no call"),
+    }
+}
+
+#[test]
+fn cases_end_as_told() {
+    let rows = rows("| Problem | Call |");
+    assert!(rows.len() > 25, "{} cases", rows.len());
+    for row in rows {
+        let told = outcome(row[1], &case_bytes(row[0]));
+        assert_eq!(told, row[2], "{}, {}", row[0], row[1]);
+    }
+}
