@@ -9,7 +9,8 @@ use frontier::limits::{
 };
 use frontier::{Problem, Table, FORBIDDEN};
 use testing::chooser_run::json::{parse, Value};
-use testing::chooser_run::{folder, root, run, run_with};
+use testing::chooser_run::{folder, run, run_with};
+use testing::places::root;
 use testing::reading::read_problem;
 
 const FORMAT: &str = include_str!("../../../docs/FORMAT.md");

@@ -4,7 +4,8 @@ use std::env;
 use std::os::unix::fs::symlink;
 use std::process::Command;
 
-use testing::chooser_run::{chooser, folder, root, run};
+use testing::chooser_run::{chooser, folder, run};
+use testing::places::root;
 
 /// The names of all subcommands, from the overview.
 fn subcommands() -> Vec<String> {

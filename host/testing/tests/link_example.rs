@@ -7,9 +7,7 @@ use std::process::{Command, Output};
 
 use testing::examples::{colours, objects, staircase};
 use testing::owned::list_text;
-
-/// The folder of the repository.
-const ROOT: &str = concat!(env!("CARGO_MANIFEST_DIR"), "/../..");
+use testing::places::root;
 
 /// A file of its own for a test.
 fn scratch(name: &str) -> PathBuf {
@@ -28,7 +26,7 @@ fn built_link(name: &str) -> PathBuf {
             "-o",
         ])
         .arg(&program)
-        .current_dir(ROOT)
+        .current_dir(root())
         .output()
         .expect("the C compiler starts; install 'gcc' or another with the name 'cc'");
     let complaint = String::from_utf8_lossy(&compiled.stderr);
@@ -51,7 +49,7 @@ fn built_solve() -> PathBuf {
             "--target-dir",
         ])
         .arg(target)
-        .current_dir(Path::new(ROOT).join("host"))
+        .current_dir(root().join("host"))
         .output()
         .expect("cargo starts");
     let complaint = String::from_utf8_lossy(&built.stderr);
@@ -66,7 +64,7 @@ fn run(program: &Path, file: &Path) -> Output {
 
 /// Asserts what a program prints and how it ends, for problems that are answered and refused.
 fn assert_lists(program: &Path, name: &str) {
-    let firmware = fs::read(Path::new(ROOT).join("examples/firmware.bin")).expect("the example");
+    let firmware = fs::read(root().join("examples/firmware.bin")).expect("the example");
     let [first, second] = [colours([100, 100]), objects([13, 100, 100])].map(|p| p.encode());
     for bytes in [firmware, first, second, staircase([64, 200]).encode()] {
         let file = scratch(&format!("{name}.bin"));
@@ -106,7 +104,7 @@ fn the_rust_example_lists_the_points() {
 
 #[test]
 fn the_comment_of_the_c_example_is_how_it_is_built() {
-    let text = fs::read_to_string(Path::new(ROOT).join("examples/link.c")).expect("the example");
+    let text = fs::read_to_string(root().join("examples/link.c")).expect("the example");
     let build = "cc -Iinclude examples/link.c target/staticlib/libfrontier.a -o link && ./link \
                  examples/firmware.bin";
     assert!(text.contains(build));

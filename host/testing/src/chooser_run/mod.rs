@@ -8,6 +8,8 @@ use std::path::{Path, PathBuf};
 use std::process::{Command, Stdio};
 use std::thread;
 
+use crate::places::root;
+
 pub mod json;
 
 /// The folder of what the running test was built with.
@@ -81,11 +83,6 @@ pub fn run_in<S: AsRef<OsStr>>(folder: &Path, words: &[S], input: &[u8]) -> Ende
 /// Runs the command with empty standard input.
 pub fn run<S: AsRef<OsStr>>(words: &[S]) -> Ended {
     run_with(words, &[])
-}
-
-/// The repository's root.
-pub fn root() -> PathBuf {
-    Path::new(env!("CARGO_MANIFEST_DIR")).join("../..")
 }
 
 /// An empty folder for a test's files.
