@@ -3,7 +3,6 @@
 //! to the second, the points of the list, and how many 32-bit numbers their costs would fill.
 //! See `docs/DECISIONS.md`, entry 59.
 
-use std::path::Path;
 use std::process::ExitCode;
 
 use frontier::lent;
