@@ -8,9 +8,10 @@ use std::path::Path;
 use std::process::{Command, Stdio};
 use std::time::{Duration, Instant};
 
-use testing::chooser_run::{chooser, folder, root, run, run_with};
+use testing::chooser_run::{chooser, folder, run, run_with};
 use testing::examples::{colours, staircase};
 use testing::owned::list_text;
+use testing::places::root;
 
 /// A path as a word.
 fn word(path: &Path) -> &str {

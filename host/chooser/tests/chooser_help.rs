@@ -4,7 +4,8 @@ use std::env;
 use std::os::unix::fs::symlink;
 use std::process::Command;
 
-use testing::chooser_run::{chooser, folder, root, run, subcommands};
+use testing::chooser_run::{chooser, folder, run, subcommands};
+use testing::places::root;
 
 /// All helps: that of the command and those of the subcommands.
 fn helps() -> Vec<String> {

@@ -1,6 +1,7 @@
 //! Completion in bash: every subcommand and every option that the helps tell, and files.
 
-use testing::chooser_run::{chooser, root, run, subcommands};
+use testing::chooser_run::{chooser, run, subcommands};
+use testing::places::root;
 use testing::scripts::must;
 
 /// What bash would complete the last of these words to.

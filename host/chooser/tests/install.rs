@@ -5,7 +5,8 @@ use std::fs;
 use std::os::unix::fs::PermissionsExt;
 use std::path::{Path, PathBuf};
 
-use testing::chooser_run::{chooser, folder, root, run};
+use testing::chooser_run::{chooser, folder, run};
+use testing::places::root;
 use testing::scripts::{bash, must, printed};
 
 /// The installed files below the prefix, with their modes; beside them is every header.

@@ -4,7 +4,8 @@
 use std::fs;
 use std::path::PathBuf;
 
-use testing::chooser_run::{chooser, folder, root, run, subcommands};
+use testing::chooser_run::{chooser, folder, run, subcommands};
+use testing::places::root;
 use testing::scripts::must;
 
 /// A manual page as it is installed, in a file of its own for the test.

@@ -6,7 +6,8 @@ use std::os::unix::fs::symlink;
 use std::path::{Path, PathBuf};
 use std::process::{Command, Output};
 
-use testing::chooser_run::{chooser, folder, root};
+use testing::chooser_run::{chooser, folder};
+use testing::places::root;
 
 const README: &str = include_str!("../../../README.md");
 const MAKEFILE: &str = include_str!("../../../Makefile");

@@ -61,6 +61,23 @@ pub struct Halves {
     pub second: u32,
 }
 
+impl Halves {
+    /// The answer that the number of refusal and the numbers that a cut call writes are: place,
+    /// count, and both half sizes.
+    pub fn from_numbers(number: u8, [place, count, first, second]: [u32; 4]) -> Halves {
+        let answer = Answer {
+            number,
+            place,
+            count,
+        };
+        Halves {
+            answer,
+            first,
+            second,
+        }
+    }
+}
+
 impl From<Refusal> for Halves {
     fn from(refusal: Refusal) -> Halves {
         Halves {
@@ -224,16 +241,7 @@ pub fn solve_cut(
         second: &mut second,
     };
     let number = write_cut(problem, sides, costs, choices, work, numbers);
-    let answer = Answer {
-        number,
-        place,
-        count,
-    };
-    Halves {
-        answer,
-        first,
-        second,
-    }
+    Halves::from_numbers(number, [place, count, first, second])
 }
 
 /// The bound call as C has it: the number of refusal is the result, and `least` and `place` are

@@ -3,7 +3,6 @@
 //! to the second, the points of the list, and how many 32-bit numbers their costs would fill.
 //! See `docs/DECISIONS.md`, entry 59.
 
-use std::path::Path;
 use std::process::ExitCode;
 
 use frontier::lent;
@@ -11,9 +10,8 @@ use frontier::lent::Buffers;
 use frontier::limits::MAX_POINTS;
 use frontier::{Problem, Table};
 use testing::night::{read_bytes, read_night};
+use testing::places::data;
 use testing::reading::read_problem;
-
-const NIGHT: &str = concat!(env!("CARGO_MANIFEST_DIR"), "/../data/nightly");
 
 /// What the plain call has for messages; see `docs/ARCHITECTURE.md`, work memory.
 const FREE_NUMBERS: usize = 3_628;
@@ -46,7 +44,7 @@ fn run() -> Result<(), String> {
     let mut buffers = Buffers::full();
     let (mut dolls, mut longer) = (0, 0);
     let mut numbers = Vec::new();
-    for night_problem in read_night(Path::new(NIGHT))? {
+    for night_problem in read_night(&data("nightly"))? {
         let bytes = read_bytes(&night_problem.path)?;
         let problem = read_problem(&bytes)
             .map_err(|_| format!("{}: refused", night_problem.name))?

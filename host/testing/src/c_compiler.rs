@@ -4,7 +4,7 @@ use std::fs;
 use std::path::Path;
 use std::process::Command;
 
-use crate::chooser_run::root;
+use crate::places::root;
 
 /// A compiler with the language and the standard that it is asked for.
 #[derive(Clone, Copy)]

@@ -111,17 +111,7 @@ impl Guarded {
             "side list",
             self.list.check_unchanged(sides),
         );
-        let [place, count, first, second] = self.take_numbers();
-        let answer = Answer {
-            number,
-            place,
-            count,
-        };
-        Halves {
-            answer,
-            first,
-            second,
-        }
+        Halves::from_numbers(number, self.take_numbers())
     }
 
     /// The bound call.

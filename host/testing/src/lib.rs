@@ -17,6 +17,7 @@ pub mod guarded;
 pub mod mixed;
 pub mod night;
 pub mod owned;
+pub mod places;
 pub mod plain;
 pub mod point_records;
 pub mod random;

@@ -2,7 +2,7 @@
 //! list program.
 
 use frontier::lent::{Answer, Buffers, Halves, SolveCall};
-use frontier::{Problem, Refusal};
+use frontier::{Point, Problem, Refusal};
 
 use crate::brute::{solve_cut, solve_problem};
 use crate::reading::read_problem;
@@ -24,6 +24,12 @@ impl Listed {
             costs: costs.to_vec(),
             choice: choice.to_vec(),
         }
+    }
+}
+
+impl From<Point<'_>> for Listed {
+    fn from(point: Point) -> Listed {
+        Listed::new(point.costs, point.choice)
     }
 }
 

@@ -2,18 +2,18 @@
 //! test passes for want of problems.
 
 use std::fmt::Debug;
-use std::path::Path;
 use std::str::FromStr;
 
 use crate::night::{read_bytes, read_night, NightProblem};
 use crate::owned::Listed;
+use crate::places::data;
 use crate::reading::read_problem;
 use frontier::limits::MAX_POINTS;
 use frontier::Problem;
 
-/// The folders of problems.
-pub const NIGHTLY: &str = concat!(env!("CARGO_MANIFEST_DIR"), "/../data/nightly");
-pub const STRESS: &str = concat!(env!("CARGO_MANIFEST_DIR"), "/../data/stress");
+/// The names of the folders.
+pub const NIGHTLY: &str = "nightly";
+pub const STRESS: &str = "stress";
 
 /// The harder problems that took the plain call more than two seconds once. For seven of them no answer
 /// is known.
@@ -73,7 +73,7 @@ fn parse_numbers<T: FromStr<Err: Debug>>(text: &str) -> Vec<T> {
 
 /// The problems of a folder that has so many, in the order of their names.
 fn stored(folder: &str, count: usize) -> Vec<Stored> {
-    let problems = read_night(Path::new(folder)).expect("a folder of the repository");
+    let problems = read_night(&data(folder)).expect("a folder of the repository");
     assert_eq!(problems.len(), count, "{folder}");
     let read = |problem: NightProblem| {
         let bytes = read_bytes(&problem.path).expect("a file that was listed");

@@ -4,7 +4,7 @@
 use std::fs;
 use std::path::{Path, PathBuf};
 
-use testing::chooser_run::root;
+use testing::places::root;
 
 /// The files of a folder and of those in it whose names end in one of these, without what is built.
 fn texts(folder: &Path, found: &mut Vec<PathBuf>) {

@@ -1,7 +1,7 @@
 //! What the cut call of the static library writes and what it leaves alone, for every way to end.
 
 use chooser::junk::{junk, Rng};
-use frontier::lent::{self, write_cut, Answer, Buffers, CutNumbers, Halves};
+use frontier::lent::{self, write_cut, Buffers, CutNumbers, Halves};
 use frontier::limits::{LEAST_WORK, MAX_BYTES};
 use frontier::refusal::{CUT_SHORT, FULL, SIDES, WORK};
 use frontier::Refusal;
@@ -85,16 +85,7 @@ fn cut_over_junk(bytes: &[u8], sides: &[u8], mut lent: Buffers, junk: u32) -> Ha
             second: &mut second,
         },
     );
-    let answer = Answer {
-        number,
-        place,
-        count,
-    };
-    Halves {
-        answer,
-        first,
-        second,
-    }
+    Halves::from_numbers(number, [place, count, first, second])
 }
 
 #[test]

@@ -5,7 +5,8 @@ use std::fs;
 use std::os::unix::fs::PermissionsExt;
 use std::path::{Path, PathBuf};
 
-use testing::chooser_run::{folder, root};
+use testing::chooser_run::folder;
+use testing::places::root;
 use testing::scripts::{bash, must, printed};
 
 /// The files of a small disc: their paths, texts and modes. Their order differs between languages.

@@ -9,6 +9,7 @@ use std::thread;
 use std::time::Duration;
 
 use testing::guard::{End, Pages};
+use testing::places::root;
 
 /// SIGSEGV of Linux.
 const VIOLATION: i32 = 11;
@@ -75,8 +76,8 @@ fn bad_arguments_give_the_usage() {
     ignore = "clang or its libFuzzer was not installed when this was built"
 )]
 fn libfuzzer_finds_nothing_in_two_seconds() {
-    let script = concat!(env!("CARGO_MANIFEST_DIR"), "/../../.ci/libfuzzer");
-    let output = Command::new("bash").args([script, "2"]).output();
+    let script = root().join(".ci/libfuzzer");
+    let output = Command::new("bash").arg(script).arg("2").output();
     let output = output.expect("bash starts");
     let text = String::from_utf8_lossy(&output.stdout);
     assert_eq!(output.status.code(), Some(0), "{text}");

@@ -9,9 +9,7 @@ use testing::c_compiler::{write_later_header, C99};
 use testing::chooser_run::folder;
 use testing::examples::{colours, objects, staircase};
 use testing::owned::list_text;
-
-/// The folder of the repository.
-const ROOT: &str = concat!(env!("CARGO_MANIFEST_DIR"), "/../..");
+use testing::places::root;
 
 /// A file of its own for a test.
 fn scratch(name: &str) -> PathBuf {
@@ -21,7 +19,7 @@ fn scratch(name: &str) -> PathBuf {
 /// Builds the C example with the headers of a folder; the program's file.
 fn built_link(name: &str, include: &Path) -> PathBuf {
     let program = scratch(name);
-    let source = Path::new(ROOT).join("examples/link.c");
+    let source = root().join("examples/link.c");
     let built = C99.build(include, &source, &program);
     built.unwrap_or_else(|complaint| panic!("{complaint}"));
     program
@@ -42,7 +40,7 @@ fn built_solve() -> PathBuf {
             "--target-dir",
         ])
         .arg(target)
-        .current_dir(Path::new(ROOT).join("host"))
+        .current_dir(root().join("host"))
         .output()
         .expect("cargo starts");
     let complaint = String::from_utf8_lossy(&built.stderr);
@@ -57,7 +55,7 @@ fn run(program: &Path, file: &Path) -> Output {
 
 /// Asserts what a program prints and how it ends, for problems that are answered and refused.
 fn assert_lists(program: &Path, name: &str) {
-    let firmware = fs::read(Path::new(ROOT).join("examples/firmware.bin")).expect("the example");
+    let firmware = fs::read(root().join("examples/firmware.bin")).expect("the example");
     let [first, second] = [colours([100, 100]), objects([13, 100, 100])].map(|p| p.encode());
     for bytes in [firmware, first, second, staircase([64, 200]).encode()] {
         let file = scratch(&format!("{name}.bin"));
@@ -87,7 +85,7 @@ fn assert_lists(program: &Path, name: &str) {
 
 #[test]
 fn the_c_example_lists_the_points() {
-    let program = built_link("link", &Path::new(ROOT).join("include"));
+    let program = built_link("link", &root().join("include"));
     assert_lists(&program, "link_c");
     let refused = run(&program, Path::new("/dev/null"));
     let complaint = "link: /dev/null is refused with number 2 (cut short) at byte 0\n";
@@ -97,7 +95,7 @@ fn the_c_example_lists_the_points() {
 #[test]
 fn the_c_example_tells_a_library_that_is_older_than_the_header() {
     let folder = folder("later_header");
-    let example = Path::new(ROOT).join("examples/firmware.bin");
+    let example = root().join("examples/firmware.bin");
     for part in ["MAJOR", "PATCH"] {
         write_later_header(&folder, part);
         let refused = run(&built_link("link_later", &folder), &example);
@@ -115,7 +113,7 @@ fn the_rust_example_lists_the_points() {
 
 #[test]
 fn the_comment_of_the_c_example_is_how_it_is_built() {
-    let text = fs::read_to_string(Path::new(ROOT).join("examples/link.c")).expect("the example");
+    let text = fs::read_to_string(root().join("examples/link.c")).expect("the example");
     let build = "cc -Iinclude examples/link.c target/staticlib/libfrontier.a -o link && ./link \
                  examples/firmware.bin";
     assert!(text.contains(build));

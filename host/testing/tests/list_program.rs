@@ -2,7 +2,6 @@
 //! brute force lists, line by line.
 
 use std::io::Write;
-use std::path::Path;
 use std::process::{Command, Output, Stdio};
 use std::thread;
 
@@ -12,18 +11,19 @@ use testing::examples::{
     brimful, colours, every_arity, lone, objects, pair, staircase, ten_problems, three,
 };
 use testing::owned::list_text;
+use testing::places::root;
 use testing::random::{damage, random_problem, Shape};
 
-/// The program, from the package's folder.
-const PROGRAM: &str = "../../target/bin/list";
+/// The program, from the repository's root.
+const PROGRAM: &str = "target/bin/list";
 
 /// Runs the program on these bytes.
 fn run(bytes: &[u8]) -> Output {
-    let program = Path::new(env!("CARGO_MANIFEST_DIR")).join(PROGRAM);
+    let program = root().join(PROGRAM);
     assert!(
         program.is_file(),
-        "the list program is not built: there is no {PROGRAM}, seen from host/; make it with \
-         'rt check list' in the repository's root, and test again"
+        "the list program is not built: there is no {PROGRAM}; make it with 'rt check list' \
+         in the repository's root, and test again"
     );
     let mut process = Command::new(program)
         .stdin(Stdio::piped())

@@ -2,9 +2,9 @@
 //! in the file that it gives. So no statement and no theorem of a demand can go unnoticed.
 
 use std::fs;
-use std::path::{Path, PathBuf};
+use std::path::PathBuf;
 
-const ROOT: &str = concat!(env!("CARGO_MANIFEST_DIR"), "/../..");
+use testing::places::root;
 
 /// The crate whose files a column names: definitions, theorems, what a caller has.
 const COLUMNS: [(usize, &str); 3] = [(2, "model"), (3, "model"), (4, "frontier")];
@@ -34,7 +34,7 @@ fn entries(cell: &str, in_crate: &str) -> Vec<Entry> {
     let mut found = Vec::new();
     for word in quoted(cell) {
         if word.ends_with(".antt") {
-            file = Some(Path::new(ROOT).join("crates").join(in_crate).join(word));
+            file = Some(root().join("crates").join(in_crate).join(word));
         } else {
             let file = file.clone().expect("a file stands before its names");
             found.push(Entry {
@@ -58,7 +58,7 @@ fn declares(line: &str, name: &str) -> bool {
 
 #[test]
 fn names_of_the_demands_are_declared_where_the_map_says() {
-    let map = fs::read_to_string(Path::new(ROOT).join("docs/ARCHITECTURE.md")).unwrap();
+    let map = fs::read_to_string(root().join("docs/ARCHITECTURE.md")).unwrap();
     let rows = rows(&map);
     assert_eq!(rows.len(), 6, "rows of the table of demands");
     for row in &rows {

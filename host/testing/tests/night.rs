@@ -8,6 +8,7 @@ use chooser::junk::{fill_with_junk, junk_buffers};
 use frontier::limits::MAX_POINTS;
 use testing::night::{chosen_text, parse_expected};
 use testing::owned::list_text;
+use testing::places::data;
 use testing::stored::{nightly, Stored, NIGHTLY};
 
 /// Problems with at most this many complete choices are quick for any exact search.
@@ -160,8 +161,8 @@ fn a_problem_that_is_too_slow_is_given_up() {
 #[test]
 fn one_problem_is_printed() {
     let small = &small_problems()[0];
-    let path = format!("{NIGHTLY}/{}.bin", small.name);
-    let output = night(&["--one", &path]);
+    let path = data(NIGHTLY).join(format!("{}.bin", small.name));
+    let output = night(&["--one", text_of(&path)]);
     assert_eq!(String::from_utf8_lossy(&output.stdout), small.expected);
     assert_eq!(output.status.code(), Some(0));
 }

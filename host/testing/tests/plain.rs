@@ -1,7 +1,6 @@
 //! The plain search: against the brute force with every setting, and on the night's problems.
 
 use std::ops::Range;
-use std::path::Path;
 use std::time::Duration;
 
 use chooser::junk::junk_buffers;
@@ -11,6 +10,7 @@ use frontier::refusal::FULL;
 use testing::mixed::compare_seeds;
 use testing::night::read_bytes;
 use testing::owned::answer_text;
+use testing::places::data;
 use testing::plain::{solve_problem, solve_within, Settings};
 use testing::stored::{nightly, STRESS};
 
@@ -111,7 +111,7 @@ fn the_night_has_its_expected_texts() {
 /// This one takes hours, so that any limit gives it up.
 #[test]
 fn a_search_can_be_given_up() {
-    let bytes = read_bytes(Path::new(&format!("{STRESS}/tern_x_5.bin"))).expect("a problem");
+    let bytes = read_bytes(&data(STRESS).join("tern_x_5.bin")).expect("a problem");
     let mut lent = junk_buffers();
     let before = lent.clone();
     let limit = Some(Duration::from_millis(1));

@@ -11,9 +11,9 @@ use frontier::limits::{
 };
 use frontier::refusal::word_of;
 use frontier::Refusal;
-use testing::chooser_run::root;
 use testing::examples::{colours, lone, pair, three};
 use testing::owned::{cut_by, list_text, list_text_by, listed, Listed};
+use testing::places::root;
 
 const REFERENCE: &str = include_str!("../../../docs/REFERENCE.md");
 

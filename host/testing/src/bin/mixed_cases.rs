@@ -62,16 +62,7 @@ fn cut_on_heap(
             second: &mut second,
         },
     );
-    let answer = Answer {
-        number,
-        place: *place,
-        count: *count,
-    };
-    Halves {
-        answer,
-        first: *first,
-        second: *second,
-    }
+    Halves::from_numbers(number, [*place, *count, *first, *second])
 }
 
 /// The bound call on copies that have exactly their lengths on the heap, and with junk where it

@@ -12,6 +12,7 @@ use std::time::{Duration, Instant};
 use chooser::junk::junk_buffers;
 use chooser::worker::{asked_limit, serve, Ending, Worker, WORKER};
 use testing::night::{chosen_text, difference, read_bytes, read_night, NightProblem};
+use testing::places::data;
 
 const USAGE: &str = "usage: night [--limit SECONDS] [FOLDER]
        night --one FILE
@@ -21,7 +22,7 @@ file. The status is 0 if no answer differs, 1 if one does or a process ends with
 2 if the run could not be made.
 With --one it prints the list of the problem in FILE, without a limit.";
 
-const DEFAULT_FOLDER: &str = concat!(env!("CARGO_MANIFEST_DIR"), "/../data/nightly");
+const DEFAULT_FOLDER: &str = "nightly";
 const DEFAULT_LIMIT: Duration = Duration::from_secs(2);
 
 /// A line of progress comes once in this many problems.
@@ -55,7 +56,7 @@ fn asked_task(arguments: &[String]) -> Result<Task, String> {
             _ => folder = Some(PathBuf::from(argument)),
         }
     }
-    let folder = folder.unwrap_or_else(|| DEFAULT_FOLDER.into());
+    let folder = folder.unwrap_or_else(|| data(DEFAULT_FOLDER));
     Ok(Task::Night { folder, limit })
 }
 

@@ -9,6 +9,7 @@ use std::time::Duration;
 use chooser::progress::show_progress;
 use chooser::worker::{asked_limit, WORKER};
 use frontier::limits::LEAST_WORK;
+use testing::places::data;
 use testing::plain::{Settings, SETTINGS};
 use testing::reading::read_problem;
 use testing::speed::cases::{only_family, read_cases, read_set, Case};
@@ -34,19 +35,10 @@ prints a table with a row for each family: the first part of a problem's name th
   --settings     changes how plain Rust works:";
 
 /// The folders of problems.
-const FOLDERS: [&str; 2] = [
-    concat!(env!("CARGO_MANIFEST_DIR"), "/../data/nightly"),
-    concat!(env!("CARGO_MANIFEST_DIR"), "/../data/stress"),
-];
+const FOLDERS: [&str; 2] = ["nightly", "stress"];
 
 /// The folders that `--sets` runs.
-const SETS: [&str; 5] = [
-    concat!(env!("CARGO_MANIFEST_DIR"), "/../data/nightly"),
-    concat!(env!("CARGO_MANIFEST_DIR"), "/../data/night101"),
-    concat!(env!("CARGO_MANIFEST_DIR"), "/../data/night102"),
-    concat!(env!("CARGO_MANIFEST_DIR"), "/../data/corner"),
-    concat!(env!("CARGO_MANIFEST_DIR"), "/../data/stress"),
-];
+const SETS: [&str; 5] = ["nightly", "night101", "night102", "corner", "stress"];
 
 /// Which problems run.
 #[derive(Clone, Copy, PartialEq, Eq)]
@@ -121,7 +113,7 @@ impl Options {
         let read_all = |folders: &[&str], read: fn(&Path) -> Result<Vec<Case>, String>| {
             let mut cases = Vec::new();
             for folder in folders {
-                cases.extend(read(Path::new(folder))?);
+                cases.extend(read(&data(folder))?);
             }
             Ok::<Vec<Case>, String>(cases)
         };

@@ -8,6 +8,8 @@ use std::path::{Path, PathBuf};
 use std::process::{Command, Stdio};
 use std::thread;
 
+use crate::places::root;
+
 pub mod json;
 
 /// The folder of what the running test was built with.
@@ -92,11 +94,6 @@ pub fn subcommands() -> Vec<String> {
     let (_, listed) = listed.rsplit_once("\n\n").expect("the list begins");
     let name = |line: &str| line.split_whitespace().next().map(String::from);
     listed.lines().filter_map(name).collect()
-}
-
-/// The repository's root.
-pub fn root() -> PathBuf {
-    Path::new(env!("CARGO_MANIFEST_DIR")).join("../..")
 }
 
 /// An empty folder for a test's files.

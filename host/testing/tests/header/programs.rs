@@ -8,7 +8,8 @@ use std::process::Command;
 use frontier::limits::{LEAST_WORK, MAX_OBJECTIVES, MAX_POINTS, MAX_VARIABLES};
 use frontier::refusal::word_of;
 use testing::c_compiler::{write_later_header, Compiler, C11, C99, CXX11, CXX17};
-use testing::chooser_run::{folder, root};
+use testing::chooser_run::folder;
+use testing::places::root;
 
 /// What `tests/c/calls.c` prints: of each plain call number, place, count, how much of the work
 /// memory is not zero, and the points; of each cut call the same with both half sizes after the
