@@ -3,10 +3,10 @@
 use crate::lent::PointRecord;
 use crate::limits::MAX_OBJECTIVES;
 
-// The exported calls. Nothing checks these lines against the library, so they stand together and
-// in the header's order, to be compared by eye.
+// No compiler checks these lines against the library, so they stand together and in the header's
+// order.
 extern "C" {
-    pub fn frontier_solve(
+    pub(crate) fn frontier_solve(
         problem: *const u8,
         problem_len: usize,
         costs: *mut u32,
@@ -19,7 +19,7 @@ extern "C" {
         count: *mut u32,
     ) -> u8;
 
-    pub fn frontier_solve_by_passes(
+    pub(crate) fn frontier_solve_by_passes(
         problem: *const u8,
         problem_len: usize,
         costs: *mut u32,
@@ -32,7 +32,7 @@ extern "C" {
         count: *mut u32,
     ) -> u8;
 
-    pub fn frontier_cut(
+    pub(crate) fn frontier_cut(
         problem: *const u8,
         problem_len: usize,
         sides: *const u8,
@@ -49,7 +49,7 @@ extern "C" {
         second: *mut u32,
     ) -> u8;
 
-    pub fn frontier_bound(
+    pub(crate) fn frontier_bound(
         problem: *const u8,
         problem_len: usize,
         prefix: *const u8,
@@ -58,7 +58,7 @@ extern "C" {
         place: *mut u32,
     ) -> u8;
 
-    pub fn frontier_points(
+    pub(crate) fn frontier_points(
         problem: *const u8,
         problem_len: usize,
         points: *mut PointRecord,
@@ -71,7 +71,7 @@ extern "C" {
 }
 
 /// What the plain call is to the linker, by either form of the search.
-pub type Solve = unsafe extern "C" fn(
+pub(crate) type Solve = unsafe extern "C" fn(
     *const u8,
     usize,
     *mut u32,
