@@ -297,12 +297,7 @@ fn not_taken() -> Taken
 
 // The second form of the search. It gives up where there is nothing to plan, where a ceiling is too large for it, or
 // where no turn ends it.
-fn explore_source(
-    s: &[u8],
-    sizes: &[u8],
-    task: groups::Task,
-    work: &mut [u32],
-) -> Taken
+fn explore_source(s: &[u8], sizes: &[u8], task: groups::Task, work: &mut [u32]) -> Taken
     requires { ⌜ Source task (now sizes) (now s) (now work) × (task .room ≤ maxPoints) ⌝ }
     ensures { λ t. ⌜ Turned task (now (sizes .entry)) (now (s .entry)) (now (work .entry)) (now (work .exit))
         (t .explored) ⌝ }

@@ -21,9 +21,7 @@ variants behind it; they have names where FILE is text.
 
     --room N    refuse a frontier of more than N points (0 to 64; default 64)
     --json      print one JSON object; docs/FORMAT.md describes it
-    --stats     also say on standard error what the search took: which of its two
-                forms answered, how many plans it made, how many passes and how
-                many partial choices these opened
+    --stats     also tell on standard error what the search took
 
 A refusal is told with its number, its place and what to mend.
 The exit status is 0 for an answer, 1 for a refusal or a fault in FILE, and 2
