@@ -1,2 +1,3 @@
--- The laws of the tests.
+-- The laws of the tests, and of what a bound may reach.
 pub mod Ties
+pub mod Reaches

@@ -4,15 +4,19 @@ use mathlib.Core.Path.{_≡_}
 use mathlib.Core.Logic.{_⊎_}
 use mathlib.Core.Bool.{true, false}
 use mathlib.Core.List.{List}
-use Prim.Native.Nat.{ℕ, _≤_, _<_}
-use lib.ListN.{getD, take}
+use Prim.Native.Nat.{ℕ, _+_, _≤_, _<_}
+use lib.ListN.{length, getD, take}
+use Rattle.model.specs.Limits.{maxPoints}
+use Rattle.model.specs.Core.{coreSumEnd}
 use Rattle.model.specs.Vectors.{atMost, earlier}
-use Rattle.rows.specs.Rows.{costsIn, valuesIn}
-use Rattle.branch_directions.specs.Directions.{directionsOf, widthOf, leadAt}
+use Rattle.rows.specs.Rows.{costsIn, valuesIn, EachCost}
+use Rattle.branch_directions.specs.Directions.{directionsOf, widthOf, leadAt, Sensible}
 use Rattle.branch_directions.specs.declared.Directions as DD
-use Rattle.layout.specs.Layout.{zonesEnd}
-use Rattle.branch_zones.specs.Zones.{cornerIn}
+use Rattle.layout.specs.Layout.{zonesEnd, listEnd}
+use Rattle.branch_candidates.specs.Sifted.{Sifted}
+use Rattle.branch_zones.specs.Zones.{Measured, Exceeds, Missed}
 use Rattle.branch_pruning.specs.declared.Progress as DP
+use Rattle.branch_pruning.specs.declared.Reach as DR
 
 -- the zones are the first numbers of work memory
 abbrev pub zonesOf : List ℕ → List ℕ
@@ -25,10 +29,26 @@ Untied d n work x b i =
     atMost (take (widthOf d) b) (directionsOf d (costsIn (d .objectives) work i)) ≡ true
     → earlier (take n x) (valuesIn n work i) ≡ false
 
+-- and so it is where they are below the bound
+abbrev pub Surpassed : DD.Directions → List ℕ → List ℕ → ℕ → Type 0
+Surpassed d work b i = Exceeds d b (costsIn (d .objectives) work i)
+
 -- none of m zones has a corner that is at least the bound
 abbrev pub Unreached : DD.Directions → List ℕ → ℕ → List ℕ → Type 0
-Unreached d zones m b =
-    (i : ℕ) → i < m → atMost (take (widthOf d) b) (directionsOf d (cornerIn (d .objectives) zones i)) ≡ false
+Unreached d zones m b = (i : ℕ) → i < m → Missed d zones b i
+
+-- what is not among the zones and the points of `reach` is not reached by the bound b
+pub record Reached (d : DD.Directions) (work : List ℕ) (run : DP.Progress) (b : List ℕ) (reach : DR.Reach) : Type 0 where
+  pub zones : Sifted (run .zones) (Missed d (zonesOf work) b) (reach .zones)
+  pub ties : Sifted (run .points) (Surpassed d work b) (reach .ties)
+
+-- zones and points that may be tested
+pub record Searched (d : DD.Directions) (work : List ℕ) (run : DP.Progress) : Type 0 where
+  pub sensible : Sensible d
+  pub long : listEnd ≤ length work
+  pub measured : Measured d (zonesOf work) (run .zones)
+  pub few : run .points ≤ maxPoints + 1
+  pub small : EachCost (λ a. a < coreSumEnd) (d .objectives) work (run .points)
 
 -- nothing that is sought is left below it
 abbrev pub Dead : DD.Directions → ℕ → List ℕ → DP.Progress → List ℕ → List ℕ → Type 0

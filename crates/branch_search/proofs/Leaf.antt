@@ -2,7 +2,7 @@
 use mathlib.Core.Path.{_≡_, refl, sym, ap, _∙_, subst}
 use mathlib.Core.Bool.{true, false}
 use mathlib.Core.List.{List, List·Memᴰ as In}
-use Prim.Native.Nat.{ℕ, _<_}
+use Prim.Native.Nat.{ℕ, _≤_, _<_}
 use native.Mathlib.Omega.{arith}
 use lib.ListN.{length, getD, take, drop}
 use lib.Seq.{length-take-le, take-take, getD-take, ext-getD}
@@ -31,14 +31,14 @@ use Rattle.branch_directions.proofs.DirectionLaws.{directions-costs, directions
 use Rattle.layout.specs.Layout.{zonesEnd}
 use Rattle.branch_zones.specs.Zones.{cornersIn, Measured, SplitAt}
 use Rattle.branch_zones.proofs.ZoneRows.{corners-wide}
-use Rattle.branch_buckets.specs.Bounds.{costsOver}
+use Rattle.branch_buckets.specs.Bounds.{costsOver, Agree}
 use Rattle.branch_buckets.proofs.Bounds.{bound-exact}
 use Rattle.branch_pruning.specs.declared.Progress as DP
 use Rattle.branch_pruning.specs.Tests.{zonesOf}
 use Rattle.branch_search.specs.declared.Node as DN
-use Rattle.branch_search.specs.States.{planIn, archiveIn, problemOf, leaf, Completes, AllCovered}
+use Rattle.branch_search.specs.States.{planIn, archiveIn, problemOf, leaf, metWith, Completes, AllCovered}
 use Rattle.branch_search.specs.States.{Standing, OpenedFrom}
-use Rattle.branch_search.proofs.Nodes.{is-leaf}
+use Rattle.branch_search.proofs.Meeting.{meeting-met}
 use Rattle.branch_search.proofs.Memory.{still-trans, framed-zones, framed-still, zones-still, zones-rows}
 use Rattle.branch_directions.proofs.Widths.{lead-inside, width-few}
 use Rattle.branch_search.proofs.Completions.{costs-over, costs-over-wide}
@@ -56,7 +56,25 @@ pub leaf-standing :
     {d : DD.Directions} {task : DT.Task} {ds s work : List ℕ} {run : DP.Progress} {node : DN.Node} →
     Standing d task ds s work run node → node .depth ≡ length ds →
     Standing d task ds s work run (leaf ds (node .choice) (node .bound))
-leaf-standing {ds = ds} {node = node} h e = rw (is-leaf ds node e) at h
+leaf-standing h e = record { ready = h .ready; running = h .running; partial = rw e at (h .partial) }
+
+-- and what is then ensured
+pub leaf-opened :
+    (d : DD.Directions) (task : DT.Task) (ds s work : List ℕ) (run : DP.Progress) (work′ : List ℕ)
+    (run′ : DP.Progress) (node : DN.Node) → node .depth ≡ length ds →
+    OpenedFrom d task ds s (leaf ds (node .choice) (node .bound)) work run work′ run′ →
+    OpenedFrom d task ds s node work run work′ run′
+leaf-opened d task ds s work run work′ run′ node e o =
+    record {
+      still = o .still;
+      running = o .running;
+      follows = o .follows;
+      fewer = o .fewer;
+      meeting = o .meeting;
+      covered = λ some y m g.
+          o .covered some y m
+          (subst (λ (k : ℕ). Agree (planIn work) k (take (length ds) (node .choice)) (y .choice)) e g);
+    }
 
 module _
     {d : DD.Directions} {task : DT.Task} {ds s work : List ℕ} {run : DP.Progress} {values acc : List ℕ}
@@ -155,9 +173,6 @@ module _
     abbrev taken : List Point
     taken = listIn (d .objectives) (length ds) work′ 0 (t .points)
 
-    abbrev run-after : ℕ → DP.Progress
-    run-after m = record { points = t .points; zones = m; limit = t .limit; left = run .left; done = run .done }
-
     same-point : point (take (d .objectives) v) x ≡ point costs x
     same-point = point-eq front refl
 
@@ -184,9 +199,9 @@ module _
     measured = rw (framed-zones (takes .frame)) (h .running .measured)
 
     pub leaf-kept :
-        OpenedFrom d task ds s (leaf ds values acc) work run work′
-        (record { points = t .points; zones = run .zones; limit = t .limit; left = run .left; done = run .done })
-    leaf-kept =
+        1 ≤ run .meets →
+        OpenedFrom d task ds s (leaf ds values acc) work run work′ (metWith run (t .points) (run .zones) (t .limit))
+    leaf-kept some =
         record {
           still = framed-still (takes .frame) task (h .ready .planned .few);
           running = record {
@@ -198,7 +213,8 @@ module _
           };
           follows = met .1;
           fewer = omega arith;
-          covered = λ some. leaf-covers taken (t .limit) (λ m. met .2);
+          meeting = meeting-met some;
+          covered = λ left. leaf-covers taken (t .limit) (λ m. met .2);
         }
 
     -- and out of the zones
@@ -222,9 +238,9 @@ module _
           (corners-wide sensible measured) (point costs x) inside leaf-wide (rw front at parts) zoned
 
       pub leaf-split :
-          OpenedFrom d task ds s (leaf ds values acc) work run work″
-          (record { points = t .points; zones = m; limit = t .limit; left = run .left; done = run .done })
-      leaf-split =
+          1 ≤ run .meets →
+          OpenedFrom d task ds s (leaf ds values acc) work run work″ (metWith run (t .points) m (t .limit))
+      leaf-split some =
           record {
             still =
                 still-trans (framed-still (takes .frame) task (h .ready .planned .few))
@@ -238,5 +254,6 @@ module _
             };
             follows = rw same-list (met .1);
             fewer = omega arith;
-            covered = λ some. rw same-list (leaf-covers taken (t .limit) (λ m. met .2));
+            meeting = meeting-met some;
+            covered = λ left. rw same-list (leaf-covers taken (t .limit) (λ m. met .2));
           }

@@ -1,5 +1,5 @@
 -- What the tests leave out is covered: a partial choice that is dead has no completion that is sought.
-use mathlib.Core.Path.{_≡_, sym, ap, _∙_, subst}
+use mathlib.Core.Path.{_≡_, refl, sym, ap, _∙_, subst}
 use mathlib.Core.Logic.{inl, inr}
 use mathlib.Core.List.{List, List·Memᴰ as In}
 use Prim.Native.Nat.{ℕ, _≤_, _<_}
@@ -29,9 +29,11 @@ use Rattle.branch_zones.proofs.ZoneRows.{listed-corner, corners-wide}
 use Rattle.branch_buckets.specs.Bounds.{costsOver}
 use Rattle.branch_pruning.specs.declared.Progress as DP
 use Rattle.branch_search.specs.declared.Node as DN
-use Rattle.branch_search.specs.States.{planIn, archiveIn, problemOf, Completes, AllCovered, Standing, OpenedFrom}
+use Rattle.branch_search.specs.States.{planIn, archiveIn, problemOf, stopped, Completes, AllCovered}
+use Rattle.branch_search.specs.States.{Standing, OpenedFrom}
 use Rattle.branch_pruning.specs.Tests.{zonesOf, Untied, Dead}
 use Rattle.branch_search.proofs.Memory.{still-refl}
+use Rattle.branch_search.proofs.Meeting.{meeting-refl}
 use Rattle.branch_directions.proofs.Widths.{lead-inside, width-few}
 use Rattle.branch_search.proofs.Completions.{costs-over, costs-over-wide, completion-not-later, completion-bound}
 use Rattle.branch_search.proofs.Completions.{completion-above}
@@ -58,7 +60,27 @@ module _
         running = h .running;
         follows = follows-refl (leadWeights d) archive (run .limit);
         fewer = omega arith;
+        meeting = meeting-refl work run;
         covered = c;
+      }
+
+  -- no more complete choices may be met
+  pub opened-stopped : OpenedFrom d task ds s node work run work (stopped run)
+  opened-stopped =
+      record {
+        still = still-refl task work;
+        running =
+            record {
+              few = h .running .few;
+              archived = h .running .archived;
+              distinct = h .running .distinct;
+              measured = h .running .measured;
+              zoned = h .running .zoned;
+            };
+        follows = follows-refl (leadWeights d) archive (run .limit);
+        fewer = omega arith;
+        meeting = record { fewer = omega arith; idle = λ e. (refl, refl, refl) };
+        covered = λ some. absurd (omega arith);
       }
 
   module _ (y : Point) (m : CoreReached problem y) where

@@ -1,9 +1,11 @@
 -- Laws of the search.
 pub mod Nodes
+pub mod Meeting
 pub mod Memory
 pub mod ArchivedWords
 pub mod Archives
 pub mod Completions
+pub mod Testing
 pub mod Leaving
 pub mod Zoning
 pub mod Leaf

@@ -32,6 +32,7 @@ use Rattle.branch_directions.specs.declared.Directions as DD
 use Rattle.branch_buckets.specs.Bounds.{baseAt, boundAt}
 use Rattle.branch_buckets.proofs.Bounds.{bound-limit}
 use Rattle.branch_pruning.specs.declared.Progress as DP
+use Rattle.branch_pruning.specs.declared.Reach as DR
 use Rattle.branch_search.specs.declared.Explored as DE
 use Rattle.branch_search.specs.declared.Effort as DF
 use Rattle.branch_search.specs.declared.Node as DN
@@ -46,8 +47,13 @@ use Rattle.branch_search.proofs.Archives.{archived-between, between-arc
 use Rattle.model.proofs.Zeros.{zeros-at, zeros-choice, front-same}
 
 -- the empty choice with its bound
-abbrev pub rootNode : List ℕ → DN.Node
-rootNode b = record { depth = 0; choice = replicate maxVariables 0; bound = b }
+abbrev pub rootNode : List ℕ → DR.Reach → DN.Node
+rootNode b reach = record { depth = 0; choice = replicate maxVariables 0; bound = b; reach = reach }
+
+-- where a pass begins
+abbrev pub rootRun : ℕ → ℕ → ℕ → ℕ → DP.Progress
+rootRun points zones limit left =
+    record { points = points; zones = zones; limit = limit; left = left; done = 0; meets = 9223372036854775808 }
 
 module _ {d : DD.Directions} {task : DT.Task} {ds s work : List ℕ} (h : Ready d task ds s work) where
   abbrev problem : Problem
@@ -104,7 +110,7 @@ module _ {d : DD.Directions} {task : DT.Task} {ds s work : List ℕ} (h : Ready 
       {work′ : List ℕ} {m : ℕ} (written : ZonesWritten d work work′ m)
       (hold : ZonesHold d points (task .ceilings) work work′ m) where
     abbrev run : DP.Progress
-    run = record { points = points; zones = m; limit = limit; left = left; done = 0 }
+    run = rootRun points m limit left
 
     zones-kept : Still task work work′
     zones-kept = zones-still work work′ (written .long) (written .behind) task
@@ -126,9 +132,8 @@ module _ {d : DD.Directions} {task : DT.Task} {ds s work : List ℕ} (h : Ready 
         ((at : ℕ) → getD s at 0 < byteEnd) → (b : List ℕ) →
         ((j : ℕ) → j < widthOf d →
         getD b j 0 ≡ baseAt d ds s (planIn work′) (task .records) (replicate (length ds) 0) j) →
-        Standing d task ds s work′
-        (record { points = points; zones = m; limit = limit; left = left; done = 0 }) (rootNode b)
-    root-standing bytes b is =
+        (reach : DR.Reach) → Standing d task ds s work′ (rootRun points m limit left) (rootNode b reach)
+    root-standing bytes b is reach =
         let zeros : take {A = ℕ} (length ds) (replicate maxVariables 0) ≡ replicate (length ds) 0 =
         front-same (length ds) maxVariables 0 (h .planned .variables) in
         record {
@@ -141,11 +146,10 @@ module _ {d : DD.Directions} {task : DT.Task} {ds s work : List ℕ} (h : Ready 
 
     -- every choice completes the empty one
     pub root-passed :
-        (b work″ : List ℕ) (run″ : DP.Progress) →
-        OpenedFrom d task ds s (rootNode b) work′
-        (record { points = points; zones = m; limit = limit; left = left; done = 0 }) work″ run″ →
+        (b : List ℕ) (reach : DR.Reach) (work″ : List ℕ) (run″ : DP.Progress) →
+        OpenedFrom d task ds s (rootNode b reach) work′ (rootRun points m limit left) work″ run″ →
         Passed (problemOf d task ds s work) d task (length ds) left work work″ run″
-    root-passed b work″ run″ o =
+    root-passed b reach work″ run″ o =
         record {
           still = still-trans zones-kept (o .still);
           running = subst (λ (q : Problem). Running q d task (length ds) work″ run″) same-problem (o .running);

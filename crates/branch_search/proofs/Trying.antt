@@ -23,11 +23,13 @@ use Rattle.layout.specs.Places.{orderIn}
 use Rattle.branch_buckets.specs.Bounds.{Agree, boundAt}
 use Rattle.branch_buckets.proofs.Bounds.{bound-local, bound-below}
 use Rattle.branch_pruning.specs.declared.Progress as DP
+use Rattle.branch_pruning.specs.declared.Reach as DR
 use Rattle.branch_search.specs.declared.Node as DN
 use Rattle.branch_search.specs.States.{noLimit, planIn, archiveIn, problemOf}
 use Rattle.branch_search.specs.States.{Running, Partial, Completes, Still, AllCovered, Standing, OpenedFrom}
-use Rattle.branch_search.specs.States.{Opened, reaching}
+use Rattle.branch_search.specs.States.{Opened, reaching, spent, Meeting}
 use Rattle.branch_search.proofs.Nodes.{withNext, Extends}
+use Rattle.branch_search.proofs.Meeting.{meeting-refl, meeting-trans}
 use Rattle.branch_search.proofs.Memory.{still-refl, still-trans, problem-still, ready-still}
 use Rattle.branch_directions.proofs.Widths.{lead-inside}
 use Rattle.branch_search.proofs.Leaving.{lead-exact}
@@ -78,22 +80,19 @@ pub record Trying
       Follows (leadWeights d) (archiveIn d (length ds) work run) (run .limit)
       (archiveIn d (length ds) work′ run′) (run′ .limit)
   pub fewer : run′ .left ≤ run .left
+  pub meeting : Meeting work run work′ run′
   pub long : length leads ≡ maxDomain
   pub each :
       1 ≤ run′ .left → (a : ℕ) → a < getD ds (orderIn (planIn work) (node .depth)) 0 →
       ValueCovered d task ds s work node a work′ run′ ⊎ (getD leads a 0 ≡ leadWith d task ds s (planIn work) node a)
 
--- of the partial choices that may be opened this is one
-abbrev pub spent : DP.Progress → DP.Progress
-spent run =
-    record { points = run .points; zones = run .zones; limit = run .limit; left = run .left - 1; done = run .done }
-
 module _
     {d : DD.Directions} {task : DT.Task} {ds s work : List ℕ} {run : DP.Progress} {node : DN.Node}
     (h : Standing d task ds s work run node) where
-  pub spent-standing : Standing d task ds s work (spent run) node
-  spent-standing =
-      record {
+  pub spent-standing : {less : DP.Progress} → less ≡ spent run → Standing d task ds s work less node
+  spent-standing e =
+      subst (λ (r : DP.Progress). Standing d task ds s work r node) (sym e)
+      (record {
         ready = h .ready;
         running =
             record {
@@ -104,13 +103,16 @@ module _
               zoned = h .running .zoned;
             };
         partial = h .partial;
-      }
+      })
 
   -- and how far a pass came changes nothing
   pub spent-opened :
-      {work′ : List ℕ} {run′ run″ : DP.Progress} → run″ ≡ reaching run′ (run″ .done) →
-      OpenedFrom d task ds s node work (spent run) work′ run′ → OpenedFrom d task ds s node work run work′ run″
-  spent-opened {work′} same o =
+      {less : DP.Progress} {work′ : List ℕ} {run′ run″ : DP.Progress} → less ≡ spent run →
+      run″ ≡ reaching run′ (run″ .done) → OpenedFrom d task ds s node work less work′ run′ →
+      OpenedFrom d task ds s node work run work′ run″
+  spent-opened {less} {work′} {run′} e same opened =
+      let o : OpenedFrom d task ds s node work (spent run) work′ run′ =
+      subst (λ (r : DP.Progress). OpenedFrom d task ds s node work r work′ run′) e opened in
       subst (OpenedFrom d task ds s node work run work′) (sym same)
       (record {
         still = o .still;
@@ -124,6 +126,7 @@ module _
             };
         follows = o .follows;
         fewer = omega (arith, o .fewer);
+        meeting = record { fewer = o .meeting .fewer; idle = o .meeting .idle };
         covered = o .covered;
       })
 
@@ -150,6 +153,7 @@ module _
         running = h .running;
         follows = follows-refl (leadWeights d) (archiveIn d (length ds) work run) (run .limit);
         fewer = omega arith;
+        meeting = meeting-refl work run;
         long = long;
         each = λ some a l. inr (is a l);
       }
@@ -159,11 +163,12 @@ module _
       (t : Trying d task ds s work run node work′ run′ leads) where
     -- what trying a value asks
     pub trying-standing :
-        (a : ℕ) (b : List ℕ) (next : DN.Node) → Extends (planIn work) (length ds) node a b next →
+        (a : ℕ) (b : List ℕ) (reach : DR.Reach) (next : DN.Node) →
+        Extends (planIn work) (length ds) node a b reach next →
         Partial d (task .records) ds s (planIn work) (node .depth + 1)
         (withNext (planIn work) (length ds) node a) b →
         Standing d task ds s work′ run′ next
-    trying-standing a b next e p =
+    trying-standing a b reach next e p =
         record {
           ready = ready-still (t .still) d ds s (h .ready);
           running =
@@ -174,10 +179,11 @@ module _
 
     -- and what it leaves
     pub trying-next :
-        (a : ℕ) (b : List ℕ) (next : DN.Node) → Extends (planIn work) (length ds) node a b next →
+        (a : ℕ) (b : List ℕ) (reach : DR.Reach) (next : DN.Node) →
+        Extends (planIn work) (length ds) node a b reach next →
         (work″ : List ℕ) (run″ : DP.Progress) → OpenedFrom d task ds s next work′ run′ work″ run″ →
         Trying d task ds s work run node work″ run″ (set leads a noLimit)
-    trying-next a b next e work″ run″ o =
+    trying-next a b reach next e work″ run″ o =
         record {
           still = still-trans (t .still) (opened .still);
           running = opened .running;
@@ -186,6 +192,7 @@ module _
               (archived-wide (t .running .archived)) (archived-wide (opened .running .archived))
               (t .follows) (opened .follows);
           fewer = omega (arith, t .fewer, opened .fewer);
+          meeting = meeting-trans (t .meeting) (opened .meeting);
           long = length-set leads a noLimit ∙ t .long;
           each = λ some c l.
               let before : 1 ≤ run′ .left = omega (arith, opened .fewer) in
@@ -224,6 +231,7 @@ module _
           running = t .running;
           follows = t .follows;
           fewer = t .fewer;
+          meeting = t .meeting;
           covered = covers;
         }
       where

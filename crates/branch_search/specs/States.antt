@@ -2,7 +2,7 @@
 -- the archive, and the plan.
 use mathlib.Core.Path.{_≡_}
 use mathlib.Core.Bool.{true, false, not}
-use mathlib.Core.List.{List, List·Memᴰ as In}
+use mathlib.Core.List.{List, [], List·Memᴰ as In}
 use Prim.Native.Nat.{ℕ, _+_, _-_, _≤_, _<_}
 use lib.Dec.{ltb}
 use lib.ListN.{length, getD, take, drop, set}
@@ -27,6 +27,7 @@ use Rattle.branch_buckets.specs.Bounds.{boundAt, Agree}
 use Rattle.branch_buckets.specs.Content.{Planned}
 use Rattle.branch_buckets.specs.Sound.{Sound}
 use Rattle.branch_pruning.specs.declared.Progress as DP
+use Rattle.branch_pruning.specs.declared.Reach as DR
 use Rattle.branch_pruning.specs.Tests.{zonesOf}
 use Rattle.branch_search.specs.declared.Node as DN
 use Rattle.branch_search.specs.declared.Explored as DE
@@ -86,13 +87,18 @@ pub record Partial (d : DD.Directions) (r : ℕ) (ds s plan : List ℕ) (k : ℕ
   pub exact : (j : ℕ) → j < widthOf d → getD acc j 0 ≡ boundAt d ds s plan r k x j
   pub small : (j : ℕ) → j < widthOf d → getD acc j 0 < directionEnd
 
--- a partial choice with the value a of one more variable, v, and the bound that it then has
-abbrev pub extended : DN.Node → ℕ → ℕ → List ℕ → DN.Node
-extended node v a bound = record { depth = node .depth + 1; choice = set (node .choice) v a; bound = bound }
+-- a partial choice with the value a of one more variable, v, the bound that it then has, and what the one before may
+-- reach
+abbrev pub extended : DN.Node → ℕ → ℕ → List ℕ → DR.Reach → DN.Node
+extended node v a bound reach =
+    record { depth = node .depth + 1; choice = set (node .choice) v a; bound = bound; reach = reach }
 
--- a complete choice, as a partial choice with no variable left
+abbrev pub noReach : DR.Reach
+noReach = record { zones = record { count = 0; rows = [] }; ties = record { count = 0; rows = [] }; meets = 0 }
+
+-- a complete choice, as a partial choice with no variable left: it is met, whatever it may reach
 abbrev pub leaf : List ℕ → List ℕ → List ℕ → DN.Node
-leaf ds x bound = record { depth = length ds; choice = x; bound = bound }
+leaf ds x bound = record { depth = length ds; choice = x; bound = bound; reach = noReach }
 
 -- y has the values of a partial choice
 abbrev pub Completes : List ℕ → ℕ → DN.Node → List ℕ → Type 0
@@ -101,7 +107,56 @@ Completes plan n node y = Agree plan (node .depth) (take n (node .choice)) y
 -- the same, but for how far it came, of which nothing is said
 abbrev pub reaching : DP.Progress → ℕ → DP.Progress
 reaching run done =
-    record { points = run .points; zones = run .zones; limit = run .limit; left = run .left; done = done }
+    record {
+      points = run .points;
+      zones = run .zones;
+      limit = run .limit;
+      left = run .left;
+      done = done;
+      meets = run .meets;
+    }
+
+-- of the partial choices that may be opened this is one
+abbrev pub spent : DP.Progress → DP.Progress
+spent run =
+    record {
+      points = run .points;
+      zones = run .zones;
+      limit = run .limit;
+      left = run .left - 1;
+      done = run .done;
+      meets = run .meets;
+    }
+
+-- the pass is given up
+abbrev pub stopped : DP.Progress → DP.Progress
+stopped run =
+    record {
+      points = run .points;
+      zones = run .zones;
+      limit = run .limit;
+      left = 0;
+      done = run .done;
+      meets = run .meets;
+    }
+
+-- a complete choice is met, after which there are so many points and zones, and this limit
+abbrev pub metWith : DP.Progress → ℕ → ℕ → ℕ → DP.Progress
+metWith run points zones limit =
+    record {
+      points = points;
+      zones = zones;
+      limit = limit;
+      left = run .left;
+      done = run .done;
+      meets = run .meets - 1;
+    }
+
+-- while no complete choice is met, memory stays as it is
+pub record Meeting (work : List ℕ) (run : DP.Progress) (work′ : List ℕ) (run′ : DP.Progress) : Type 0 where
+  pub fewer : run′ .meets ≤ run .meets
+  pub idle : run′ .meets ≡ run .meets
+      → (work′ ≡ work) × (run′ .points ≡ run .points) × (run′ .zones ≡ run .zones)
 
 -- what stays
 pub record Still (task : DT.Task) (work work′ : List ℕ) : Type 0 where
@@ -123,6 +178,7 @@ pub record Opened
   pub running : Running q d task n work′ run′
   pub follows : Follows (leadWeights d) (archiveIn d n work run) (run .limit) (archiveIn d n work′ run′) (run′ .limit)
   pub fewer : run′ .left ≤ run .left
+  pub meeting : Meeting work run work′ run′
   pub covered : 1 ≤ run′ .left → AllCovered q d (Completes plan n node) (archiveIn d n work′ run′) (run′ .limit)
 
 -- what opening a partial choice relies on

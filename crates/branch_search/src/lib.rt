@@ -13,8 +13,9 @@ ghost use Rattle.groups.specs.Sources.{sourceProblem};
 ghost use Rattle.rows.specs.Rows.{costsIn, EachCost};
 ghost use Rattle.branch_directions.specs.Directions.{leadWeights, Sensible};
 ghost use Rattle.branch_zones.specs.Zones.{Measured};
-ghost use Rattle.branch_pruning.specs.Tests.{zonesOf};
+ghost use Rattle.branch_pruning.specs.Tests.{zonesOf, Reached};
 ghost use Rattle.branch_search.specs.States.{problemOf, extended, leaf, Ready, Standing, OpenedFrom};
+ghost use Rattle.branch_search.specs.States.{spent, metWith, stopped};
 ghost use Rattle.branch_search.specs.States.{reaching, unended, Between, Passed, ExploredSays, LeftOver};
 ghost use Rattle.branch_search.specs.Passes.{ZonesWritten, ZonesHold};
 
@@ -23,6 +24,9 @@ const NO_LIMIT: u64 = 18446744073709551615;
 
 // After so many passes the search is given up.
 const MAX_PASSES: usize = 66;
+
+// After so many complete choices a pass is given up: more than any meets.
+const MAX_MEETS: u64 = 9223372036854775808;
 
 // How far a pass came is told in parts of this.
 const WHOLE: u64 = 1099511627776;
@@ -50,18 +54,27 @@ pub struct Explored {
     pub effort: Effort,
 }
 
-// A partial choice: values for the variables at the first `depth` positions, and its bound in every direction.
+// A partial choice: values for the variables at the first `depth` positions, its bound in every direction, and what the
+// one that it extends may reach.
 pub struct Node {
     pub depth: usize,
     pub choice: [u8; 24],
     pub bound: [u64; 8],
+    pub reach: branch_pruning::Reach,
 }
 
 impl Node {
-    // One more variable has its value: the next partial choice, with the bound that it then has.
-    fn with(self, variable: usize, value: usize, bound: [u64; 8]) -> Node
+    // One more variable has its value: the next partial choice, with the bound that it then has, and what this one may
+    // reach.
+    fn with(
+        self,
+        variable: usize,
+        value: usize,
+        bound: [u64; 8],
+        reach: branch_pruning::Reach,
+    ) -> Node
         requires { ⌜ (self .depth < maxVariables) × (variable < maxVariables) × (value < maxDomain) ⌝ }
-        ensures { λ next. ⌜ next ≡ extended self variable value bound ⌝ }
+        ensures { λ next. ⌜ next ≡ extended self variable value bound reach ⌝ }
     {
         let x = self.choice;
         let choice = branch_buckets::with_value(x, variable, value);
@@ -70,7 +83,57 @@ impl Node {
             depth,
             choice,
             bound,
+            reach,
         }
+    }
+}
+
+// Of the partial choices that may be opened this is one.
+fn count_opened(run: branch_pruning::Progress) -> branch_pruning::Progress
+    requires { ⌜ 1 ≤ run .left ⌝ }
+    ensures { λ t. ⌜ t ≡ spent run ⌝ }
+{
+    branch_pruning::Progress {
+        points: run.points,
+        zones: run.zones,
+        limit: run.limit,
+        left: run.left - 1,
+        done: run.done,
+        meets: run.meets,
+    }
+}
+
+// A complete choice is met: there are so many points and zones then, and this limit.
+fn count_met(
+    run: branch_pruning::Progress,
+    points: usize,
+    zones: usize,
+    limit: u64,
+) -> branch_pruning::Progress
+    requires { ⌜ 1 ≤ run .meets ⌝ }
+    ensures { λ t. ⌜ t ≡ metWith run points zones limit ⌝ }
+{
+    branch_pruning::Progress {
+        points,
+        zones,
+        limit,
+        left: run.left,
+        done: run.done,
+        meets: run.meets - 1,
+    }
+}
+
+// The pass is given up.
+fn stop(run: branch_pruning::Progress) -> branch_pruning::Progress
+    ensures { λ t. ⌜ t ≡ stopped run ⌝ }
+{
+    branch_pruning::Progress {
+        points: run.points,
+        zones: run.zones,
+        limit: run.limit,
+        left: 0,
+        done: run.done,
+        meets: run.meets,
     }
 }
 
@@ -100,6 +163,9 @@ fn take_leaf(
     if branch_directions::lead_of(bound, d) >= run.limit {
         return run;
     }
+    if run.meets == 0 {
+        return stop(run);
+    }
     let weights = branch_directions::lead_weights(d);
     let n = sizes.len();
     let t = branch_archive::take_point(
@@ -114,22 +180,10 @@ fn take_leaf(
         work,
     );
     if !t.added {
-        return branch_pruning::Progress {
-            points: t.points,
-            zones: run.zones,
-            limit: t.limit,
-            left: run.left,
-            done: run.done,
-        };
+        return count_met(run, t.points, run.zones, t.limit);
     }
     let m = branch_zones::split_zones(costs, run.zones, d, &mut work[..layout::ZONES_END]);
-    branch_pruning::Progress {
-        points: t.points,
-        zones: m,
-        limit: t.limit,
-        left: run.left,
-        done: run.done,
-    }
+    count_met(run, t.points, m, t.limit)
 }
 
 // Takes what the first `c` archived points match out of `m` zones; how many there are then.
@@ -191,6 +245,7 @@ fn part_done(run: branch_pruning::Progress, finished: u64, size: usize) -> branc
         limit: run.limit,
         left: run.left,
         done: parts / size as u64,
+        meets: run.meets,
     }
 }
 
@@ -204,14 +259,16 @@ fn try_choice(
     d: branch_directions::Directions,
     work: &mut [u32],
 ) -> branch_pruning::Progress
-    requires { ⌜ Standing d task (now sizes) (now s) (now work) run node ⌝ }
+    requires { ⌜ Standing d task (now sizes) (now s) (now work) run node
+        × Reached d (now work) run (node .bound) (node .reach) ⌝ }
     ensures { λ t. ⌜ OpenedFrom d task (now (sizes .entry)) (now (s .entry)) node
         (now (work .entry)) run (now (work .exit)) t ⌝ }
 {
     let n = sizes.len();
     let x = node.choice;
     let bound = node.bound;
-    if branch_pruning::is_alive(x, bound, run, n, d, work) {
+    let reach = node.reach;
+    if branch_pruning::is_alive(x, bound, reach, run, n, d, work) {
         return open_position(node, run, s, sizes, task, d, work);
     }
     run
@@ -228,7 +285,8 @@ fn open_position(
     d: branch_directions::Directions,
     work: &mut [u32],
 ) -> branch_pruning::Progress
-    requires { ⌜ Standing d task (now sizes) (now s) (now work) run node ⌝ }
+    requires { ⌜ Standing d task (now sizes) (now s) (now work) run node
+        × Reached d (now work) run (node .bound) (node .reach) ⌝ }
     ensures { λ t. ⌜ OpenedFrom d task (now (sizes .entry)) (now (s .entry)) node
         (now (work .entry)) run (now (work .exit)) t ⌝ }
 {
@@ -256,18 +314,16 @@ fn open_position(
     );
     let mut leads = branch_values::leads_of(&rows, bound, away, size, d);
     let mut a = branch_values::least_value(&leads, size);
-    let left = run.left - 1;
-    let mut t = branch_pruning::Progress {
-        points: run.points,
-        zones: run.zones,
-        limit: run.limit,
-        left,
-        done: run.done,
-    };
+    let mut t = count_opened(run);
+    let from = node.reach;
+    let mut reach = branch_pruning::reach_of(bound, from, t, d, work);
     let mut finished: u64 = 0;
     while leads[a] < t.limit {
+        if reach.meets != t.meets {
+            reach = branch_pruning::reach_anew(bound, t, d, work);
+        }
         let b = branch_values::row_of(&rows, a, bound, away, d.objectives + d.sums);
-        let next = node.with(v, a, b);
+        let next = node.with(v, a, b, reach);
         t = try_choice(next, t, s, sizes, task, d, work);
         finished = add_finished(finished, t.left);
         leads[a] = NO_LIMIT;
@@ -311,17 +367,20 @@ fn run_pass(
     let limit = start_limit(points, task.room, d, work);
     let m = start_zones(points, ceilings, d, work);
     let bound = branch_values::root_bound(s, sizes, task.records, d, &work[layout::PLAN_AT..]);
-    let node = Node {
-        depth: 0,
-        choice: [0u8; 24],
-        bound,
-    };
     let run = branch_pruning::Progress {
         points,
         zones: m,
         limit,
         left,
         done: 0,
+        meets: MAX_MEETS,
+    };
+    let reach = branch_pruning::full_reach(run);
+    let node = Node {
+        depth: 0,
+        choice: [0u8; 24],
+        bound,
+        reach,
     };
     try_choice(node, run, s, sizes, task, d, work)
 }

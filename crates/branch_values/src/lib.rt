@@ -53,7 +53,8 @@ pub fn away_at(
 // The bound with value `a`, in the first `w` directions. Always eight rounds, so that all numbers stay in registers.
 pub fn row_of(rows: &[u64; 64], a: usize, acc: [u64; 8], away: [u64; 8], w: usize) -> [u64; 8]
     requires { ⌜ (a < maxDomain) × (w ≤ maxDirections) × Holding w acc away (now rows) a ⌝ }
-    ensures { λ b. ⌜ ((j : ℕ) → j < w → getD b j 0 ≡ nextBound acc away (now (rows .entry)) a j) ⌝ }
+    ensures { λ b. ⌜ (length b ≡ maxDirections)
+        × ((j : ℕ) → j < w → getD b j 0 ≡ nextBound acc away (now (rows .entry)) a j) ⌝ }
 {
     let at = 8 * a;
     let mut b = [0u64; 8];

@@ -16,7 +16,8 @@ use Rattle.branch_directions.specs.Directions.{maxDirections, directionsOf, wid
 use Rattle.branch_directions.specs.declared.Directions as DD
 use Rattle.branch_directions.proofs.AtMostAt.{at-most-at}
 use Rattle.branch_directions.proofs.DirectionLaws.{directions-length}
-use Rattle.branch_zones.specs.Zones.{zoneWidth, cornerIn, clamped, Measured}
+use Rattle.branch_zones.specs.Zones.{zoneWidth, cornerIn, clamped, Measured, Missed}
+use Rattle.branch_zones.specs.Steps.{Under}
 use Rattle.branch_zones.proofs.Clamping.{clamped-mono}
 use Rattle.branch_zones.proofs.ZoneRows.{corner-long}
 
@@ -44,9 +45,8 @@ module _ {d : DD.Directions} {zones : List ℕ} {m : ℕ} (sensible : Sensible d
       let most : getD b j 0 ≤ getD dirs j 0 = rw (getD-take (widthOf d) b j 0 h) at under in
       omega (arith, clamped-mono (getD b j 0) (getD dirs j 0) most, numbers j h, old .numbers i j l h)
 
-  pub not-reached : (j : ℕ) → getD zones (zoneWidth * i + j) 0 < getD least j 0
-      → atMost (take (widthOf d) b) (directionsOf d (cornerIn (d .objectives) zones i)) ≡ false
-  not-reached j less =
+  pub not-reached : Under zones least i → Missed d zones b i
+  not-reached (j, less) =
       ⊎-elim
       (λ t. not-true-false (atMost (take (widthOf d) b) dirs) (above j (ltb-true j (widthOf d) t) less))
       (λ t. absurd (omega (arith, zeros j (ltb-false j (widthOf d) t))))

@@ -16,6 +16,10 @@ use Rattle.branch_zones.specs.declared.Places as DP
 abbrev pub rowIn : List ℕ → ℕ → List ℕ
 rowIn zones i = take zoneWidth (drop (zoneWidth * i) zones)
 
+-- a number of row i is below that of a clamped bound
+abbrev pub Under : List ℕ → List ℕ → ℕ → Type 0
+Under zones least i = (j : ℕ) × (getD zones (zoneWidth * i + j) 0 < getD least j 0)
+
 -- row i has the corner t in every direction, and the other rows are kept
 pub record Written (d : DD.Directions) (zones : List ℕ) (i : ℕ) (t zones′ : List ℕ) : Type 0 where
   pub long : length zones′ ≡ length zones

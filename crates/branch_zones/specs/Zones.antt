@@ -2,7 +2,7 @@
 -- as the greatest that does.
 use mathlib.Core.Path.{_≡_}
 use mathlib.Core.Logic.{_⊎_}
-use mathlib.Core.Bool.{true}
+use mathlib.Core.Bool.{true, false}
 use mathlib.Core.List.{List, [], _∷_, List·Memᴰ as In}
 use Prim.Native.Nat.{ℕ, zero, suc, _+_, _-_, _*_, _≤_, _<_}
 use lib.Dec.{ltb}
@@ -39,6 +39,14 @@ pub record Measured (d : DD.Directions) (zones : List ℕ) (m : ℕ) : Type 0 wh
   pub long : zonesEnd ≤ length zones
   pub numbers : (i j : ℕ) → i < m → j < widthOf d
       → getD zones (zoneWidth * i + j) 0 ≡ clamped (getD (directionsOf d (cornerIn (d .objectives) zones i)) j 0)
+
+-- a vector is below the bound b in some direction: nothing that costs as much as the bound is at most the vector
+abbrev pub Exceeds : DD.Directions → List ℕ → List ℕ → Type 0
+Exceeds d b v = atMost (take (widthOf d) b) (directionsOf d v) ≡ false
+
+-- and so it is with the corner of zone i: nothing with this bound lies in the zone
+abbrev pub Missed : DD.Directions → List ℕ → List ℕ → ℕ → Type 0
+Missed d zones b i = Exceeds d b (cornerIn (d .objectives) zones i)
 
 -- zones split at z: each goes on whole, or by its parts below z (the model's zones-split asks for this)
 abbrev pub SplitAt : ℕ → List ℕ → List (List ℕ) → List (List ℕ) → Type 0

@@ -10,10 +10,11 @@ ghost use Rattle.model.specs.Problems.{Word};
 ghost use Rattle.model.specs.Core.{WordCeiling};
 ghost use Rattle.model.specs.Vectors.{atMost};
 ghost use Rattle.model.specs.Archive.{lowered};
-ghost use Rattle.branch_directions.specs.Directions.{maxDirections, directionsOf, widthOf, Sensible};
+ghost use Rattle.branch_directions.specs.Directions.{maxDirections, Sensible};
 ghost use Rattle.layout.specs.Layout.{zonesEnd};
+ghost use Rattle.branch_candidates.specs.Sifted.{Sifted};
 ghost use Rattle.branch_zones.specs.Zones.{maxZones, zoneWidth, cornerIn, cornersIn, clamped};
-ghost use Rattle.branch_zones.specs.Zones.{Measured, SplitAt, FirstZone};
+ghost use Rattle.branch_zones.specs.Zones.{Measured, Missed, SplitAt, FirstZone};
 ghost use Rattle.branch_zones.specs.Steps.{Written, Held, PartAdded, Closed, ZonesSplit};
 
 pub const MAX_ZONES: usize = 128;
@@ -70,19 +71,54 @@ fn is_under(least: [u32; 8], at: usize, zones: &[u32]) -> bool
     under
 }
 
-// Whether a vector with this bound, in every direction, may lie in one of `m` zones.
-pub fn is_reached(b: [u64; 8], m: usize, d: branch_directions::Directions, zones: &[u32]) -> bool
-    requires { ⌜ Sensible d × Measured d (now zones) m ⌝ }
-    ensures { λ r. ⌜ (r ≡ false → (i : ℕ) → i < m
-        → atMost (take (widthOf d) b) (directionsOf d (cornerIn (d .objectives) (now (zones .entry)) i)) ≡ false) ⌝ }
+// Of candidates those that are reached: zones in which a vector with this bound, in every direction, may lie.
+pub fn reached_zones(
+    b: [u64; 8],
+    from: branch_candidates::Candidates,
+    m: usize,
+    d: branch_directions::Directions,
+    zones: &[u32],
+) -> branch_candidates::Candidates
+    requires { ⌜ Sensible d × Measured d (now zones) m × Sifted m (Missed d (now zones) b) from ⌝ }
+    ensures { λ c. ⌜ Sifted m (Missed d (now (zones .entry)) b) c ⌝ }
 {
     let least = clamp_bound(b, d.objectives + d.sums);
-    let mut i: usize = 0;
-    while i < m {
-        if is_under(least, ZONE_WIDTH * i, zones) {
+    let count = from.count;
+    let old = from.rows;
+    let mut rows = [0u8; 128];
+    let mut kept: usize = 0;
+    let mut j: usize = 0;
+    while j < count {
+        let i = old[j];
+        if is_under(least, ZONE_WIDTH * i as usize, zones) {
+            rows[kept] = i;
+            kept += 1;
+        }
+        j += 1;
+    }
+    branch_candidates::Candidates { count: kept, rows }
+}
+
+// Whether one of `m` zones is reached. Only candidates are looked at.
+pub fn is_reached(
+    b: [u64; 8],
+    from: branch_candidates::Candidates,
+    m: usize,
+    d: branch_directions::Directions,
+    zones: &[u32],
+) -> bool
+    requires { ⌜ Sensible d × Measured d (now zones) m × Sifted m (Missed d (now zones) b) from ⌝ }
+    ensures { λ r. ⌜ (r ≡ false → (i : ℕ) → i < m → Missed d (now (zones .entry)) b i) ⌝ }
+{
+    let least = clamp_bound(b, d.objectives + d.sums);
+    let count = from.count;
+    let rows = from.rows;
+    let mut j: usize = 0;
+    while j < count {
+        if is_under(least, ZONE_WIDTH * rows[j] as usize, zones) {
             return true;
         }
-        i += 1;
+        j += 1;
     }
     false
 }

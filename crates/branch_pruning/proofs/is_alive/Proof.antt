@@ -3,6 +3,7 @@ use mathlib.Core.Path.{refl, sym}
 use mathlib.Core.Logic.{inl, inr}
 use native.Mathlib.Omega.{arith}
 use lib.Seq.{length-take-le}
+use borrow.Author.Needs.{needs}
 use denote.Ref.{now}
 use Rattle.model.proofs.Bits.{true-false}
 use Rattle.layout.specs.Layout.{zonesEnd}
@@ -14,33 +15,23 @@ returns c = λ e. inl (omega (arith, c .before .before .lead-of .ensures, c .if1
 
 slice-aggregate-is-reached : tie.Need-slice-aggregate-is-reached
 slice-aggregate-is-reached c =
-    let s = c .before .before .before .before .before in
-    sym (length-take-le zonesEnd (now (s .args .work)) (omega (arith, s .pre .1)))
-
-is-reached-requires : tie.Need-is-reached-requires
-is-reached-requires c κs = (
-  c .before .before .before .before .before .pre .0,
-  c .before .before .before .before .before .pre .2,
-)
-
-is-tied-requires : tie.Need-is-tied-requires
-is-tied-requires c κs =
-    let reached = c .before in
-    let part = reached .before .before .before in
-    let s = part .before .before .before in
-    (s .pre .0, s .pre .1, s .pre .3, s .pre .4, s .pre .5)
+    let lead = c .before .before .before .before in
+    let s = lead .before .before in
+    sym (length-take-le zonesEnd (now (s .args .work)) (omega (arith, s .pre .0 .long)))
 
 returns-3 : tie.Need-returns-3
-returns-3 c = λ e. inr (c .before .before .is-reached .ensures (c .before .if2 .left), c .is-tied .ensures e)
+returns-3 c =
+    let if2 = c .before .before in
+    λ e. inr (if2 .before .is-reached .ensures (if2 .if2 .left), c .is-tied .ensures e)
 
 pub is-alive-spec : {M : Type 1} → statement M
 is-alive-spec =
     tie.close
     (tie.spec
-    (λ c κs. c .before .pre .0)  -- lead-of-requires
+    (λ c κs. search needs)  -- lead-of-requires
     returns
     slice-aggregate-is-reached
-    is-reached-requires
+    (λ c κs. search needs)  -- is-reached-requires
     (λ c e. absurd (true-false refl e))  -- returns-2
-    is-tied-requires
+    (λ c κs. search needs)  -- is-tied-requires
     returns-3)

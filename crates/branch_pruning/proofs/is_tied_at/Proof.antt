@@ -11,7 +11,7 @@ use Rattle.rows.proofs.Arrays.{array-length}
 use Rattle.branch_archive.proofs.RowReads.{front-costs, row-test}
 use Rattle.branch_directions.specs.Directions.{maxDirections, weightsOf}
 use denote.Ref.{now}
-use Rattle.branch_pruning.proofs.Ties.{untied-costs, untied-sums}
+use Rattle.branch_pruning.proofs.Ties.{surpassed-costs, surpassed-sums, untied}
 use borrow.Author.Needs.{needs}
 use Rattle.branch_pruning.proofs.is_tied_at.Statement.{statement}
 use Rattle.branch_pruning.proofs.is_tied_at.Tie as tie
@@ -24,8 +24,9 @@ returns c =
     (s .pre .0 .few) (c .before .before .before .row-costs .ensures)
     (λ u. atMost (take (a .d .objectives) (c .before .before .front-of .result)) u) _ _ (not-true _ (c .if1 .taken))
     (c .before .is-at-most .ensures) in
-    λ e. untied-costs (a .d) (a .n) (now (a .work)) (a .x) (a .b) (a .i) (s .pre .0) (s .pre .1) (s .pre .2)
-    (rw (c .before .before .front-of .ensures) at costs)
+    λ e. untied (a .d) (a .n) (now (a .work)) (a .x) (a .b) (a .i)
+    (surpassed-costs (a .d) (now (a .work)) (a .b) (a .i) (s .pre .0)
+    (rw (c .before .before .front-of .ensures) at costs))
 
 returns-2 : tie.Need-returns-2
 returns-2 c = λ e t. sym (c .before .is-earlier-at .ensures) ∙ not-true _ (c .if2 .taken)
@@ -46,9 +47,10 @@ returns-3 c =
     let row = front-costs (a .d .objectives) (now (a .work)) _ (a .i) (s .pre .0 .few)
     (c .before .before .before .before .before .before .row-costs .ensures) in
     λ e. let (k, l, less) = c .is-within .ensures e in
-    untied-sums (a .d) (a .n) (now (a .work)) (a .x) (a .b) (a .i) (s .pre .0) (s .pre .1) (s .pre .2)
+    untied (a .d) (a .n) (now (a .work)) (a .x) (a .b) (a .i)
+    (surpassed-sums (a .d) (now (a .work)) (a .b) (a .i) (s .pre .0)
     (sym (array-length w64 maxDirections (a .b) _ (s .good .1 .1 .0))) k l
-    (subst (λ (u : List ℕ). weighted (weightsOf (a .d) k) u < getD (a .b) (a .d .objectives + k) 0) row less)
+    (subst (λ (u : List ℕ). weighted (weightsOf (a .d) k) u < getD (a .b) (a .d .objectives + k) 0) row less))
 
 pub is-tied-at-spec : {M : Type 1} → statement M
 is-tied-at-spec =

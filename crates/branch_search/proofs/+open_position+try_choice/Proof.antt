@@ -2,6 +2,7 @@
 -- a partial choice is covered.
 -- The invariant of the loop over values, `Trying`. The measure is two for each variable without a value.
 use mathlib.Core.Path.{_≡_, refl, sym, _∙_, subst}
+use mathlib.Core.Logic.{⊎-elim}
 use mathlib.Core.List.{List}
 use Prim.Native.Nat.{ℕ, _+_, _-_, _*_, _≤_, _<_}
 use native.Mathlib.Omega.{arith}
@@ -9,7 +10,7 @@ use lib.ListN.{length, getD, take, drop, length-drop}
 use lib.Seq.{length-take-le}
 use borrow.Author.Needs.{needs}
 use denote.Ref.{now}
-use Rattle.model.specs.Limits.{maxDomain, byteEnd}
+use Rattle.model.specs.Limits.{maxObjectives, maxDomain, byteEnd}
 use Rattle.model.specs.Problems.{DomainSize}
 use Rattle.model.proofs.Elements.{all-below}
 use Rattle.layout.specs.Layout.{listEnd}
@@ -20,19 +21,23 @@ use Rattle.branch_buckets.specs.Sound.{Tested}
 use Rattle.branch_buckets.proofs.ContentRows.{planned-fewer}
 use Rattle.branch_buckets.proofs.Ends.{bucket-ranged}
 use Rattle.branch_buckets.proofs.Bounds.{records-inside}
+use Rattle.branch_pruning.specs.declared.Progress as DP
+use Rattle.branch_pruning.specs.declared.Reach as DR
+use Rattle.branch_pruning.specs.Tests.{Reached, Searched}
+use Rattle.branch_pruning.proofs.Reaches.{reached-rises}
 use Rattle.branch_search.specs.States.{planIn, Partial, Standing}
 use Rattle.branch_values.specs.Rows.{Holding, nextBound, Bucket, Away}
 use Rattle.branch_directions.proofs.Widths.{lead-inside, width-few}
-use Rattle.branch_search.proofs.Nodes.{choice-long, bound-long, withNext, Extends, extends, is-leaf}
+use Rattle.branch_search.proofs.Nodes.{choice-long, bound-long, withNext, Extends, extends}
 use Rattle.groups.proofs.Tasks.{ceilings-long}
-use Rattle.branch_search.proofs.ArchivedWords.{archived-small}
-use Rattle.branch_search.proofs.Memory.{lent-plan}
+use Rattle.branch_search.proofs.Testing.{running-searched, reached-spent, reached-idle, reached-extends}
+use Rattle.branch_search.proofs.Memory.{lent-plan, still-refl}
 use Rattle.branch_search.proofs.Leaving.{opened-same, dead-covers}
-use Rattle.branch_search.proofs.Leaf.{leaf-standing}
+use Rattle.branch_search.proofs.Leaf.{leaf-standing, leaf-opened}
 use Rattle.branch_search.proofs.Opening.{variable-inside, next-holding, next-exact, next-partial}
 use Rattle.branch_search.proofs.Trying.{leadWith, Trying, untried, tried-fewer}
 use Rattle.branch_search.proofs.Trying.{trying-start, trying-standing, trying-next, trying-end}
-use Rattle.branch_search.proofs.Trying.{spent, spent-standing, spent-opened}
+use Rattle.branch_search.proofs.Trying.{spent-standing, spent-opened}
 use borrow.Fn.Kinds.{In}
 use borrow.Fn.PlainCycle.{Measures, is, falls, and}
 use Rattle.branch_search.proofs.open_position.Reads as open-position
@@ -49,6 +54,9 @@ use Rattle.branch_values.proofs.least_value.Reads as least-value-reads
 use Rattle.branch_values.proofs.row_of.Reads as row-of-reads
 use Rattle.branch_search.proofs.Node.with.Reads as with-reads
 use Rattle.branch_search.proofs.take_leaf.Reads as take-leaf-reads
+use Rattle.branch_search.proofs.count_opened.Reads as count-opened-reads
+use Rattle.branch_pruning.proofs.reach_of.Reads as reach-of-reads
+use Rattle.branch_pruning.proofs.reach_anew.Reads as reach-anew-reads
 use Rattle.branch_search.proofs.add_finished.Reads as add-finished-reads
 use Rattle.branch_search.proofs.part_done.Reads as part-done-reads
 use Rattle.branch_buckets.proofs.variable_at.Reads as variable-at-reads
@@ -95,6 +103,12 @@ open-calls t = (
   leads-of-reads.Learnt,
   least-value-reads.Asked,
   least-value-reads.Learnt,
+  count-opened-reads.Asked,
+  count-opened-reads.Learnt,
+  reach-of-reads.Asked,
+  reach-of-reads.Learnt,
+  reach-anew-reads.Asked,
+  reach-anew-reads.Learnt,
   row-of-reads.Asked,
   row-of-reads.Learnt,
   with-reads.Asked,
@@ -110,14 +124,17 @@ open-calls t = (
 abbrev try-calls : ℕ → try-lts.Claims
 try-calls t = (is-alive-reads.Asked, is-alive-reads.Learnt, open-position-below t, open-position.Post)
 
--- the value that is next has the least lead
+-- the value that is next has the least lead; what may be reached is known unless a complete choice was met since
 abbrev Inv-loop : open-lts.InvT-loop
-Inv-loop node s sizes task d work₀ n k bound v size rows away leads₀ a₀ left t₀ finished₀ work leads a t finished =
+Inv-loop
+    node s sizes task d work₀ n k bound v size rows away leads₀ a₀ t₀ reach₀ finished₀ work leads a t reach finished =
     (a < size) × ((b : ℕ) → b < size → getD leads a 0 ≤ getD leads b 0)
     × Trying d task sizes s work₀ t₀ node work t leads
+    × (reach .meets ≡ t .meets → Reached d work t bound reach)
 
 abbrev μ-loop : open-lts.MeasureT-loop
-μ-loop node s sizes task d work₀ n k bound v size rows away leads₀ a₀ left t₀ finished₀ work leads a t finished =
+μ-loop
+    node s sizes task d work₀ n k bound v size rows away leads₀ a₀ t₀ reach₀ finished₀ work leads a t reach finished =
     untried leads
 
 module _ (t : ℕ) where
@@ -159,6 +176,14 @@ module _ (t : ℕ) where
   abbrev Led : Type 0
   Led = open-lts.After-leads-of (open-calls t) (open-position-at t) open-position.Post Inv-loop μ-loop
 
+  -- this one counts as opened
+  abbrev Spent : Type 0
+  Spent = open-lts.After-count-opened (open-calls t) (open-position-at t) open-position.Post Inv-loop μ-loop
+
+  -- and what it may reach is known
+  abbrev Reaching : Type 0
+  Reaching = open-lts.After-reach-of (open-calls t) (open-position-at t) open-position.Post Inv-loop μ-loop
+
   -- in the loop over values
   abbrev Looping : Type 0
   Looping = open-lts.At-loop (open-calls t) (open-position-at t) open-position.Post Inv-loop μ-loop
@@ -166,6 +191,10 @@ module _ (t : ℕ) where
   -- a value is tried
   abbrev Trial : Type 0
   Trial = open-lts.Then3 (open-calls t) (open-position-at t) open-position.Post Inv-loop μ-loop
+
+  -- what may be reached is known again
+  abbrev Renewed : Type 0
+  Renewed = open-lts.Joined4 (open-calls t) (open-position-at t) open-position.Post Inv-loop μ-loop
 
   -- its bound is known
   abbrev Bounded : Type 0
@@ -209,14 +238,23 @@ module _ (t : ℕ) where
   abbrev sent : Led → Sent
   sent c = c .before .before
 
-  abbrev led : Looping → Led
-  led c = c .before .before .before .before
+  abbrev led : Spent → Led
+  led c = c .before .before .before
+
+  abbrev spending : Reaching → Spent
+  spending c = c .before .before .before
+
+  abbrev reaching : Looping → Reaching
+  reaching c = c .before
 
   abbrev looping : Trial → Looping
   looping c = c .before .before
 
-  abbrev trial : Bounded → Trial
+  abbrev trial : Renewed → Trial
   trial c = c .before .before .before
+
+  abbrev renewed : Bounded → Renewed
+  renewed c = c .before .before .before
 
   abbrev bounded : Grown → Bounded
   bounded c = c .before
@@ -237,11 +275,17 @@ module _ (t : ℕ) where
   abbrev naming : Sent → Named
   naming c = named (sized (filled c))
 
+  abbrev opened : Looping → Spent
+  opened c = spending (reaching c)
+
   abbrev sending : Looping → Sent
-  sending c = sent (led c)
+  sending c = sent (led (opened c))
+
+  abbrev again : Renewed → Looping
+  again c = looping (trial c)
 
   abbrev turn : Bounded → Looping
-  turn c = looping (trial c)
+  turn c = again (renewed c)
 
   abbrev growing : Counted → Grown
   growing c = grown (tried c)
@@ -265,28 +309,28 @@ module _ (t : ℕ) where
     lent = take (length (now (b .args .work)) - listEnd) (drop listEnd (now (b .args .work)))
 
     memory : listEnd ≤ length (now (b .args .work))
-    memory = omega (arith, b .pre .1 .ready .long)
+    memory = omega (arith, b .pre .1 .0 .ready .long)
 
     same-plan : lent ≡ plan
     same-plan = lent-plan (now (b .args .work))
 
     long-plan : numbersAt ≤ length lent
-    long-plan = rw same-plan (omega (arith, b .pre .1 .ready .long, length-drop listEnd (now (b .args .work))))
+    long-plan = rw same-plan (omega (arith, b .pre .1 .0 .ready .long, length-drop listEnd (now (b .args .work))))
 
     planned : Planned (b .args .d) (b .args .task .records) ds (now (b .args .s)) lent
-    planned = rw same-plan (b .pre .1 .ready .planned)
+    planned = rw same-plan (b .pre .1 .0 .ready .planned)
 
     tested : Tested (b .args .d) (b .args .task .records) ds (now (b .args .s)) lent
-    tested = rw same-plan (b .pre .1 .ready .sound .tested)
+    tested = rw same-plan (b .pre .1 .0 .ready .sound .tested)
 
     long-choice : length ds ≤ length (b .args .node .choice)
-    long-choice = omega (arith, b .pre .1 .ready .planned .variables, choice-long (b .args .node) _ (b .good .0))
+    long-choice = omega (arith, b .pre .1 .0 .ready .planned .variables, choice-long (b .args .node) _ (b .good .0))
 
     lent-choice : length ds ≡ length choice
     lent-choice = sym (length-take-le (length ds) (b .args .node .choice) long-choice)
 
   inside : (c : Inner) → opening c .args .node .depth < length (ds (opening c))
-  inside c = omega (arith, opening c .pre .1 .partial .short, c .if2 .left)
+  inside c = omega (arith, opening c .pre .1 .0 .partial .short, c .if2 .left)
 
   module _ (c : Named) where
     abbrev v : ℕ
@@ -297,12 +341,12 @@ module _ (t : ℕ) where
 
     variable-below : v < length (ds (begun c))
     variable-below =
-        let h = begun c .pre .1 in
+        let h = begun c .pre .1 .0 in
         subst (λ (u : ℕ). u < length (ds (begun c))) (sym is-variable)
         (variable-inside (h .ready .sound) (h .partial) (inside (inner c)))
 
     size : DomainSize (getD (ds (begun c)) v 0)
-    size = all-below DomainSize (ds (begun c)) (begun c .pre .1 .ready .planned .small) v 0 variable-below
+    size = all-below DomainSize (ds (begun c)) (begun c .pre .1 .0 .ready .planned .small) v 0 variable-below
 
   module _ (c : Sent) where
     abbrev entry : Begun
@@ -333,7 +377,7 @@ module _ (t : ℕ) where
         (a : ℕ) → a < getD (ds entry) (v (naming c)) 0 →
         Holding (widthOf (entry .args .d)) (entry .args .node .bound) away rows a
     holding a l =
-        let h = entry .pre .1 in
+        let h = entry .pre .1 .0 in
         let i = inside (inner (naming c)) in
         next-holding (h .ready .sound) (h .partial) i rows away bucket sends a (value-below a l)
 
@@ -343,7 +387,7 @@ module _ (t : ℕ) where
         ≡ leadWith (entry .args .d) (entry .args .task) (ds entry) (now (entry .args .s)) (plan entry)
         (entry .args .node) a
     lead-is a l =
-        let h = entry .pre .1 in
+        let h = entry .pre .1 .0 in
         let i = inside (inner (naming c)) in
         let lead = lead-inside (entry .args .d) (h .ready .planned .sensible) in
         next-exact (h .ready .sound) (h .partial) i rows away bucket sends a l (leadAt (entry .args .d)) lead
@@ -363,19 +407,19 @@ module _ (t : ℕ) where
         Partial (origin .args .d) (origin .args .task .records) (ds origin) (now (origin .args .s)) (plan origin)
         (origin .args .node .depth + 1) next-choice (c .row-of .result)
     next-is =
-        let h = origin .pre .1 in
+        let h = origin .pre .1 .0 in
         let a = turn c .loop .a in
         let w = sending (turn c) in
         let byte = known (going (inner (naming w))) .before .before .shared-slice-known .given in
         let bytes : (at : ℕ) → getD (now (origin .args .s)) at 0 < byteEnd = λ at. omega (arith, byte at) in
         let below = value-below w a (turn c .loop .inv .0) in
         next-partial (h .ready .sound) (h .partial) (inside (inner (naming w))) (rows w) (away w) (bucket w) (sends w)
-        (h .ready .planned) bytes a below (c .row-of .result) (c .row-of .ensures)
+        (h .ready .planned) bytes a below (c .row-of .result) (c .row-of .ensures .1)
 
   next-extends :
       (c : Grown) →
       Extends (plan (origin (bounded c))) (length (ds (origin (bounded c)))) (origin (bounded c) .args .node)
-      (turn (bounded c) .loop .a) (bounded c .row-of .result) (c .with .result)
+      (turn (bounded c) .loop .a) (bounded c .row-of .result) (renewed (bounded c) .if4 .reach) (c .with .result)
   next-extends c =
       let n = naming (sending (turn (bounded c))) in
       extends (c .with .ensures) (is-variable n) (variable-below n)
@@ -386,14 +430,14 @@ module _ (t : ℕ) where
       open-lts.Need-returns (open-calls t) (open-position-at t) open-position.Post Inv-loop μ-loop
   open-position-returns c =
       let b = start (c .before .before) in
-      opened-same (b .pre .1) (λ some. absurd (omega (arith, c .if1 .taken)))
+      opened-same (b .pre .1 .0) (λ some. absurd (omega (arith, c .if1 .taken)))
 
   open-position-take-leaf-requires :
       open-lts.Need-take-leaf-requires (open-calls t) (open-position-at t) open-position.Post Inv-loop μ-loop
   open-position-take-leaf-requires c κs =
       let whole = c .before in
       let b = start (known (whole .before .before .before)) in
-      leaf-standing (b .pre .1) (whole .if2 .taken)
+      leaf-standing (b .pre .1 .0) (whole .if2 .taken)
 
   open-position-same-length :
       open-lts.Need-same-length (open-calls t) (open-position-at t) open-position.Post Inv-loop μ-loop
@@ -405,7 +449,8 @@ module _ (t : ℕ) where
       let called = c .before .before in
       let whole = called .before .before in
       let b = start (known (whole .before .before .before)) in
-      rw (is-leaf (ds b) (b .args .node) (whole .if2 .taken)) (called .take-leaf .ensures)
+      leaf-opened (b .args .d) (b .args .task) (ds b) (now (b .args .s)) (now (b .args .work)) (b .args .run) _
+      (called .take-leaf .result) (b .args .node) (whole .if2 .taken) (called .take-leaf .ensures)
 
   open-position-sub-variable-at :
       open-lts.Need-sub-variable-at (open-calls t) (open-position-at t) open-position.Post Inv-loop μ-loop
@@ -424,7 +469,7 @@ module _ (t : ℕ) where
   open-position-variable-at-requires c κs =
       let i = c .before .before in
       let b = opening i in
-      omega (arith, inside i, b .pre .1 .ready .planned .variables)
+      omega (arith, inside i, b .pre .1 .0 .ready .planned .variables)
 
   open-position-shared-slice-read-size :
       open-lts.Need-shared-slice-read-size (open-calls t) (open-position-at t) open-position.Post Inv-loop μ-loop
@@ -466,7 +511,7 @@ module _ (t : ℕ) where
         long-plan b,
         short,
         variable-below n,
-        b .pre .1 .partial .choice,
+        b .pre .1 .0 .partial .choice,
       )
 
   open-position-array-share-prefix-x-2 :
@@ -500,7 +545,7 @@ module _ (t : ℕ) where
       open-lts.Need-leads-of-requires (open-calls t) (open-position-at t) open-position.Post Inv-loop μ-loop
   open-position-leads-of-requires c κs =
       let w = c .before in
-      (entry w .pre .1 .ready .planned .sensible, size (naming w) .1, holding w)
+      (entry w .pre .1 .0 .ready .planned .sensible, size (naming w) .1, holding w)
 
   open-position-least-value-requires :
       open-lts.Need-least-value-requires (open-calls t) (open-position-at t) open-position.Post Inv-loop μ-loop
@@ -510,24 +555,53 @@ module _ (t : ℕ) where
   some-left : (c : Named) → 1 ≤ begun c .args .run .left
   some-left c = omega (arith, going (inner c) .if1 .left)
 
-  open-position-sub-left :
-      open-lts.Need-sub-left (open-calls t) (open-position-at t) open-position.Post Inv-loop μ-loop
-  open-position-sub-left c = some-left (naming (sent (c .before .before .before)))
+  open-position-count-opened-requires :
+      open-lts.Need-count-opened-requires (open-calls t) (open-position-at t) open-position.Post Inv-loop μ-loop
+  open-position-count-opened-requires c κs = some-left (naming (sent (c .before .before)))
 
   -- the search of the values starts with what is left then
-  starts : (b : Begun) → Standing (b .args .d) (b .args .task) (ds b) (now (b .args .s)) (now (b .args .work))
-      (spent (b .args .run)) (b .args .node)
-  starts b = spent-standing (b .pre .1)
+  module _ (c : Spent) where
+    abbrev first : Begun
+    first = entry (sent (led c))
+
+    starts : Standing (first .args .d) (first .args .task) (ds first) (now (first .args .s)) (now (first .args .work))
+        (c .count-opened .result) (first .args .node)
+    starts = spent-standing (first .pre .1 .0) (c .count-opened .ensures)
+
+    four : length (first .args .task .ceilings) ≡ maxObjectives
+    four = ceilings-long (first .args .task) _ (first .good .1 .1 .1 .1 .0)
+
+    -- what the tests ask, once values were tried
+    tests :
+        {work′ : List ℕ} {run′ : DP.Progress} {leads : List ℕ} →
+        Trying (first .args .d) (first .args .task) (ds first) (now (first .args .s)) (now (first .args .work))
+        (c .count-opened .result) (first .args .node) work′ run′ leads → Searched (first .args .d) work′ run′
+    tests w = running-searched (first .pre .1 .0 .ready) four (w .still) (w .running)
+
+  open-position-reach-of-requires :
+      open-lts.Need-reach-of-requires (open-calls t) (open-position-at t) open-position.Post Inv-loop μ-loop
+  open-position-reach-of-requires c κs =
+      let o = c .before .before in
+      let b = first o in
+      let h = starts o in (
+        running-searched (h .ready) (four o) (still-refl (b .args .task) (now (b .args .work))) (h .running),
+        reached-spent (o .count-opened .ensures) (b .pre .1 .1),
+      )
 
   open-position-loop-holds :
       open-lts.Need-loop-holds (open-calls t) (open-position-at t) open-position.Post Inv-loop μ-loop
   open-position-loop-holds c =
-      let leads = c .before .before .before in
+      let o = spending c in
+      let leads = led o in
       let w = sent leads in
       let read = leads .leads-of .ensures in
-      let least = c .before .least-value .ensures in
-      let all = trying-start (starts (entry w)) (leads .leads-of .result) (read .0) in
-      (least .0, least .1, all (λ a l. read .1 a (rw (← is-variable (naming w)) at l) ∙ lead-is w a l))
+      let least = o .before .least-value .ensures in
+      let all = trying-start (starts o) (leads .leads-of .result) (read .0) in (
+        least .0,
+        least .1,
+        all (λ a l. read .1 a (rw (← is-variable (naming w)) at l) ∙ lead-is w a l),
+        λ same. c .reach-of .ensures .0,
+      )
 
   open-position-mul-if3 :
       open-lts.Need-mul-if3 (open-calls t) (open-position-at t) open-position.Post Inv-loop μ-loop
@@ -537,25 +611,48 @@ module _ (t : ℕ) where
       open-lts.Need-array-read-if3 (open-calls t) (open-position-at t) open-position.Post Inv-loop μ-loop
   open-position-array-read-if3 c = omega (arith, value-few c)
 
+  open-position-reach-anew-requires :
+      open-lts.Need-reach-anew-requires (open-calls t) (open-position-at t) open-position.Post Inv-loop μ-loop
+  open-position-reach-anew-requires c κs =
+      let if4 = c .before in
+      let w = looping (if4 .before .before .before) in
+      tests (opened w) (w .loop .inv .2)
+
+  -- what may be reached is known, as it is with so many complete choices still to be met
+  abbrev KnownReach : Looping → DR.Reach → Type 0
+  KnownReach c reach =
+      Reached (first (opened c) .args .d) (c .loop .work) (c .loop .t) (first (opened c) .args .node .bound) reach
+      × (reach .meets ≡ c .loop .t .meets)
+
+  reach-known : (c : Renewed) → KnownReach (again c) (c .if4 .reach)
+  reach-known c =
+      let w = again c .loop in
+      ⊎-elim
+      (λ t. subst (KnownReach (again c)) (sym (t .3)) (t .2 .ensures))
+      (λ t.
+      let same : w .reach .meets ≡ w .t .meets = omega (arith, t .0 .left) in
+      subst (KnownReach (again c)) (sym (t .1)) (w .inv .3 same, same))
+      (c .if4 .came)
+
   open-position-add-row-of :
       open-lts.Need-add-row-of (open-calls t) (open-position-at t) open-position.Post Inv-loop μ-loop
   open-position-add-row-of c =
-      let b = entry (sending (looping (c .before .before))) in
-      omega (arith, width-few (b .args .d) (b .pre .1 .ready .planned .sensible))
+      let b = entry (sending (again (c .before .before))) in
+      omega (arith, width-few (b .args .d) (b .pre .1 .0 .ready .planned .sensible))
 
   open-position-row-of-requires :
       open-lts.Need-row-of-requires (open-calls t) (open-position-at t) open-position.Post Inv-loop μ-loop
   open-position-row-of-requires c κs =
-      let w = looping (c .before .before) in
+      let w = again (c .before .before) in
       let b = entry (sending w) in
-      let few = width-few (b .args .d) (b .pre .1 .ready .planned .sensible) in
+      let few = width-few (b .args .d) (b .pre .1 .0 .ready .planned .sensible) in
       (value-few w, few, holding (sending w) (w .loop .a) (w .loop .inv .0))
 
   open-position-with-requires :
       open-lts.Need-with-requires (open-calls t) (open-position-at t) open-position.Post Inv-loop μ-loop
   open-position-with-requires c κs =
       let n = naming (sending (turn c)) in
-      let few = begun n .pre .1 .ready .planned .variables in
+      let few = begun n .pre .1 .0 .ready .planned .variables in
       (omega (arith, inside (inner n), few), omega (arith, variable-below n, few), value-few (turn c))
 
   open-position-try-choice-requires :
@@ -566,8 +663,15 @@ module _ (t : ℕ) where
       let w = turn r .loop in
       let b = origin r in
       let e = next-extends g in
-      let next = trying-standing (starts b) (w .inv .2) (w .a) (r .row-of .result) (g .with .result) e (next-is r) in
-      (omega (arith, e .deeper, inside (inner (naming (sending (turn r)))), b .pre .0), next)
+      let o = opened (turn r) in
+      let reach = renewed r .if4 .reach in
+      let next = trying-standing (starts o) (w .inv .2) (w .a) (r .row-of .result) reach (g .with .result) e
+      (next-is r) in
+      let may = reached-rises (b .args .d) (b .pre .1 .0 .ready .planned .sensible) (b .args .node .bound)
+      (r .row-of .result) (bound-long (b .args .node) _ (b .good .0)) (sym (r .row-of .ensures .0))
+      (λ j l. omega (arith, r .row-of .ensures .1 j l))
+      (tests o (w .inv .2)) (reach-known (renewed r) .0) in
+      (omega (arith, e .deeper, inside (inner (naming (sending (turn r)))), b .pre .0), (next, reached-extends e may))
 
   open-position-add-finished-requires :
       open-lts.Need-add-finished-requires (open-calls t) (open-position-at t) open-position.Post Inv-loop μ-loop
@@ -590,10 +694,10 @@ module _ (t : ℕ) where
   open-position-loop-less :
       open-lts.Need-loop-less (open-calls t) (open-position-at t) open-position.Post Inv-loop μ-loop
   open-position-loop-less c =
-      let x = trial (bounded (growing (c .before .before))) in
+      let x = trial (renewed (bounded (growing (c .before .before)))) in
       let w = looping x in
       let below : w .loop .a < length (w .loop .leads) = omega (arith, value-few w, w .loop .inv .2 .long) in
-      tried-fewer (w .loop .leads) (w .loop .a) below (omega (arith, x .if3 .taken, x .before .struct-known3 .given))
+      tried-fewer (w .loop .leads) (w .loop .a) below (omega (arith, x .if3 .taken, x .before .struct-known2 .given))
 
   open-position-loop-again :
       open-lts.Need-loop-again (open-calls t) (open-position-at t) open-position.Post Inv-loop μ-loop
@@ -603,8 +707,15 @@ module _ (t : ℕ) where
       let r = bounded g in
       let w = turn r .loop in
       let least = c .least-value2 .ensures in
-      let next = trying-next (starts (origin r)) (w .inv .2) (w .a) (r .row-of .result) (g .with .result) in
-      (least .0, least .1, next (next-extends g) _ (called .result) (called .ensures))
+      let reach = renewed r .if4 .reach in
+      let next = trying-next (starts (opened (turn r))) (w .inv .2) (w .a) (r .row-of .result) reach
+      (g .with .result) in
+      let before = reach-known (renewed r) in (
+        least .0,
+        least .1,
+        next (next-extends g) _ (called .result) (called .ensures),
+        reached-idle (called .ensures .meeting) (before .0) (before .1),
+      )
 
   open-position-part-done-requires :
       open-lts.Need-part-done-requires (open-calls t) (open-position-at t) open-position.Post Inv-loop μ-loop
@@ -621,8 +732,8 @@ module _ (t : ℕ) where
       let w = over .before .before in
       let n = naming (sending w) in
       let b = begun n in
-      spent-opened (b .pre .1) (c .part-done .ensures)
-      (trying-end (starts b) (w .loop .inv .2) (inside (inner n)) (w .loop .a)
+      spent-opened (b .pre .1 .0) (opened w .count-opened .ensures) (c .part-done .ensures)
+      (trying-end (starts (opened w)) (w .loop .inv .2) (inside (inner n)) (w .loop .a)
       (λ u l. w .loop .inv .1 u (rw (← is-variable n) at l)) (over .if3 .left))
 
   -- ## try_choice
@@ -635,7 +746,7 @@ module _ (t : ℕ) where
 
   abbrev entered : Asked → Entered
   entered c =
-      let copies = c .before .before in
+      let copies = c .before .before .before in
       copies .before .before .before .before
 
   try-choice-is-alive-requires :
@@ -643,20 +754,10 @@ module _ (t : ℕ) where
   try-choice-is-alive-requires c κs =
       let b = entered c in
       let a = b .args in
-      let h = b .pre .1 in
+      let h = b .pre .1 .0 in
       let four = ceilings-long (a .task) _ (b .good .1 .1 .1 .1 .0) in
-      let wide : a .d .objectives ≤ length (a .task .ceilings) =
-      omega (arith, four, h .ready .planned .sensible .few) in
-      let small =
-      archived-small (a .d) (a .task) (now (a .sizes)) (now (a .s)) (now (a .work)) wide (h .ready .limited)
-      (length (now (a .sizes))) (a .run .points) (now (a .work)) (h .running .archived .reached) in (
-        h .ready .planned .sensible,
-        omega (arith, h .ready .long),
-        h .running .measured,
-        omega (arith, h .running .few, h .ready .room-small),
-        h .ready .planned .variables,
-        small,
-      )
+      let still = still-refl (a .task) (now (a .work)) in
+      (running-searched (h .ready) four still (h .running), h .ready .planned .variables, b .pre .1 .1)
 
   try-choice-open-position-requires :
       try-lts.Need-open-position-requires (try-calls t) (try-choice-at t) try-choice.Post
@@ -681,7 +782,7 @@ module _ (t : ℕ) where
   try-choice-returns-2 c =
       let b = entered (c .before .before) in
       let dead = c .before .is-alive .ensures (c .if1 .left) in
-      opened-same (b .pre .1) (λ some. dead-covers (b .pre .1) (bound-long (b .args .node) _ (b .good .0)) dead)
+      opened-same (b .pre .1 .0) (λ some. dead-covers (b .pre .1 .0) (bound-long (b .args .node) _ (b .good .0)) dead)
 
 pub +open-position+try-choice-spec : {M : Type 1} → statement M
 +open-position+try-choice-spec =
@@ -718,10 +819,12 @@ pub +open-position+try-choice-spec : {M : Type 1} → statement M
     (open-position-away-at-requires t)
     (open-position-leads-of-requires t)
     (open-position-least-value-requires t)
-    (open-position-sub-left t)
+    (open-position-count-opened-requires t)
+    (open-position-reach-of-requires t)
     (open-position-loop-holds t)
     (open-position-mul-if3 t)
     (open-position-array-read-if3 t)
+    (open-position-reach-anew-requires t)
     (open-position-add-row-of t)
     (open-position-row-of-requires t)
     (open-position-with-requires t)

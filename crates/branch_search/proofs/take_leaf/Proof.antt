@@ -25,7 +25,7 @@ use Rattle.groups.proofs.Tasks.{ceilings-long}
 use Rattle.branch_search.proofs.ArchivedWords.{archived-small}
 use Rattle.branch_search.proofs.Memory.{framed-zones, lent-front, lent-behind}
 use Rattle.branch_search.proofs.Zoning.{lent-long, lent-same, lent-measured}
-use Rattle.branch_search.proofs.Leaving.{opened-same, late-covers}
+use Rattle.branch_search.proofs.Leaving.{opened-same, opened-stopped, late-covers}
 use Rattle.branch_search.proofs.Leaf.{leaf-wide, over-covers, leaf-kept, leaf-split, weighed}
 use borrow.Author.Needs.{needs}
 use Rattle.branch_search.proofs.take_leaf.Statement.{statement}
@@ -109,7 +109,7 @@ module _ (c : tie.After-take-point) where
   weights = c .before .before
 
   abbrev taking : tie.Else2
-  taking = weights .before
+  taking = weights .before .before .before
 
   abbrev start : tie.Start
   start = begun taking
@@ -131,31 +131,50 @@ returns-2 c =
     let h = entry (c .before .before .before .before) .pre in
     opened-same h (λ some. late-covers h (omega (arith, c .before .before .lead-of .ensures, c .if2 .taken)))
 
+-- no more may be met
+returns-3 : tie.Need-returns-3
+returns-3 c =
+    let e = c .before .before .before in
+    rw (c .stop .ensures) (opened-stopped (begun e .pre))
+
 take-point-requires : tie.Need-take-point-requires
 take-point-requires c κs =
     let w = c .before in
-    let s = begun (w .before) in
+    let e = w .before .before .before in
+    let s = begun e in
     let h = s .pre in (
       omega (arith, h .ready .long),
       h .running .few,
       h .ready .room-small,
       few s,
       h .ready .planned .variables,
-      all-map Word (λ a. a < coreSumEnd) (λ a l. omega arith) (take (p s) (front (tested (w .before))))
-          (words (w .before)),
+      all-map Word (λ a. a < coreSumEnd) (λ a l. omega arith) (take (p s) (front (tested e)))
+          (words e),
       all-take (λ u. u ≤ maxWeight) (p s) _ (w .lead-weights .ensures .1),
       h .running .distinct,
       small s,
     )
 
-returns-3 : tie.Need-returns-3
-returns-3 c =
-    let t = c .before .before .before .before in
+-- another may be met
+some-met : (c : tie.After-take-point) → 1 ≤ start c .args .run .meets
+some-met c = omega (arith, weights c .before .if3 .left)
+
+count-met-requires : tie.Need-count-met-requires
+count-met-requires c κs = some-met (c .before .before .before .before)
+
+returns-4 : tie.Need-returns-4
+returns-4 c =
+    let if4 = c .before in
+    let t = if4 .before .before .before .before in
     let e = taking t in
     let s = start t in
     let takes = weighed (weights t .lead-weights .ensures .0) (t .take-point .ensures) in
-    leaf-kept (s .pre) (wide s) (allowed e) (early e) _ (costs (tested e))
-    (t .take-point .result) _ takes
+    rw (c .count-met .ensures)
+    (leaf-kept (s .pre) (wide s) (allowed e) (early e) _ (costs (tested e))
+    (t .take-point .result) _ takes (some-met t))
+
+slice-relend-prefix-split-zones : tie.Need-slice-relend-prefix-split-zones
+slice-relend-prefix-split-zones c = omega (arith, memory (c .before .before .before .before))
 
 slice-aggregate-split-zones : tie.Need-slice-aggregate-split-zones
 slice-aggregate-split-zones c =
@@ -171,9 +190,14 @@ split-zones-requires c κs =
     let same = framed-zones (t .take-point .ensures .frame) in
     (h .ready .planned .sensible, rw same (h .running .measured), words (taking t))
 
-returns-4 : tie.Need-returns-4
-returns-4 c =
-    let split = c .before .before in
+count-met-requires-2 : tie.Need-count-met-requires-2
+count-met-requires-2 c κs =
+    let added = c .before .before .before .before in
+    some-met (added .before .before .before .before)
+
+returns-5 : tie.Need-returns-5
+returns-5 c =
+    let split = c .before .before .before in
     let z = split .split-zones .last .1 .1 .1 .0 in
     let m = split .split-zones .result in
     let says = split .split-zones .ensures in
@@ -185,12 +209,13 @@ returns-4 c =
     let work = after t in
     let takes = weighed (weights t .lead-weights .ensures .0) (t .take-point .ensures) in
     let long = lent-long d work z m (says .1) (memory t) (says .0) in
-    leaf-split (s .pre) (wide s) (allowed e) (early e) (front (tested e)) (costs (tested e))
-    (t .take-point .result) work takes (not-false _ (added .if3 .left)) (z ++ drop zonesEnd work) m
+    rw (c .count-met2 .ensures)
+    (leaf-split (s .pre) (wide s) (allowed e) (early e) (front (tested e)) (costs (tested e))
+    (t .take-point .result) work takes (not-false _ (added .if4 .left)) (z ++ drop zonesEnd work) m
     (lent-same d work z m (says .1) (memory t) (says .0))
     (lent-behind z (drop zonesEnd work) long)
     (lent-measured d work z m (says .1) (memory t) (says .0))
-    (rw (lent-front z (drop zonesEnd work) long) (says .2))
+    (rw (lent-front z (drop zonesEnd work) long) (says .2)) (some-met t))
 
 pub take-leaf-spec : {M : Type 1} → statement M
 take-leaf-spec =
@@ -201,12 +226,16 @@ take-leaf-spec =
     returns
     (λ c κs. search needs)  -- lead-of-requires
     returns-2
+    (λ c κs. search needs)  -- stop-requires
+    returns-3
     (λ c κs. search needs)  -- lead-weights-requires
     take-point-requires
+    count-met-requires
     (λ c. search needs)  -- same-length
-    returns-3
-    (λ c. search needs)  -- slice-relend-prefix-split-zones
+    returns-4
+    slice-relend-prefix-split-zones
     slice-aggregate-split-zones
     split-zones-requires
+    count-met-requires-2
     (λ c. search needs)  -- same-length-2
-    returns-4)
+    returns-5)

@@ -60,7 +60,7 @@ returns c =
     λ j l. let base = c .before .before .before .content .ensures 0 j (first-value s) l .0
     ∙ ap (λ (u : List ℕ). baseAt (a .d) (now (a .sizes)) (now (a .s)) (now (a .plan)) (a .r) u j)
     (ap (λ (u : List ℕ). set u 0 0) (zeros s) ∙ zeros-set (length (now (a .sizes)))) in
-    omega (arith, c .row-of .ensures j l, zeros-at maxDirections j, base)
+    omega (arith, c .row-of .ensures .1 j l, zeros-at maxDirections j, base)
 
 pub root-bound-spec : {M : Type 1} → statement M
 root-bound-spec =

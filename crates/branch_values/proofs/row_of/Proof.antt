@@ -67,4 +67,4 @@ row-of-spec =
     (λ c. search needs)  -- add-j
     (λ c. search needs)  -- loop-less
     loop-again
-    (λ c j l. c .before .loop .inv .2 j (omega arith) l))  -- returns
+    (λ c. (c .before .loop .inv .1, λ j l. c .before .loop .inv .2 j (omega arith) l)))  -- returns

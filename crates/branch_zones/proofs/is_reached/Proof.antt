@@ -1,25 +1,33 @@
--- `branch_zones::is_reached` meets its contract. The invariant: in the row of each zone passed a number is below that
--- of the bound.
+-- `branch_zones::is_reached` meets its contract. The invariant: in the row of each candidate passed a number is below
+-- that of the bound.
 use mathlib.Core.Path.{sym}
 use mathlib.Core.Bool.{false≢true}
-use Prim.Native.Nat.{ℕ, _+_, _*_, _-_, _≤_, _<_}
+use Prim.Native.Nat.{ℕ, _-_, _≤_, _<_}
 use native.Mathlib.Omega.{arith}
 use borrow.Author.Count.{below-more}
 use lib.ListN.{getD}
 use mir.Syntax.{w64}
 use Rattle.rows.proofs.Arrays.{array-length}
+use Rattle.branch_candidates.proofs.Sifting.{sifted-none}
 use Rattle.branch_directions.specs.Directions.{maxDirections}
-use Rattle.branch_zones.specs.Zones.{zoneWidth}
+use Rattle.branch_zones.specs.Steps.{Under}
 use Rattle.branch_zones.proofs.NotReached.{not-reached}
 use Rattle.branch_zones.proofs.is_reached.Statement.{statement}
 use Rattle.branch_zones.proofs.is_reached.Tie as tie
 
 abbrev Inv-loop : tie.InvT-loop
-Inv-loop m zones least i₀ i =
-    (i ≤ m) × ((k : ℕ) → k < i → (j : ℕ) × (getD zones (zoneWidth * k + j) 0 < getD least j 0))
+Inv-loop m zones least count rows j₀ j = (j ≤ count) × ((k : ℕ) → k < j → Under zones least (getD rows k 0))
 
 abbrev μ-loop : tie.MeasureT-loop
-μ-loop m zones least i₀ i = m - i
+μ-loop m zones least count rows j₀ j = count - j
+
+abbrev start : tie.At-loop Inv-loop μ-loop → tie.Start Inv-loop μ-loop
+start c = c .before .before .before .before .before
+
+-- a candidate is one of the zones
+inside : (c : tie.At-loop Inv-loop μ-loop) → c .loop .j < start c .args .from .count
+    → getD (start c .args .from .rows) (c .loop .j) 0 < start c .args .m
+inside c l = start c .pre .2 .inside (c .loop .j) l
 
 add-clamp-bound : tie.Need-add-clamp-bound Inv-loop μ-loop
 add-clamp-bound c = let s = c .before .before in omega (arith, s .pre .0 .few, s .pre .0 .few-sums)
@@ -27,26 +35,34 @@ add-clamp-bound c = let s = c .before .before in omega (arith, s .pre .0 .few, s
 clamp-bound-requires : tie.Need-clamp-bound-requires Inv-loop μ-loop
 clamp-bound-requires c κs = let s = c .before .before in omega (arith, s .pre .0 .few, s .pre .0 .few-sums)
 
+array-read-is-under : tie.Need-array-read-is-under Inv-loop μ-loop
+array-read-is-under c = omega (arith, start (c .before) .pre .2 .few)
+
+cast-is-under : tie.Need-cast-is-under Inv-loop μ-loop
+cast-is-under c = omega (arith, inside (c .before) (omega arith), start (c .before) .pre .1 .few)
+
 mul-is-under : tie.Need-mul-is-under Inv-loop μ-loop
-mul-is-under c = omega (arith, c .before .before .before .before .before .pre .1 .few)
+mul-is-under c = omega (arith, inside (c .before) (omega arith), start (c .before) .pre .1 .few)
 
 is-under-requires : tie.Need-is-under-requires Inv-loop μ-loop
 is-under-requires c κs =
-    let s = c .before .before .before .before .before in omega (arith, s .pre .1 .few, s .pre .1 .long)
+    let s = start (c .before) in
+    omega (arith, inside (c .before) (omega arith), s .pre .1 .few, s .pre .1 .long)
 
 loop-again : tie.Need-loop-again Inv-loop μ-loop
 loop-again c =
     let w = c .before .before .before .loop in
-    (omega arith, below-more _ (w .i) (w .inv .1) (c .before .is-under .ensures (c .if1 .left)))
+    (omega arith, below-more _ (w .j) (w .inv .1) (c .before .is-under .ensures (c .if1 .left)))
 
 returns-2 : tie.Need-returns-2 Inv-loop μ-loop
 returns-2 c =
-    let s = c .before .before .before .before .before in
+    let s = start (c .before) in
     let w = c .before .loop in
-    let least = c .before .before .clamp-bound .ensures in
-    λ f k l. let (j, less) = w .inv .1 k (omega arith) in
-    not-reached (s .pre .0) (s .pre .1) (s .args .b) (c .before .before .clamp-bound .result)
-    (array-length w64 maxDirections (s .args .b) _ (s .good .0)) (least .0) (least .1) k l j less
+    let least = c .before .before .before .clamp-bound in
+    λ f. sifted-none (s .pre .2)
+    (λ j l. not-reached (s .pre .0) (s .pre .1) (s .args .b) (least .result)
+    (array-length w64 maxDirections (s .args .b) _ (s .good .0)) (least .ensures .0) (least .ensures .1) _
+    (s .pre .2 .inside j l) (w .inv .1 j (omega arith)))
 
 pub is-reached-spec : {M : Type 1} → statement M
 is-reached-spec =
@@ -57,10 +73,12 @@ is-reached-spec =
     add-clamp-bound
     clamp-bound-requires
     (λ c. (omega arith, λ k l. absurd (omega arith)))  -- loop-holds
+    array-read-is-under
+    cast-is-under
     mul-is-under
     is-under-requires
     (λ c f. absurd (false≢true (sym f)))  -- returns
-    (λ c. omega arith)  -- add-i
+    (λ c. omega arith)  -- add-j
     (λ c. omega arith)  -- loop-less
     loop-again
     returns-2)

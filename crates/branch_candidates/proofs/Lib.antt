@@ -1,0 +1,2 @@
+-- The laws of candidates.
+pub mod Sifting

@@ -1,0 +1,46 @@
+-- `branch_candidates::all_rows` meets its contract. The invariant: each row passed has its own number.
+use mathlib.Core.Path.{_≡_, refl, _∙_}
+use Prim.Native.Nat.{ℕ, _-_, _≤_, _<_}
+use native.Mathlib.Omega.{arith}
+use lib.ListN.{length, getD, set, length-set}
+use lib.Seq.{getD-set-same, getD-set-other}
+use borrow.Author.Count.{below-more}
+use Rattle.branch_candidates.specs.Sifted.{maxRows}
+use Rattle.branch_candidates.proofs.Sifting.{sifted-all}
+use Rattle.branch_candidates.proofs.all_rows.Statement.{statement}
+use Rattle.branch_candidates.proofs.all_rows.Tie as tie
+
+abbrev Inv-loop : tie.InvT-loop
+Inv-loop m rows₀ i₀ rows i = (i ≤ m) × (length rows ≡ maxRows) × ((j : ℕ) → j < i → getD rows j 0 ≡ j)
+
+abbrev μ-loop : tie.MeasureT-loop
+μ-loop m rows₀ i₀ rows i = m - i
+
+loop-again : tie.Need-loop-again Inv-loop μ-loop
+loop-again c =
+    let w = c .before .loop in (
+      omega arith,
+      length-set (w .rows) (w .i) _ ∙ w .inv .1,
+      below-more (λ j. getD (set (w .rows) (w .i) (w .i)) j 0 ≡ j) (w .i)
+          (λ j l. getD-set-other (w .rows) (w .i) j _ 0 (λ e. omega arith) ∙ w .inv .2 j l)
+          (getD-set-same (w .rows) (w .i) _ 0 (omega (arith, w .inv .1))),
+    )
+
+returns : tie.Need-returns Inv-loop μ-loop
+returns c =
+    let w = c .before .loop in
+    sifted-all (omega arith) refl (λ j l. w .inv .2 j (omega arith))
+
+pub all-rows-spec : {M : Type 1} → statement M
+all-rows-spec =
+    tie.close
+    (tie.spec
+    Inv-loop
+    μ-loop
+    (λ c. (omega arith, refl, λ j l. absurd (omega arith)))  -- loop-holds
+    (λ c. omega arith)  -- cast-rows
+    (λ c. omega arith)  -- array-write-rows
+    (λ c. omega arith)  -- add-i
+    (λ c. omega arith)  -- loop-less
+    loop-again
+    returns)

@@ -1,0 +1,2 @@
+-- Which rows candidates may leave out.
+pub mod Sifted

@@ -1,0 +1,60 @@
+-- What the tests of a partial choice ask, of a search that runs; and what a partial choice may reach once others were
+-- tried.
+use mathlib.Core.Path.{_≡_, ap}
+use mathlib.Core.List.{List}
+use Prim.Native.Nat.{ℕ, _≤_}
+use native.Mathlib.Omega.{arith}
+use lib.ListN.{length}
+use Rattle.model.specs.Limits.{maxObjectives}
+use Rattle.groups.specs.declared.Task as DT
+use Rattle.branch_directions.specs.declared.Directions as DD
+use Rattle.branch_pruning.specs.declared.Progress as DP
+use Rattle.branch_pruning.specs.declared.Reach as DR
+use Rattle.branch_pruning.specs.Tests.{Reached, Searched}
+use Rattle.branch_pruning.proofs.Reaches.{reached-same}
+use Rattle.branch_search.specs.declared.Node as DN
+use Rattle.branch_search.specs.States.{problemOf, spent, Ready, Running, Still, Meeting}
+use Rattle.branch_search.proofs.Nodes.{Extends}
+use Rattle.branch_search.proofs.ArchivedWords.{archived-small}
+
+pub running-searched :
+    {d : DD.Directions} {task : DT.Task} {ds s work : List ℕ} → Ready d task ds s work →
+    length (task .ceilings) ≡ maxObjectives → {work′ : List ℕ} {run : DP.Progress} → Still task work work′ →
+    Running (problemOf d task ds s work) d task (length ds) work′ run → Searched d work′ run
+running-searched {d} {task} {ds} {s} {work} h four {work′} {run} still running =
+    let wide : d .objectives ≤ length (task .ceilings) = omega (arith, four, h .planned .sensible .few) in
+    record {
+      sensible = h .planned .sensible;
+      long = omega (arith, h .long, still .long);
+      measured = running .measured;
+      few = omega (arith, running .few, h .room-small);
+      small =
+          archived-small d task ds s work wide (h .limited) (length ds) (run .points) work′
+          (running .archived .reached);
+    }
+
+-- one partial choice less may be opened
+pub reached-spent :
+    {d : DD.Directions} {work : List ℕ} {run less : DP.Progress} {b : List ℕ} {reach : DR.Reach} → less ≡ spent run →
+    Reached d work run b reach → Reached d work less b reach
+reached-spent {run = run} e h =
+    let points = ap (λ (r : DP.Progress). r .points) e in
+    let zones = ap (λ (r : DP.Progress). r .zones) e in
+    record { zones = rw zones (h .zones); ties = rw points (h .ties) }
+
+-- while no complete choice is met, what was reached is
+pub reached-idle :
+    {d : DD.Directions} {work : List ℕ} {run : DP.Progress} {work′ : List ℕ} {run′ : DP.Progress} {b : List ℕ}
+    {reach : DR.Reach} → Meeting work run work′ run′ → Reached d work run b reach → reach .meets ≡ run .meets →
+    reach .meets ≡ run′ .meets → Reached d work′ run′ b reach
+reached-idle {run = run} {run′ = run′} m h before after =
+    let same : run′ .meets ≡ run .meets = omega arith in
+    let (work, points, zones) = m .idle same in
+    reached-same work points zones h
+
+-- a partial choice with a value more has what the one before may reach
+pub reached-extends :
+    {d : DD.Directions} {work : List ℕ} {run : DP.Progress} {plan : List ℕ} {n : ℕ} {node : DN.Node} {a : ℕ}
+    {b : List ℕ} {reach : DR.Reach} {next : DN.Node} → Extends plan n node a b reach next →
+    Reached d work run b reach → Reached d work run (next .bound) (next .reach)
+reached-extends {d} {work} {run} e h = rw (e .bounded, e .reaches) h
