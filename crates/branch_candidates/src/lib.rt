@@ -1,5 +1,5 @@
-// Candidates: the rows of a table that a bound may reach. A row that a partial choice does not reach is left out for all
-// that extend it.
+// Candidates: the rows of a table that a bound may reach. A row that a partial choice does not reach is left out for
+// all that extend it.
 ghost use Prim.Native.Nat.{_≤_};
 ghost use Rattle.branch_candidates.specs.Sifted.{maxRows, Sifted};
 

@@ -38,7 +38,8 @@ abbrev pub Unreached : DD.Directions → List ℕ → ℕ → List ℕ → Type 
 Unreached d zones m b = (i : ℕ) → i < m → Missed d zones b i
 
 -- what is not among the zones and the points of `reach` is not reached by the bound b
-pub record Reached (d : DD.Directions) (work : List ℕ) (run : DP.Progress) (b : List ℕ) (reach : DR.Reach) : Type 0 where
+pub record Reached
+    (d : DD.Directions) (work : List ℕ) (run : DP.Progress) (b : List ℕ) (reach : DR.Reach) : Type 0 where
   pub zones : Sifted (run .zones) (Missed d (zonesOf work) b) (reach .zones)
   pub ties : Sifted (run .points) (Surpassed d work b) (reach .ties)
 

@@ -16,7 +16,8 @@ use Rattle.branch_zones.proofs.reached_zones.Statement.{statement}
 use Rattle.branch_zones.proofs.reached_zones.Tie as tie
 
 abbrev Inv-loop : tie.InvT-loop
-Inv-loop m zones least count old rows₀ kept₀ j₀ rows kept j = (j ≤ count) × Sifting m (Under zones least) old j rows kept
+Inv-loop m zones least count old rows₀ kept₀ j₀ rows kept j =
+    (j ≤ count) × Sifting m (Under zones least) old j rows kept
 
 abbrev μ-loop : tie.MeasureT-loop
 μ-loop m zones least count old rows₀ kept₀ j₀ rows kept j = count - j
