@@ -98,8 +98,8 @@ pub extern "C" fn frontier_solve_by_passes(
     answers::tell(answer, place, count)
 }
 
-// The plain call, and what its search took, of which nothing is promised: which form answered, plans, those of them that
-// failed their test, passes, and opened partial choices.
+// The plain call, and what its search took, of which nothing is promised: which form answered, plans, those of them
+// that failed their test, passes, and opened partial choices.
 #[no_mangle]
 pub extern "C" fn frontier_solve_measured(
     problem: &[u8],

@@ -79,7 +79,8 @@ returns c =
     let says = places-at _ _ _ _ (begun .tables-start .ensures) (kept wide .keep-places .ensures) in
     let f = found .find-source in
     list-found _ _ (accepted (headed begun))
-    (kept-says _ _ _ _ _ _ _ _ (records (headed begun)) _ says _ (wide .widened .ensures) _ (f .result .found) (f .ensures))
+    (kept-says _ _ _ _ _ _ _ _ (records (headed begun)) _ says _ (wide .widened .ensures) _ (f .result .found)
+    (f .ensures))
 
 pub find-list-spec : {M : Type 1} → statement M
 find-list-spec =

@@ -101,8 +101,8 @@ returns-2 c =
     (told open-at .early-refusal .ensures) (open-at .if1 .left) in
     rw (listed .found-rows .ensures .0)
     (rows-end (now (a .problem)) (a .room) (now (a .work)) (bytes (read open-at)) (g .result) (accepted open-at)
-    (enough open-at) none _ (roomed found .room-for .ensures) (found .find-list .result .found) _ (found .find-list .ensures)
-    _ (listed .found-rows .ensures .1))
+    (enough open-at) none _ (roomed found .room-for .ensures) (found .find-list .result .found) _
+    (found .find-list .ensures) _ (listed .found-rows .ensures .1))
 
 pub list-rows-spec : {M : Type 1} → statement M
 list-rows-spec =
