@@ -138,12 +138,17 @@ fn what_the_long_commands_name_is_there() {
 }
 
 #[test]
-fn every_block_is_a_command_or_what_one_prints() {
-    for block in blocks(README) {
-        let known = ["sh", "sh long", "text"].contains(&block.kind.as_str());
-        assert!(known, "{}: {}", block.kind, block.text);
-        assert!(block.kind == "text" || block.text.lines().count() == 1);
+fn every_block_is_a_command_or_what_one_prints_or_the_program_in_rust() {
+    let blocks = blocks(README);
+    for block in &blocks {
+        match block.kind.as_str() {
+            "sh" | "sh long" => assert_eq!(block.text.lines().count(), 1, "{}", block.text),
+            "text" | "rust" => {}
+            kind => panic!("{kind}: {}", block.text),
+        }
     }
+    let programs = blocks.iter().filter(|block| block.kind == "rust");
+    assert_eq!(programs.count(), 1);
 }
 
 #[test]
@@ -157,4 +162,33 @@ fn every_link_leads_to_a_file() {
     for link in links {
         assert!(root().join(link).is_file(), "{link}");
     }
+}
+
+#[test]
+fn the_program_in_rust_builds_in_a_package_of_its_own_and_lists_the_example() {
+    let (folder, blocks) = (folder("readme_rust"), blocks(README));
+    let program = blocks.iter().find(|block| block.kind == "rust");
+    let program = &program.expect("README has a program in Rust").text;
+    let root = root();
+    let package = root.join("host/frontier");
+    let manifest = format!(
+        "[package]\nname = \"newcomer\"\nedition = \"2021\"\n\n[dependencies]\n\
+         frontier = {{ path = {package:?} }}\n\n[workspace]\n"
+    );
+    fs::create_dir(folder.join("src")).expect("a folder can be made");
+    fs::write(folder.join("Cargo.toml"), manifest).expect("a file can be written");
+    fs::write(folder.join("src/main.rs"), program).expect("a file can be written");
+    let output = Command::new(env!("CARGO"))
+        .args(["run", "--quiet", "--offline", "--manifest-path"])
+        .arg(folder.join("Cargo.toml"))
+        .env("CARGO_TARGET_DIR", folder.join("target"))
+        .current_dir(&root)
+        .output()
+        .expect("cargo starts");
+    let complaint = String::from_utf8_lossy(&output.stderr);
+    assert!(output.status.success(), "{complaint}");
+    let listed = String::from_utf8_lossy(&output.stdout);
+    let lines: Vec<&str> = listed.lines().collect();
+    assert_eq!(lines.len(), 12, "{listed}");
+    assert_eq!(lines[0], "[950, 8900] by [0, 1, 0, 0]");
 }
