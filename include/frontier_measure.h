@@ -26,7 +26,7 @@ uint8_t frontier_solve_by_passes(const uint8_t *problem, size_t problem_len, uin
                                  uint32_t *count);
 
 /* frontier_solve, and what its search took. The answer and what the buffers hold afterwards are those of
- * frontier_solve. Of the measures nothing is promised but that all eight are written:
+ * frontier_solve, and that is proved. Of the measures nothing is:
  *
  *   measures[0]       which form of the search answered: 1 or 2, and 0 where the problem was refused before a search
  *   measures[1]       how many plans of the second form were made

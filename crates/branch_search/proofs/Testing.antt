@@ -1,6 +1,6 @@
 -- What the tests of a partial choice ask, of a search that runs; and what a partial choice may reach once others were
 -- tried.
-use mathlib.Core.Path.{_≡_, ap}
+use mathlib.Core.Path.{_≡_, refl, ap}
 use mathlib.Core.List.{List}
 use Prim.Native.Nat.{ℕ, _≤_}
 use native.Mathlib.Omega.{arith}
@@ -40,7 +40,7 @@ pub reached-spent :
 reached-spent {run = run} e h =
     let points = ap (λ (r : DP.Progress). r .points) e in
     let zones = ap (λ (r : DP.Progress). r .zones) e in
-    record { zones = rw zones (h .zones); ties = rw points (h .ties) }
+    reached-same refl points zones h
 
 -- while no complete choice is met, what was reached is
 pub reached-idle :
