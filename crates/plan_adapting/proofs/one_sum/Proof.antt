@@ -6,15 +6,18 @@ use Rattle.plan_adapting.proofs.one_sum.Tie as tie
 
 returns : tie.Need-returns
 returns c =
-    let chosen = c .before .choose-directions .ensures .0 in
-    record {
-      some = chosen .some;
-      few = chosen .few;
-      few-sums = omega arith;
-      small = chosen .small;
-      every = chosen .every;
-      alone = λ z. absurd (omega arith);
-    }
+    let chosen = c .before .choose-directions .ensures in
+    let sensible = chosen .0 in (
+      record {
+        some = sensible .some;
+        few = sensible .few;
+        few-sums = omega arith;
+        small = sensible .small;
+        every = sensible .every;
+        alone = λ z. absurd (omega arith);
+      },
+      chosen .1,
+    )
 
 pub one-sum-spec : {M : Type 1} → statement M
 one-sum-spec =
