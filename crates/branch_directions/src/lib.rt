@@ -32,11 +32,12 @@ pub struct Directions {
     pub weights: [u64; 16],
 }
 
-// What the weights of the four sums are made from, four numbers in a row: the share of each objective in each sum, and
-// the range that it is divided by.
+// What the weights of up to four sums are made from, four numbers in a row: the share of each objective in each sum, and
+// the range that it is divided by. There are `count` sums.
 pub struct Sums {
     pub shares: [u64; 16],
     pub ranges: [u64; 16],
+    pub count: usize,
 }
 
 // The first `p` costs of `v`, and zeros.
@@ -251,6 +252,19 @@ fn weights_for(sums: Sums) -> [u64; 16]
     weights
 }
 
+// So many sums as there may be: one to four.
+fn some_sums(count: usize) -> usize
+    ensures { λ c. ⌜ (1 ≤ c) × (c ≤ maxSums) ⌝ }
+{
+    if count < 1 {
+        return 1;
+    }
+    if 4 < count {
+        return 4;
+    }
+    count
+}
+
 // Directions for `p` objectives with these sums, of which one objective has none. Only the speed depends on them.
 pub fn choose_directions(p: usize, sums: Sums) -> Directions
     requires { ⌜ (1 ≤ p) × (p ≤ maxObjectives) ⌝ }
@@ -267,7 +281,7 @@ pub fn choose_directions(p: usize, sums: Sums) -> Directions
     let weights = weights_for(sums);
     Directions {
         objectives: p,
-        sums: 4,
+        sums: some_sums(sums.count),
         weights,
     }
 }

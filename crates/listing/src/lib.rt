@@ -14,9 +14,9 @@ ghost use Rattle.branch_directions.specs.Directions.{Sensible};
 ghost use Rattle.branch_search.specs.States.{rowsIn, Between, unended};
 ghost use Rattle.listing.specs.Says.{Searchable, Plannable, Kept, PlanSays, Explorable, Turned};
 
-// A search of the second form has so many turns: the first three try a kind of plan each, and the last goes on with the
+// A search of the second form has so many turns: the first four try a kind of plan each, and the last goes on with the
 // kind that came furthest, as long as it takes.
-const TURNS: usize = 4;
+const TURNS: usize = 5;
 
 // The kind of plan that came furthest, and how far.
 struct Best {
@@ -80,10 +80,31 @@ fn are_short(ceilings: [u64; 4]) -> bool
 
 // The kind of a turn's plan.
 fn kind_of(turn: usize, best: Best) -> usize {
-    if turn < 3 {
+    if turn < 4 {
         return turn;
     }
     best.kind
+}
+
+// Whether a sum can be adapted to the ceilings: several objectives, and a ceiling that binds.
+fn is_adaptable(p: usize, ranges: plan_sums::Ranges) -> bool
+    ensures { λ b. ⌜ (b ≡ true → 2 ≤ p) ⌝ }
+{
+    if p < 2 {
+        return false;
+    }
+    ranges.binds
+}
+
+// The order of a plan of this kind: the fourth kind has one sum and goes by fill, as the third; where no sum can be
+// adapted it has the variables' own order.
+fn order_of(kind: usize, adaptable: bool) -> usize {
+    if kind == 3 {
+        if adaptable {
+            return 2;
+        }
+    }
+    kind
 }
 
 // How many partial choices a turn may open: the first so many that most problems end with it, and the last more than it
@@ -92,7 +113,7 @@ fn budget_of(turn: usize) -> u64 {
     if turn == 0 {
         return 200000;
     }
-    if turn < 3 {
+    if turn < 4 {
         return 50000;
     }
     9223372036854775808
@@ -162,7 +183,7 @@ fn plan_source(
     sizes: &[u8],
     r: usize,
     d: branch_directions::Directions,
-    kind: usize,
+    order: usize,
     work: &mut [u32],
 ) -> bool
     requires { ⌜ Plannable r (now sizes) (now s) (now work) × Sensible d ⌝ }
@@ -171,12 +192,12 @@ fn plan_source(
         × (ok ≡ true → PlanSays d r (now (sizes .entry)) (now (s .entry)) (now (work .entry)) (now (work .exit))) ⌝ }
 {
     groups::copy_numbers(layout::SOURCE_AT, layout::PLAN_AT, r, work);
-    plan_making::make_plan(s, sizes, r, d, kind, &mut work[layout::PLAN_AT..]);
+    plan_making::make_plan(s, sizes, r, d, order, &mut work[layout::PLAN_AT..]);
     plan_test::is_sound(s, sizes, r, d, &work[layout::PLAN_AT..])
 }
 
-// The sums of a plan of this kind. Where a ceiling binds, the fourth of each kind but the first is adapted to the
-// ceilings: that takes plans of its own, which no problem pays for that the first plan answers. The archive stays.
+// The sums of a plan of this kind. Where a ceiling binds, one of each kind but the first is adapted to the ceilings:
+// that takes plans of its own, which no problem pays for that the first plan answers. The archive stays.
 fn turn_sums(
     s: &[u8],
     sizes: &[u8],
@@ -194,10 +215,7 @@ fn turn_sums(
     if kind == 0 {
         return sums;
     }
-    if p < 2 {
-        return sums;
-    }
-    if !ranges.binds {
+    if !is_adaptable(p, ranges) {
         return sums;
     }
     groups::copy_numbers(layout::SOURCE_AT, layout::PLAN_AT, task.records, work);
@@ -206,20 +224,20 @@ fn turn_sums(
         sizes,
         task,
         ranges,
-        kind,
+        order_of(kind, true),
         &mut work[layout::PLAN_AT..],
     );
-    plan_sums::with_fourth(sums, shares, ranges)
+    plan_sums::with_adapted(sums, shares, ranges)
 }
 
-// A plan with these sums and the order of this kind is made, tested and searched by. Where it fails its test the
-// archive is as it was.
+// A plan with these sums and an order of this kind is made, tested and searched by. Where it fails its test the archive
+// is as it was.
 fn search_by(
     s: &[u8],
     sizes: &[u8],
     task: groups::Task,
     sums: branch_directions::Sums,
-    kind: usize,
+    order: usize,
     from: branch_search::Resume,
     work: &mut [u32],
 ) -> branch_search::Explored
@@ -228,7 +246,7 @@ fn search_by(
     ensures { λ e. ⌜ Turned task (now (sizes .entry)) (now (s .entry)) (now (work .entry)) (now (work .exit)) e ⌝ }
 {
     let d = branch_directions::choose_directions(task.objectives, sums);
-    if !plan_source(s, sizes, task.records, d, kind, work) {
+    if !plan_source(s, sizes, task.records, d, order, work) {
         return branch_search::not_made(from.points);
     }
     branch_search::explore(from, s, sizes, task, d, work)
@@ -249,7 +267,8 @@ fn search_turn(
     ensures { λ e. ⌜ Turned task (now (sizes .entry)) (now (s .entry)) (now (work .entry)) (now (work .exit)) e ⌝ }
 {
     let sums = turn_sums(s, sizes, task, ranges, kind, work);
-    search_by(s, sizes, task, sums, kind, from, work)
+    let order = order_of(kind, is_adaptable(task.objectives, ranges));
+    search_by(s, sizes, task, sums, order, from, work)
 }
 
 // The turns of a search, each with the archive that the turn before has left.

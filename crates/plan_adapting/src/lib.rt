@@ -1,7 +1,6 @@
 // A sum adapted to the ceilings: its bound comes as near as possible to what they allow. It is found in rounds: each
 // one plans with this sum alone, follows its least values to a choice, and gives more to the objectives that this
 // choice costs too much in. Nothing is promised of it but that no record is lost.
-ghost use mathlib.Core.Path.{_≡_};
 ghost use Prim.Native.Nat.{_≤_, _<_};
 ghost use lib.ListN.{length};
 ghost use Rattle.model.specs.Limits.{maxObjectives, maxDomain};
@@ -65,26 +64,17 @@ fn first_row(v: [u64; 4]) -> [u64; 16] {
 }
 
 // The objectives, and one sum with these shares by slacks.
-pub fn one_sum(
-    p: usize,
-    shares: [u64; 4],
-    ranges: plan_sums::Ranges,
-) -> branch_directions::Directions
+fn one_sum(p: usize, shares: [u64; 4], ranges: plan_sums::Ranges) -> branch_directions::Directions
     requires { ⌜ (2 ≤ p) × (p ≤ maxObjectives) ⌝ }
-    ensures { λ d. ⌜ Sensible d × (d .objectives ≡ p) ⌝ }
+    ensures { λ d. ⌜ Sensible d ⌝ }
 {
     let slacks = ranges.slacks;
     let sums = branch_directions::Sums {
         shares: first_row(shares),
         ranges: first_row(slacks),
+        count: 1,
     };
-    let d = branch_directions::choose_directions(p, sums);
-    let weights = d.weights;
-    branch_directions::Directions {
-        objectives: d.objectives,
-        sums: 1,
-        weights,
-    }
+    branch_directions::choose_directions(p, sums)
 }
 
 // What is asked for, at a choice of the other variables;

@@ -1,16 +1,10 @@
 // The search order of a plan: from the last position on, the variable with the fewest links, or with the least fill; or
-// the variables' own order. Plans of different kinds have different orders.
+// the variables' own order.
 ghost use Prim.Native.Nat.{_≤_, _<_};
 ghost use lib.ListN.{length};
 ghost use Rattle.model.specs.Limits.{maxVariables, wordEnd};
 ghost use Rattle.plan_memory.specs.Arranged.{Loose};
 ghost use Rattle.plan_order.specs.Fill.{maxSize, maxSizes, maxFill};
-
-// The kind of plans with one sum: their order goes by fill, as that of kind 2.
-pub const ONE_SUM: usize = 3;
-
-// The kind of plans in the variables' own order: of choices with equal costs the earliest is met first.
-pub const OWN_ORDER: usize = 4;
 
 // No variable that is left has a larger score.
 const MOST_SCORE: u64 = 4294967295;
@@ -105,29 +99,20 @@ fn wide(number: u32) -> u64
     number as u64
 }
 
-// Whether orders of a kind go by fill.
-fn goes_by_fill(kind: usize) -> bool {
-    if kind == 2 {
-        return true;
-    }
-    kind == ONE_SUM
-}
-
-// The score of a variable, of which the least comes last: how many others of `left` are linked to it, in kinds that go
-// by fill behind that; in the variables' own order all have the same. More than the most score where it is not left
-// itself.
+// The score of a variable, of which the least comes last: how many others of `left` are linked to it, in kind 2 behind
+// its fill; in kind 3 all have the same. More than the most score where it is not left itself.
 fn score_of(v: usize, links: [u32; 24], left: u32, sizes: &[u8], kind: usize) -> u64
     requires { ⌜ v < maxVariables ⌝ }
 {
     if left & plan_memory::bit(v) == 0 {
         return MOST_SCORE + 1;
     }
-    if kind == OWN_ORDER {
+    if kind == 3 {
         return 0;
     }
     let near = links[v] & left & !plan_memory::bit(v);
     let degree = wide(u32::count_ones(near));
-    if goes_by_fill(kind) {
+    if kind == 2 {
         return 32 * fill_of(near, links, sizes) + degree;
     }
     degree
@@ -162,8 +147,8 @@ fn best_of(links: [u32; 24], left: u32, sizes: &[u8], kind: usize) -> usize
 }
 
 // Writes the order and the positions: from the last position to the first the variable with the least score, whose
-// neighbours are linked then. Orders of kinds 0 and 1 go by links alone, and differ where variables have as many; of
-// those with equal scores the last is taken otherwise, so that the variables' own order is one of them.
+// neighbours are linked then. Orders of kinds 0 and 1 go by links alone, and differ where variables have as many; kind
+// 3 is the variables' own order, in which of choices with equal costs the earliest is met first.
 pub fn set_order(s: &[u8], sizes: &[u8], r: usize, kind: usize, plan: &mut [u32])
     requires { ⌜ length (now sizes) ≤ maxVariables ⌝ }
     ensures { λ _. ⌜ Loose (now (plan .entry)) (now (plan .exit)) ⌝ }

@@ -122,7 +122,7 @@ fn with_last_row(table: [u64; 16], row: [u64; 4]) -> [u64; 16] {
 }
 
 // The fourth sum has these shares, by slacks.
-pub fn with_fourth(
+fn with_fourth(
     sums: branch_directions::Sums,
     shares: [u64; 4],
     r: Ranges,
@@ -135,28 +135,57 @@ pub fn with_fourth(
     branch_directions::Sums {
         shares: new_shares,
         ranges: new_ranges,
+        count: 4,
     }
 }
 
-// The sums of the plan with the number `turn` for `p` objectives. Where no ceiling binds they go by spreads; else the
-// fourth has equal shares by slacks, and of every three plans the second has all by slacks.
-pub fn sums_of(turn: usize, p: usize, r: Ranges) -> branch_directions::Sums {
+// One sum alone, with these shares, by slacks.
+fn one_sum(shares: [u64; 4], r: Ranges) -> branch_directions::Sums {
+    let slacks = r.slacks;
+    branch_directions::Sums {
+        shares: in_every_row(shares),
+        ranges: in_every_row(slacks),
+        count: 1,
+    }
+}
+
+// The sum that is adapted to the ceilings has these shares, by slacks: the only one, or the fourth.
+pub fn with_adapted(
+    sums: branch_directions::Sums,
+    shares: [u64; 4],
+    r: Ranges,
+) -> branch_directions::Sums {
+    if sums.count == 1 {
+        return one_sum(shares, r);
+    }
+    with_fourth(sums, shares, r)
+}
+
+// The sums of a plan of this kind for `p` objectives. Where no ceiling binds they go by spreads; else the fourth has
+// equal shares by slacks, in kind 1 all go by slacks, and in kind 3 there is one alone: with fewer directions messages
+// have room for more variables.
+pub fn sums_of(kind: usize, p: usize, r: Ranges) -> branch_directions::Sums {
     let spreads = r.spreads;
     let slacks = r.slacks;
     let shares = shares_for(p);
     let by_spreads = branch_directions::Sums {
         shares,
         ranges: in_every_row(spreads),
+        count: 4,
     };
     if !r.binds {
         return by_spreads;
     }
-    if turn % 3 == 1 {
+    if kind == 1 {
         return branch_directions::Sums {
             shares,
             ranges: in_every_row(slacks),
+            count: 4,
         };
     }
     let equal = [shares[0], shares[1], shares[2], shares[3]];
+    if kind == 3 {
+        return one_sum(equal, r);
+    }
     with_fourth(by_spreads, equal, r)
 }

@@ -24,17 +24,20 @@ returns c = (
 
 returns-2 : tie.Need-returns-2
 returns-2 c =
-    let s = c .before .before in
-    let p = s .args .p in (
+    let weighed = c .before in
+    let s = weighed .before .before in
+    let p = s .args .p in
+    let made = weighed .weights-for in
+    let count = c .some-sums .ensures in (
       record {
         some = s .pre .0;
         few = s .pre .1;
-        few-sums = omega arith;
-        small = c .weights-for .ensures .0;
+        few-sums = count .1;
+        small = made .ensures .0;
         every =
-            rw (take-take p 4 (c .weights-for .result) (s .pre .1)) at
-            (all-take (λ w. 1 ≤ w) p (take 4 (c .weights-for .result)) (c .weights-for .ensures .1));
-        alone = λ z. absurd (omega arith);
+            rw (take-take p 4 (made .result) (s .pre .1)) at
+            (all-take (λ w. 1 ≤ w) p (take 4 (made .result)) (made .ensures .1));
+        alone = λ z. absurd (omega (arith, z, count .0));
       },
       refl,
     )
@@ -45,4 +48,5 @@ choose-directions-spec =
     (tie.spec
     returns
     (λ c κs. search needs)  -- weights-for-requires
+    (λ c κs. search needs)  -- some-sums-requires
     returns-2)

@@ -12,7 +12,9 @@ begun c =
     known .before .before .before
 
 abbrev summed : tie.After-search-by-arg → tie.After-turn-sums
-summed c = c .before .before .before
+summed c =
+    let ordered : tie.After-order-of = c .before in
+    ordered .before .before .before .before
 
 search-by-requires : tie.Need-search-by-requires
 search-by-requires c κs =
@@ -32,6 +34,8 @@ search-turn-spec =
     tie.close
     (tie.spec
     (λ c κs. search needs)  -- turn-sums-requires
+    (λ c κs. search needs)  -- is-adaptable-requires
+    (λ c κs. search needs)  -- order-of-requires
     search-by-requires
     (λ c. search needs)  -- same-length
     returns)

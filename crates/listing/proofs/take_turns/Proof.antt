@@ -14,10 +14,10 @@ use Rattle.listing.proofs.take_turns.Tie as tie
 
 abbrev Inv-loop : tie.InvT-loop
 Inv-loop s sizes task ranges work₀ best₀ measures₀ points₀ turn₀ work best measures points turn =
-    (turn ≤ 4) × Kept (task .records) work₀ work × Between (sourceProblem task sizes s work₀) (task .room) work points
+    (turn ≤ 5) × Kept (task .records) work₀ work × Between (sourceProblem task sizes s work₀) (task .room) work points
 
 abbrev μ-loop : tie.MeasureT-loop
-μ-loop s sizes task ranges work₀ best₀ measures₀ points₀ turn₀ work best measures points turn = 4 - turn
+μ-loop s sizes task ranges work₀ best₀ measures₀ points₀ turn₀ work best measures points turn = 5 - turn
 
 -- ## the places, each with a name: at the start, between turns, after a turn, whose effort is counted
 
@@ -63,7 +63,7 @@ since c =
     turned-since (begun w .pre) (w .loop .inv .1) _ (c .search-turn .result) (c .search-turn .ensures)
 
 -- there was a turn to take
-below : (c : Turning) → looping c .loop .turn + 1 ≤ 4
+below : (c : Turning) → looping c .loop .turn + 1 ≤ 5
 below c =
     let chosen = c .before .before .before in
     omega (arith, chosen .before .loop-test .taken)

@@ -21,14 +21,14 @@ make-plan-requires : tie.Need-make-plan-requires
 make-plan-requires c κs =
     let sum = c .before in
     let s = start sum in
-    (adaptable-planned (s .pre) (sum .one-sum .ensures .0), s .pre .long)
+    (adaptable-planned (s .pre) (sum .one-sum .ensures), s .pre .long)
 
 follow-requires : tie.Need-follow-requires
 follow-requires c κs =
     let made = plan-of (c .before) in
     let sum = sum-of made in
     let left = adaptable-reordered (start sum .pre) (made-reordered (made .make-plan .ensures)) in
-    (adaptable-planned left (sum .one-sum .ensures .0), left .long)
+    (adaptable-planned left (sum .one-sum .ensures), left .long)
 
 costs-of-requires : tie.Need-costs-of-requires
 costs-of-requires c κs =
@@ -36,7 +36,7 @@ costs-of-requires c κs =
     let made = plan-of (followed .before .before) in
     let sum = sum-of made in
     let left = adaptable-reordered (start sum .pre) (made-reordered (made .make-plan .ensures)) in
-    adaptable-planned left (sum .one-sum .ensures .0)
+    adaptable-planned left (sum .one-sum .ensures)
 
 pub try-shares-spec : {M : Type 1} → statement M
 try-shares-spec =
