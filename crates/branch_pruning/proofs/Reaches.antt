@@ -3,14 +3,14 @@ use mathlib.Core.Path.{_≡_, sym, _∙_}
 use mathlib.Core.List.{List}
 use Prim.Native.Nat.{ℕ, _≤_, _<_}
 use native.Mathlib.Omega.{arith}
-use lib.ListN.{length, getD, take}
+use lib.ListN.{length, getD, take, length-drop}
 use lib.Seq.{length-take-le, getD-take}
 use Rattle.model.specs.Vectors.{atMost}
 use Rattle.model.proofs.Bits.{true-false, not-true-false}
 use Rattle.model.proofs.Vectors.{at-most-true, at-most-test}
 use Rattle.rows.specs.Rows.{costsIn}
 use Rattle.rows.proofs.RowNumbers.{costs-long}
-use Rattle.branch_candidates.specs.Sifted.{Sifted}
+use Rattle.branch_candidates.specs.Sifted.{listWidth}
 use Rattle.branch_candidates.proofs.Sifting.{sifted-map}
 use Rattle.branch_directions.specs.Directions.{maxDirections, directionsOf, widthOf, Sensible}
 use Rattle.branch_directions.specs.declared.Directions as DD
@@ -19,19 +19,22 @@ use Rattle.branch_directions.proofs.DirectionLaws.{directions-length}
 use Rattle.branch_directions.proofs.Widths.{width-few}
 use Rattle.branch_zones.specs.Zones.{cornerIn, Exceeds}
 use Rattle.branch_zones.proofs.ZoneRows.{corner-long}
-use Rattle.branch_pruning.specs.Tests.{zonesOf, Reached, Searched}
+use Rattle.branch_pruning.specs.Tests.{zonesOf, reachWidth, Full, Reached, Searched}
 use Rattle.branch_pruning.specs.declared.Progress as DP
-use Rattle.branch_pruning.specs.declared.Reach as DR
 
 -- nothing is left out
-pub reached-full : {d : DD.Directions} {work : List ℕ} {run : DP.Progress} {b : List ℕ} {reach : DR.Reach}
-    → Sifted (run .zones) (λ _. ⊥) (reach .zones) → Sifted (run .points) (λ _. ⊥) (reach .ties)
-    → Reached d work run b reach
-reached-full zones ties =
-    record { zones = sifted-map (λ i l o. absurd o) zones; ties = sifted-map (λ i l o. absurd o) ties }
+pub reached-full : {d : DD.Directions} {work : List ℕ} {run : DP.Progress} {b : List ℕ} {reach : List ℕ}
+    → Full run reach → Reached d work run b reach
+reached-full h =
+    record { zones = sifted-map (λ i l o. absurd o) (h .zones); ties = sifted-map (λ i l o. absurd o) (h .ties) }
+
+-- there are two lists
+pub reached-long : {d : DD.Directions} {work : List ℕ} {run : DP.Progress} {b : List ℕ} {reach : List ℕ}
+    → Reached d work run b reach → length reach ≡ reachWidth
+reached-long {reach = reach} h = omega (arith, h .ties .long, length-drop listWidth reach)
 
 -- the same zones and points
-pub reached-same : {d : DD.Directions} {work work′ : List ℕ} {run run′ : DP.Progress} {b : List ℕ} {reach : DR.Reach}
+pub reached-same : {d : DD.Directions} {work work′ : List ℕ} {run run′ : DP.Progress} {b : List ℕ} {reach : List ℕ}
     → work′ ≡ work → run′ .points ≡ run .points → run′ .zones ≡ run .zones → Reached d work run b reach
     → Reached d work′ run′ b reach
 reached-same same points zones h = record { zones = rw (same, zones) (h .zones); ties = rw (same, points) (h .ties) }
@@ -57,7 +60,7 @@ module _ (d : DD.Directions) (sensible : Sensible d) (b b′ : List ℕ) (long :
       )) in
       true-false (at-most-test _ _ below) f
 
-  pub reached-rises : {work : List ℕ} {run : DP.Progress} {reach : DR.Reach} → Searched d work run
+  pub reached-rises : {work : List ℕ} {run : DP.Progress} {reach : List ℕ} → Searched d work run
       → Reached d work run b reach → Reached d work run b′ reach
   reached-rises {work} {run} {reach} s h =
       record {

@@ -5,7 +5,7 @@ use mathlib.Core.Logic.{_⊎_}
 use mathlib.Core.Bool.{true, false}
 use mathlib.Core.List.{List}
 use Prim.Native.Nat.{ℕ, _+_, _≤_, _<_}
-use lib.ListN.{length, getD, take}
+use lib.ListN.{length, getD, take, drop}
 use Rattle.model.specs.Limits.{maxPoints}
 use Rattle.model.specs.Core.{coreSumEnd}
 use Rattle.model.specs.Vectors.{atMost, earlier}
@@ -13,10 +13,9 @@ use Rattle.rows.specs.Rows.{costsIn, valuesIn, EachCost}
 use Rattle.branch_directions.specs.Directions.{directionsOf, widthOf, leadAt, Sensible}
 use Rattle.branch_directions.specs.declared.Directions as DD
 use Rattle.layout.specs.Layout.{zonesEnd, listEnd}
-use Rattle.branch_candidates.specs.Sifted.{Sifted}
+use Rattle.branch_candidates.specs.Sifted.{listWidth, Sifted}
 use Rattle.branch_zones.specs.Zones.{Measured, Exceeds, Missed}
 use Rattle.branch_pruning.specs.declared.Progress as DP
-use Rattle.branch_pruning.specs.declared.Reach as DR
 
 -- the zones are the first numbers of work memory
 abbrev pub zonesOf : List ℕ → List ℕ
@@ -37,11 +36,26 @@ Surpassed d work b i = Exceeds d b (costsIn (d .objectives) work i)
 abbrev pub Unreached : DD.Directions → List ℕ → ℕ → List ℕ → Type 0
 Unreached d zones m b = (i : ℕ) → i < m → Missed d zones b i
 
--- what is not among the zones and the points of `reach` is not reached by the bound b
+-- what may be reached stands in two lists of candidates: of zones, and of archived points
+abbrev pub reachWidth : ℕ
+reachWidth = 258
+
+abbrev pub zonesIn : List ℕ → List ℕ
+zonesIn reach = take listWidth reach
+
+abbrev pub tiesIn : List ℕ → List ℕ
+tiesIn reach = drop listWidth reach
+
+-- all are among them
+pub record Full (run : DP.Progress) (reach : List ℕ) : Type 0 where
+  pub zones : Sifted (run .zones) (λ _. ⊥) (zonesIn reach)
+  pub ties : Sifted (run .points) (λ _. ⊥) (tiesIn reach)
+
+-- what is not among them is not reached by the bound b
 pub record Reached
-    (d : DD.Directions) (work : List ℕ) (run : DP.Progress) (b : List ℕ) (reach : DR.Reach) : Type 0 where
-  pub zones : Sifted (run .zones) (Missed d (zonesOf work) b) (reach .zones)
-  pub ties : Sifted (run .points) (Surpassed d work b) (reach .ties)
+    (d : DD.Directions) (work : List ℕ) (run : DP.Progress) (b : List ℕ) (reach : List ℕ) : Type 0 where
+  pub zones : Sifted (run .zones) (Missed d (zonesOf work) b) (zonesIn reach)
+  pub ties : Sifted (run .points) (Surpassed d work b) (tiesIn reach)
 
 -- zones and points that may be tested
 pub record Searched (d : DD.Directions) (work : List ℕ) (run : DP.Progress) : Type 0 where

@@ -11,8 +11,11 @@ ghost use Rattle.model.specs.Archive.{weighted};
 ghost use Rattle.layout.specs.Layout.{listEnd};
 ghost use Rattle.rows.specs.Rows.{costsIn, EachCost};
 ghost use Rattle.branch_directions.specs.Directions.{weightsOf, Sensible};
-ghost use Rattle.branch_candidates.specs.Sifted.{maxRows, Sifted};
-ghost use Rattle.branch_pruning.specs.Tests.{Untied, Surpassed, Reached, Searched, Dead};
+ghost use Rattle.branch_candidates.specs.Sifted.{maxRows, listWidth, Sifted};
+ghost use Rattle.branch_pruning.specs.Tests.{Untied, Surpassed, Full, Reached, reachWidth, Searched, Dead};
+
+// With so few zones and points lists of what is reached save nothing: all of them stay candidates.
+const FEW: usize = 16;
 
 // How many points and zones there are, and the limit: only vectors with a smaller leading sum are sought. Of partial
 // choices `left` may still be opened; at 0 the pass is given up, and `done` says how far it came. Nothing relies on it.
@@ -23,13 +26,6 @@ pub struct Progress {
     pub limit: u64,
     pub left: u64,
     pub done: u64,
-    pub meets: u64,
-}
-
-// The zones and the archived points that completions of a partial choice may reach, as they were with `meets` left.
-pub struct Reach {
-    pub zones: branch_candidates::Candidates,
-    pub ties: branch_candidates::Candidates,
     pub meets: u64,
 }
 
@@ -86,21 +82,21 @@ fn is_tied_at(
 fn is_tied(
     x: [u8; 24],
     b: [u64; 8],
-    from: branch_candidates::Candidates,
+    from: &[u8],
     c: usize,
     n: usize,
     d: branch_directions::Directions,
     work: &[u32],
 ) -> bool
     requires { ⌜ Sensible d × (listEnd ≤ length (now work)) × (c ≤ maxPoints + 1) × (n ≤ maxVariables)
-        × EachCost (λ a. a < coreSumEnd) (d .objectives) (now work) c × Sifted c (Surpassed d (now work) b) from ⌝ }
+        × EachCost (λ a. a < coreSumEnd) (d .objectives) (now work) c
+        × Sifted c (Surpassed d (now work) b) (now from) ⌝ }
     ensures { λ r. ⌜ (r ≡ false → (i : ℕ) → i < c → Untied d n (now (work .entry)) x b i) ⌝ }
 {
-    let count = from.count;
-    let rows = from.rows;
+    let count = from[branch_candidates::MAX_ROWS] as usize;
     let mut j: usize = 0;
     while j < count {
-        if is_tied_at(rows[j] as usize, x, b, n, d, work) {
+        if is_tied_at(from[j] as usize, x, b, n, d, work) {
             return true;
         }
         j += 1;
@@ -121,69 +117,102 @@ fn is_above_at(i: usize, b: [u64; 8], d: branch_directions::Directions, work: &[
     is_within(b, costs, d)
 }
 
-// Of candidates those whose costs are at least the bound.
+// Lists those of the candidates whose costs are at least the bound.
 fn points_above(
     b: [u64; 8],
-    from: branch_candidates::Candidates,
+    from: &[u8],
     c: usize,
     d: branch_directions::Directions,
     work: &[u32],
-) -> branch_candidates::Candidates
+    to: &mut [u8],
+)
     requires { ⌜ Sensible d × (listEnd ≤ length (now work)) × (c ≤ maxPoints + 1)
-        × EachCost (λ a. a < coreSumEnd) (d .objectives) (now work) c × Sifted c (Surpassed d (now work) b) from ⌝ }
-    ensures { λ r. ⌜ Sifted c (Surpassed d (now (work .entry)) b) r ⌝ }
+        × EachCost (λ a. a < coreSumEnd) (d .objectives) (now work) c
+        × Sifted c (Surpassed d (now work) b) (now from) × (length (now to) ≡ listWidth) ⌝ }
+    ensures { λ _. ⌜ Sifted c (Surpassed d (now (work .entry)) b) (now (to .exit)) ⌝ }
 {
-    let count = from.count;
-    let old = from.rows;
-    let mut rows = [0u8; 128];
+    let count = from[branch_candidates::MAX_ROWS] as usize;
     let mut kept: usize = 0;
     let mut j: usize = 0;
     while j < count {
-        let i = old[j];
+        let i = from[j];
         if is_above_at(i as usize, b, d, work) {
-            rows[kept] = i;
+            to[kept] = i;
             kept += 1;
         }
         j += 1;
     }
-    branch_candidates::Candidates { count: kept, rows }
+    to[branch_candidates::MAX_ROWS] = kept as u8;
 }
 
-// What a partial choice with this bound may reach, of what one that it extends may reach.
-pub fn reach_of(
+// What may be reached stands in so many bytes: the list of the zones, and behind it that of the archived points.
+pub const REACH_WIDTH: usize = 258;
+
+// Nothing is left out.
+pub fn full_reach(run: Progress, to: &mut [u8])
+    requires { ⌜ (run .zones ≤ maxRows) × (run .points ≤ maxRows) × (length (now to) ≡ reachWidth) ⌝ }
+    ensures { λ _. ⌜ Full run (now (to .exit)) ⌝ }
+{
+    branch_candidates::all_rows(run.zones, &mut to[..branch_candidates::LIST_WIDTH]);
+    branch_candidates::all_rows(run.points, &mut to[branch_candidates::LIST_WIDTH..]);
+}
+
+// Whether there are so few zones and points that lists save nothing.
+fn has_few(run: Progress) -> bool
+    requires { ⌜ (run .zones ≤ maxRows) × (run .points ≤ maxRows) ⌝ }
+{
+    run.zones + run.points <= FEW
+}
+
+// Lists what a partial choice with this bound may reach, of what one that it extends may reach.
+fn sift(
     b: [u64; 8],
-    from: Reach,
+    from: &[u8],
     run: Progress,
     d: branch_directions::Directions,
     work: &[u32],
-) -> Reach
-    requires { ⌜ Searched d (now work) run × Reached d (now work) run b from ⌝ }
-    ensures { λ r. ⌜ Reached d (now (work .entry)) run b r × (r .meets ≡ run .meets) ⌝ }
+    to: &mut [u8],
+)
+    requires { ⌜ Searched d (now work) run × Reached d (now work) run b (now from)
+        × (length (now to) ≡ reachWidth) ⌝ }
+    ensures { λ _. ⌜ Reached d (now (work .entry)) run b (now (to .exit)) ⌝ }
 {
-    let old_zones = from.zones;
-    let old_ties = from.ties;
-    let m = run.zones;
-    let zones = branch_zones::reached_zones(b, old_zones, m, d, &work[..layout::ZONES_END]);
-    let ties = points_above(b, old_ties, run.points, d, work);
-    Reach {
-        zones,
-        ties,
-        meets: run.meets,
-    }
+    branch_zones::reached_zones(
+        b,
+        &from[..branch_candidates::LIST_WIDTH],
+        run.zones,
+        d,
+        &work[..layout::ZONES_END],
+        &mut to[..branch_candidates::LIST_WIDTH],
+    );
+    points_above(
+        b,
+        &from[branch_candidates::LIST_WIDTH..],
+        run.points,
+        d,
+        work,
+        &mut to[branch_candidates::LIST_WIDTH..],
+    );
 }
 
-// Nothing is left out.
-pub fn full_reach(run: Progress) -> Reach
-    requires { ⌜ (run .zones ≤ maxRows) × (run .points ≤ maxRows) ⌝ }
-    ensures { λ r. ⌜ Sifted (run .zones) (λ _. ⊥) (r .zones) × Sifted (run .points) (λ _. ⊥) (r .ties) ⌝ }
+// The same, but that all stay candidates where there are few.
+pub fn reach_of(
+    b: [u64; 8],
+    from: &[u8],
+    run: Progress,
+    d: branch_directions::Directions,
+    work: &[u32],
+    to: &mut [u8],
+)
+    requires { ⌜ Searched d (now work) run × Reached d (now work) run b (now from)
+        × (length (now to) ≡ reachWidth) ⌝ }
+    ensures { λ _. ⌜ Reached d (now (work .entry)) run b (now (to .exit)) ⌝ }
 {
-    let zones = branch_candidates::all_rows(run.zones);
-    let ties = branch_candidates::all_rows(run.points);
-    Reach {
-        zones,
-        ties,
-        meets: run.meets,
+    if has_few(run) {
+        full_reach(run, to);
+        return;
     }
+    sift(b, from, run, d, work, to);
 }
 
 // What a partial choice with this bound may reach, of all.
@@ -192,11 +221,18 @@ pub fn reach_anew(
     run: Progress,
     d: branch_directions::Directions,
     work: &[u32],
-) -> Reach
-    requires { ⌜ Searched d (now work) run ⌝ }
-    ensures { λ r. ⌜ Reached d (now (work .entry)) run b r × (r .meets ≡ run .meets) ⌝ }
+    to: &mut [u8],
+)
+    requires { ⌜ Searched d (now work) run × (length (now to) ≡ reachWidth) ⌝ }
+    ensures { λ _. ⌜ Reached d (now (work .entry)) run b (now (to .exit)) ⌝ }
 {
-    reach_of(b, full_reach(run), run, d, work)
+    if has_few(run) {
+        full_reach(run, to);
+        return;
+    }
+    let mut all = [0u8; REACH_WIDTH];
+    full_reach(run, &mut all);
+    sift(b, &all, run, d, work, to);
 }
 
 // Whether completions of a choice with this bound may be new, or earlier than an archived choice with equal costs.
@@ -204,22 +240,35 @@ pub fn reach_anew(
 pub fn is_alive(
     x: [u8; 24],
     b: [u64; 8],
-    reach: Reach,
+    reach: &[u8],
     run: Progress,
     n: usize,
     d: branch_directions::Directions,
     work: &[u32],
 ) -> bool
-    requires { ⌜ Searched d (now work) run × (n ≤ maxVariables) × Reached d (now work) run b reach ⌝ }
+    requires { ⌜ Searched d (now work) run × (n ≤ maxVariables)
+        × Reached d (now work) run b (now reach) ⌝ }
     ensures { λ r. ⌜ (r ≡ false → Dead d n (now (work .entry)) run x b) ⌝ }
 {
     if branch_directions::lead_of(b, d) >= run.limit {
         return false;
     }
-    let zones = reach.zones;
-    if branch_zones::is_reached(b, zones, run.zones, d, &work[..layout::ZONES_END]) {
+    if branch_zones::is_reached(
+        b,
+        &reach[..branch_candidates::LIST_WIDTH],
+        run.zones,
+        d,
+        &work[..layout::ZONES_END],
+    ) {
         return true;
     }
-    let ties = reach.ties;
-    is_tied(x, b, ties, run.points, n, d, work)
+    is_tied(
+        x,
+        b,
+        &reach[branch_candidates::LIST_WIDTH..],
+        run.points,
+        n,
+        d,
+        work,
+    )
 }

@@ -1,4 +1,5 @@
 -- Laws of the search.
+pub mod Aims
 pub mod Nodes
 pub mod Meeting
 pub mod Memory

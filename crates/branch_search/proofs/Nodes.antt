@@ -10,7 +10,6 @@ use denote.Struct.Declared.{row}
 use Rattle.model.specs.Limits.{maxVariables}
 use Rattle.branch_directions.specs.Directions.{maxDirections}
 use Rattle.layout.specs.Places.{orderIn}
-use Rattle.branch_pruning.specs.declared.Reach as DR
 use Rattle.branch_search.specs.declared.Node as DN
 use Rattle.branch_search.specs.States.{extended}
 use Rattle.branch_search.proofs.Node.{the-type}
@@ -25,23 +24,20 @@ bound-long node vs h = sym (sym (length-map (node .bound) (λ v. v)) ∙ h .1 .1
 abbrev pub withNext : List ℕ → ℕ → DN.Node → ℕ → List ℕ
 withNext plan n node a = set (take n (node .choice)) (orderIn plan (node .depth)) a
 
--- next is the partial choice with the value a, the bound b, and what the one before may reach
-pub record Extends
-    (plan : List ℕ) (n : ℕ) (node : DN.Node) (a : ℕ) (b : List ℕ) (reach : DR.Reach) (next : DN.Node) : Type 0 where
+-- next is the partial choice with the value a and the bound b
+pub record Extends (plan : List ℕ) (n : ℕ) (node : DN.Node) (a : ℕ) (b : List ℕ) (next : DN.Node) : Type 0 where
   pub deeper : next .depth ≡ node .depth + 1
   pub chosen : take n (next .choice) ≡ withNext plan n node a
   pub bounded : next .bound ≡ b
-  pub reaches : next .reach ≡ reach
 
 pub extends :
-    {plan : List ℕ} {n : ℕ} {node : DN.Node} {v a : ℕ} {b : List ℕ} {reach : DR.Reach} {next : DN.Node} →
-    next ≡ extended node v a b reach → v ≡ orderIn plan (node .depth) → v < n → Extends plan n node a b reach next
-extends {plan} {n} {node} {v} {a} {b} {reach} {next} e is l =
+    {plan : List ℕ} {n : ℕ} {node : DN.Node} {v a : ℕ} {b : List ℕ} {next : DN.Node} →
+    next ≡ extended node v a b → v ≡ orderIn plan (node .depth) → v < n → Extends plan n node a b next
+extends {plan} {n} {node} {v} {a} {b} {next} e is l =
     record {
       deeper = ap (λ (u : DN.Node). u .depth) e;
       chosen =
           ap (λ (u : DN.Node). take n (u .choice)) e ∙ take-set-lt n (node .choice) v a l
           ∙ ap (λ (i : ℕ). set (take n (node .choice)) i a) is;
       bounded = ap (λ (u : DN.Node). u .bound) e;
-      reaches = ap (λ (u : DN.Node). u .reach) e;
     }

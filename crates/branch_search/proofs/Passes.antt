@@ -32,7 +32,6 @@ use Rattle.branch_directions.specs.declared.Directions as DD
 use Rattle.branch_buckets.specs.Bounds.{baseAt, boundAt}
 use Rattle.branch_buckets.proofs.Bounds.{bound-limit}
 use Rattle.branch_pruning.specs.declared.Progress as DP
-use Rattle.branch_pruning.specs.declared.Reach as DR
 use Rattle.branch_search.specs.declared.Explored as DE
 use Rattle.branch_search.specs.declared.Effort as DF
 use Rattle.branch_search.specs.declared.Node as DN
@@ -47,8 +46,8 @@ use Rattle.branch_search.proofs.Archives.{archived-between, between-arc
 use Rattle.model.proofs.Zeros.{zeros-at, zeros-choice, front-same}
 
 -- the empty choice with its bound
-abbrev pub rootNode : List ℕ → DR.Reach → DN.Node
-rootNode b reach = record { depth = 0; choice = replicate maxVariables 0; bound = b; reach = reach }
+abbrev pub rootNode : List ℕ → DN.Node
+rootNode b = record { depth = 0; choice = replicate maxVariables 0; bound = b }
 
 -- where a pass begins
 abbrev pub rootRun : ℕ → ℕ → ℕ → ℕ → DP.Progress
@@ -132,8 +131,8 @@ module _ {d : DD.Directions} {task : DT.Task} {ds s work : List ℕ} (h : Ready 
         ((at : ℕ) → getD s at 0 < byteEnd) → (b : List ℕ) →
         ((j : ℕ) → j < widthOf d →
         getD b j 0 ≡ baseAt d ds s (planIn work′) (task .records) (replicate (length ds) 0) j) →
-        (reach : DR.Reach) → Standing d task ds s work′ (rootRun points m limit left) (rootNode b reach)
-    root-standing bytes b is reach =
+        Standing d task ds s work′ (rootRun points m limit left) (rootNode b)
+    root-standing bytes b is =
         let zeros : take {A = ℕ} (length ds) (replicate maxVariables 0) ≡ replicate (length ds) 0 =
         front-same (length ds) maxVariables 0 (h .planned .variables) in
         record {
@@ -146,10 +145,10 @@ module _ {d : DD.Directions} {task : DT.Task} {ds s work : List ℕ} (h : Ready 
 
     -- every choice completes the empty one
     pub root-passed :
-        (b : List ℕ) (reach : DR.Reach) (work″ : List ℕ) (run″ : DP.Progress) →
-        OpenedFrom d task ds s (rootNode b reach) work′ (rootRun points m limit left) work″ run″ →
+        (b : List ℕ) (work″ : List ℕ) (run″ : DP.Progress) →
+        OpenedFrom d task ds s (rootNode b) work′ (rootRun points m limit left) work″ run″ →
         Passed (problemOf d task ds s work) d task (length ds) left work work″ run″
-    root-passed b reach work″ run″ o =
+    root-passed b work″ run″ o =
         record {
           still = still-trans zones-kept (o .still);
           running = subst (λ (q : Problem). Running q d task (length ds) work″ run″) same-problem (o .running);

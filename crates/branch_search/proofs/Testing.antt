@@ -9,12 +9,9 @@ use Rattle.model.specs.Limits.{maxObjectives}
 use Rattle.groups.specs.declared.Task as DT
 use Rattle.branch_directions.specs.declared.Directions as DD
 use Rattle.branch_pruning.specs.declared.Progress as DP
-use Rattle.branch_pruning.specs.declared.Reach as DR
 use Rattle.branch_pruning.specs.Tests.{Reached, Searched}
 use Rattle.branch_pruning.proofs.Reaches.{reached-same}
-use Rattle.branch_search.specs.declared.Node as DN
 use Rattle.branch_search.specs.States.{problemOf, spent, Ready, Running, Still, Meeting}
-use Rattle.branch_search.proofs.Nodes.{Extends}
 use Rattle.branch_search.proofs.ArchivedWords.{archived-small}
 
 pub running-searched :
@@ -35,7 +32,7 @@ running-searched {d} {task} {ds} {s} {work} h four {work′} {run} still running
 
 -- one partial choice less may be opened
 pub reached-spent :
-    {d : DD.Directions} {work : List ℕ} {run less : DP.Progress} {b : List ℕ} {reach : DR.Reach} → less ≡ spent run →
+    {d : DD.Directions} {work : List ℕ} {run less : DP.Progress} {b reach : List ℕ} → less ≡ spent run →
     Reached d work run b reach → Reached d work less b reach
 reached-spent {run = run} e h =
     let points = ap (λ (r : DP.Progress). r .points) e in
@@ -44,17 +41,10 @@ reached-spent {run = run} e h =
 
 -- while no complete choice is met, what was reached is
 pub reached-idle :
-    {d : DD.Directions} {work : List ℕ} {run : DP.Progress} {work′ : List ℕ} {run′ : DP.Progress} {b : List ℕ}
-    {reach : DR.Reach} → Meeting work run work′ run′ → Reached d work run b reach → reach .meets ≡ run .meets →
-    reach .meets ≡ run′ .meets → Reached d work′ run′ b reach
+    {d : DD.Directions} {work : List ℕ} {run : DP.Progress} {work′ : List ℕ} {run′ : DP.Progress} {b reach : List ℕ}
+    {seen : ℕ} → Meeting work run work′ run′ → Reached d work run b reach → seen ≡ run .meets → seen ≡ run′ .meets →
+    Reached d work′ run′ b reach
 reached-idle {run = run} {run′ = run′} m h before after =
     let same : run′ .meets ≡ run .meets = omega arith in
     let (work, points, zones) = m .idle same in
     reached-same work points zones h
-
--- a partial choice with a value more has what the one before may reach
-pub reached-extends :
-    {d : DD.Directions} {work : List ℕ} {run : DP.Progress} {plan : List ℕ} {n : ℕ} {node : DN.Node} {a : ℕ}
-    {b : List ℕ} {reach : DR.Reach} {next : DN.Node} → Extends plan n node a b reach next →
-    Reached d work run b reach → Reached d work run (next .bound) (next .reach)
-reached-extends {d} {work} {run} e h = rw (e .bounded, e .reaches) h

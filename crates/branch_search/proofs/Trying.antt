@@ -23,7 +23,6 @@ use Rattle.layout.specs.Places.{orderIn}
 use Rattle.branch_buckets.specs.Bounds.{Agree, boundAt}
 use Rattle.branch_buckets.proofs.Bounds.{bound-local, bound-below}
 use Rattle.branch_pruning.specs.declared.Progress as DP
-use Rattle.branch_pruning.specs.declared.Reach as DR
 use Rattle.branch_search.specs.declared.Node as DN
 use Rattle.branch_search.specs.States.{noLimit, planIn, archiveIn, problemOf}
 use Rattle.branch_search.specs.States.{Running, Partial, Completes, Still, AllCovered, Standing, OpenedFrom}
@@ -163,12 +162,11 @@ module _
       (t : Trying d task ds s work run node work′ run′ leads) where
     -- what trying a value asks
     pub trying-standing :
-        (a : ℕ) (b : List ℕ) (reach : DR.Reach) (next : DN.Node) →
-        Extends (planIn work) (length ds) node a b reach next →
+        (a : ℕ) (b : List ℕ) (next : DN.Node) → Extends (planIn work) (length ds) node a b next →
         Partial d (task .records) ds s (planIn work) (node .depth + 1)
         (withNext (planIn work) (length ds) node a) b →
         Standing d task ds s work′ run′ next
-    trying-standing a b reach next e p =
+    trying-standing a b next e p =
         record {
           ready = ready-still (t .still) d ds s (h .ready);
           running =
@@ -179,11 +177,10 @@ module _
 
     -- and what it leaves
     pub trying-next :
-        (a : ℕ) (b : List ℕ) (reach : DR.Reach) (next : DN.Node) →
-        Extends (planIn work) (length ds) node a b reach next →
+        (a : ℕ) (b : List ℕ) (next : DN.Node) → Extends (planIn work) (length ds) node a b next →
         (work″ : List ℕ) (run″ : DP.Progress) → OpenedFrom d task ds s next work′ run′ work″ run″ →
         Trying d task ds s work run node work″ run″ (set leads a noLimit)
-    trying-next a b reach next e work″ run″ o =
+    trying-next a b next e work″ run″ o =
         record {
           still = still-trans (t .still) (opened .still);
           running = opened .running;

@@ -2,7 +2,7 @@
 -- the archive, and the plan.
 use mathlib.Core.Path.{_≡_}
 use mathlib.Core.Bool.{true, false, not}
-use mathlib.Core.List.{List, [], List·Memᴰ as In}
+use mathlib.Core.List.{List, List·Memᴰ as In}
 use Prim.Native.Nat.{ℕ, _+_, _-_, _≤_, _<_}
 use lib.Dec.{ltb}
 use lib.ListN.{length, getD, take, drop, set}
@@ -27,7 +27,6 @@ use Rattle.branch_buckets.specs.Bounds.{boundAt, Agree}
 use Rattle.branch_buckets.specs.Content.{Planned}
 use Rattle.branch_buckets.specs.Sound.{Sound}
 use Rattle.branch_pruning.specs.declared.Progress as DP
-use Rattle.branch_pruning.specs.declared.Reach as DR
 use Rattle.branch_pruning.specs.Tests.{zonesOf}
 use Rattle.branch_search.specs.declared.Node as DN
 use Rattle.branch_search.specs.declared.Explored as DE
@@ -87,18 +86,13 @@ pub record Partial (d : DD.Directions) (r : ℕ) (ds s plan : List ℕ) (k : ℕ
   pub exact : (j : ℕ) → j < widthOf d → getD acc j 0 ≡ boundAt d ds s plan r k x j
   pub small : (j : ℕ) → j < widthOf d → getD acc j 0 < directionEnd
 
--- a partial choice with the value a of one more variable, v, the bound that it then has, and what the one before may
--- reach
-abbrev pub extended : DN.Node → ℕ → ℕ → List ℕ → DR.Reach → DN.Node
-extended node v a bound reach =
-    record { depth = node .depth + 1; choice = set (node .choice) v a; bound = bound; reach = reach }
+-- a partial choice with the value a of one more variable, v, and the bound that it then has
+abbrev pub extended : DN.Node → ℕ → ℕ → List ℕ → DN.Node
+extended node v a bound = record { depth = node .depth + 1; choice = set (node .choice) v a; bound = bound }
 
-abbrev pub noReach : DR.Reach
-noReach = record { zones = record { count = 0; rows = [] }; ties = record { count = 0; rows = [] }; meets = 0 }
-
--- a complete choice, as a partial choice with no variable left: it is met, whatever it may reach
+-- a complete choice, as a partial choice with no variable left
 abbrev pub leaf : List ℕ → List ℕ → List ℕ → DN.Node
-leaf ds x bound = record { depth = length ds; choice = x; bound = bound; reach = noReach }
+leaf ds x bound = record { depth = length ds; choice = x; bound = bound }
 
 -- y has the values of a partial choice
 abbrev pub Completes : List ℕ → ℕ → DN.Node → List ℕ → Type 0

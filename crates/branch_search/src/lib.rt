@@ -54,27 +54,24 @@ pub struct Explored {
     pub effort: Effort,
 }
 
-// A partial choice: values for the variables at the first `depth` positions, its bound in every direction, and what the
-// one that it extends may reach.
+// What is searched, and in which directions.
+pub struct Aim {
+    pub task: groups::Task,
+    pub d: branch_directions::Directions,
+}
+
+// A partial choice: values for the variables at the first `depth` positions, and its bound in every direction.
 pub struct Node {
     pub depth: usize,
     pub choice: [u8; 24],
     pub bound: [u64; 8],
-    pub reach: branch_pruning::Reach,
 }
 
 impl Node {
-    // One more variable has its value: the next partial choice, with the bound that it then has, and what this one may
-    // reach.
-    fn with(
-        self,
-        variable: usize,
-        value: usize,
-        bound: [u64; 8],
-        reach: branch_pruning::Reach,
-    ) -> Node
+    // One more variable has its value: the next partial choice, with the bound that it then has.
+    fn with(self, variable: usize, value: usize, bound: [u64; 8]) -> Node
         requires { ⌜ (self .depth < maxVariables) × (variable < maxVariables) × (value < maxDomain) ⌝ }
-        ensures { λ next. ⌜ next ≡ extended self variable value bound reach ⌝ }
+        ensures { λ next. ⌜ next ≡ extended self variable value bound ⌝ }
     {
         let x = self.choice;
         let choice = branch_buckets::with_value(x, variable, value);
@@ -83,7 +80,6 @@ impl Node {
             depth,
             choice,
             bound,
-            reach,
         }
     }
 }
@@ -146,14 +142,15 @@ fn take_leaf(
     run: branch_pruning::Progress,
     s: &[u8],
     sizes: &[u8],
-    task: groups::Task,
-    d: branch_directions::Directions,
+    aim: Aim,
     work: &mut [u32],
 ) -> branch_pruning::Progress
-    requires { ⌜ Standing d task (now sizes) (now s) (now work) run (leaf (now sizes) x bound) ⌝ }
-    ensures { λ t. ⌜ OpenedFrom d task (now (sizes .entry)) (now (s .entry))
+    requires { ⌜ Standing (aim .d) (aim .task) (now sizes) (now s) (now work) run (leaf (now sizes) x bound) ⌝ }
+    ensures { λ t. ⌜ OpenedFrom (aim .d) (aim .task) (now (sizes .entry)) (now (s .entry))
         (leaf (now (sizes .entry)) x bound) (now (work .entry)) run (now (work .exit)) t ⌝ }
 {
+    let task = aim.task;
+    let d = aim.d;
     let p = d.objectives;
     let ceilings = task.ceilings;
     let costs = branch_pruning::front_of(bound);
@@ -249,45 +246,47 @@ fn part_done(run: branch_pruning::Progress, finished: u64, size: usize) -> branc
     }
 }
 
-// Opens a partial choice where its completions may be new, or earlier than an archived choice with equal costs.
+// Opens a partial choice where its completions may be new, or earlier than an archived choice with equal costs. `reach`
+// lists what it may reach.
 fn try_choice(
     node: Node,
+    reach: &[u8],
     run: branch_pruning::Progress,
     s: &[u8],
     sizes: &[u8],
-    task: groups::Task,
-    d: branch_directions::Directions,
+    aim: Aim,
     work: &mut [u32],
 ) -> branch_pruning::Progress
-    requires { ⌜ Standing d task (now sizes) (now s) (now work) run node
-        × Reached d (now work) run (node .bound) (node .reach) ⌝ }
-    ensures { λ t. ⌜ OpenedFrom d task (now (sizes .entry)) (now (s .entry)) node
+    requires { ⌜ Standing (aim .d) (aim .task) (now sizes) (now s) (now work) run node
+        × Reached (aim .d) (now work) run (node .bound) (now reach) ⌝ }
+    ensures { λ t. ⌜ OpenedFrom (aim .d) (aim .task) (now (sizes .entry)) (now (s .entry)) node
         (now (work .entry)) run (now (work .exit)) t ⌝ }
 {
     let n = sizes.len();
     let x = node.choice;
     let bound = node.bound;
-    let reach = node.reach;
+    let d = aim.d;
     if branch_pruning::is_alive(x, bound, reach, run, n, d, work) {
-        return open_position(node, run, s, sizes, task, d, work);
+        return open_position(node, reach, run, s, sizes, aim, work);
     }
     run
 }
 
 // Tries each value of the variable at the next position, by rising leading sums of the bound, as long as these are
-// below the limit. A complete choice is met. Nothing is done once the pass is given up.
+// below the limit. A complete choice is met. Nothing is done once the pass is given up. What the values may reach is
+// listed here, of what is in `from`, and anew once a complete choice was met.
 fn open_position(
     node: Node,
+    from: &[u8],
     run: branch_pruning::Progress,
     s: &[u8],
     sizes: &[u8],
-    task: groups::Task,
-    d: branch_directions::Directions,
+    aim: Aim,
     work: &mut [u32],
 ) -> branch_pruning::Progress
-    requires { ⌜ Standing d task (now sizes) (now s) (now work) run node
-        × Reached d (now work) run (node .bound) (node .reach) ⌝ }
-    ensures { λ t. ⌜ OpenedFrom d task (now (sizes .entry)) (now (s .entry)) node
+    requires { ⌜ Standing (aim .d) (aim .task) (now sizes) (now s) (now work) run node
+        × Reached (aim .d) (now work) run (node .bound) (now from) ⌝ }
+    ensures { λ t. ⌜ OpenedFrom (aim .d) (aim .task) (now (sizes .entry)) (now (s .entry)) node
         (now (work .entry)) run (now (work .exit)) t ⌝ }
 {
     if run.left == 0 {
@@ -298,8 +297,9 @@ fn open_position(
     let x = node.choice;
     let bound = node.bound;
     if k == n {
-        return take_leaf(x, bound, run, s, sizes, task, d, work);
+        return take_leaf(x, bound, run, s, sizes, aim, work);
     }
+    let d = aim.d;
     let v = branch_buckets::variable_at(k, &work[layout::PLAN_AT..]);
     let size = sizes[v] as usize;
     let rows = branch_values::bucket_at(k, v, &x[..n], s, sizes, d, &work[layout::PLAN_AT..]);
@@ -308,23 +308,25 @@ fn open_position(
         &x[..n],
         s,
         sizes,
-        task.records,
+        aim.task.records,
         d,
         &work[layout::PLAN_AT..],
     );
     let mut leads = branch_values::leads_of(&rows, bound, away, size, d);
     let mut a = branch_values::least_value(&leads, size);
     let mut t = count_opened(run);
-    let from = node.reach;
-    let mut reach = branch_pruning::reach_of(bound, from, t, d, work);
+    let mut reach = [0u8; branch_pruning::REACH_WIDTH];
+    branch_pruning::reach_of(bound, from, t, d, work, &mut reach);
+    let mut seen = t.meets;
     let mut finished: u64 = 0;
     while leads[a] < t.limit {
-        if reach.meets != t.meets {
-            reach = branch_pruning::reach_anew(bound, t, d, work);
+        if seen != t.meets {
+            branch_pruning::reach_anew(bound, t, d, work, &mut reach);
+            seen = t.meets;
         }
         let b = branch_values::row_of(&rows, a, bound, away, d.objectives + d.sums);
-        let next = node.with(v, a, b, reach);
-        t = try_choice(next, t, s, sizes, task, d, work);
+        let next = node.with(v, a, b);
+        t = try_choice(next, &reach, t, s, sizes, aim, work);
         finished = add_finished(finished, t.left);
         leads[a] = NO_LIMIT;
         a = branch_values::least_value(&leads, size);
@@ -375,14 +377,14 @@ fn run_pass(
         done: 0,
         meets: MAX_MEETS,
     };
-    let reach = branch_pruning::full_reach(run);
+    let mut reach = [0u8; branch_pruning::REACH_WIDTH];
+    branch_pruning::full_reach(run, &mut reach);
     let node = Node {
         depth: 0,
         choice: [0u8; 24],
         bound,
-        reach,
     };
-    try_choice(node, run, s, sizes, task, d, work)
+    try_choice(node, &reach, run, s, sizes, Aim { task, d }, work)
 }
 
 // What is said of a search that was given up.

@@ -12,7 +12,7 @@ ghost use Rattle.model.specs.Vectors.{atMost};
 ghost use Rattle.model.specs.Archive.{lowered};
 ghost use Rattle.branch_directions.specs.Directions.{maxDirections, Sensible};
 ghost use Rattle.layout.specs.Layout.{zonesEnd};
-ghost use Rattle.branch_candidates.specs.Sifted.{Sifted};
+ghost use Rattle.branch_candidates.specs.Sifted.{listWidth, Sifted};
 ghost use Rattle.branch_zones.specs.Zones.{maxZones, zoneWidth, cornerIn, cornersIn, clamped};
 ghost use Rattle.branch_zones.specs.Zones.{Measured, Missed, SplitAt, FirstZone};
 ghost use Rattle.branch_zones.specs.Steps.{Written, Held, PartAdded, Closed, ZonesSplit};
@@ -71,51 +71,50 @@ fn is_under(least: [u32; 8], at: usize, zones: &[u32]) -> bool
     under
 }
 
-// Of candidates those that are reached: zones in which a vector with this bound, in every direction, may lie.
+// Lists those of the candidates that are reached: zones in which a vector with this bound, in every direction, may lie.
 pub fn reached_zones(
     b: [u64; 8],
-    from: branch_candidates::Candidates,
+    from: &[u8],
     m: usize,
     d: branch_directions::Directions,
     zones: &[u32],
-) -> branch_candidates::Candidates
-    requires { ⌜ Sensible d × Measured d (now zones) m × Sifted m (Missed d (now zones) b) from ⌝ }
-    ensures { λ c. ⌜ Sifted m (Missed d (now (zones .entry)) b) c ⌝ }
+    to: &mut [u8],
+)
+    requires { ⌜ Sensible d × Measured d (now zones) m × Sifted m (Missed d (now zones) b) (now from)
+        × (length (now to) ≡ listWidth) ⌝ }
+    ensures { λ _. ⌜ Sifted m (Missed d (now (zones .entry)) b) (now (to .exit)) ⌝ }
 {
     let least = clamp_bound(b, d.objectives + d.sums);
-    let count = from.count;
-    let old = from.rows;
-    let mut rows = [0u8; 128];
+    let count = from[branch_candidates::MAX_ROWS] as usize;
     let mut kept: usize = 0;
     let mut j: usize = 0;
     while j < count {
-        let i = old[j];
+        let i = from[j];
         if is_under(least, ZONE_WIDTH * i as usize, zones) {
-            rows[kept] = i;
+            to[kept] = i;
             kept += 1;
         }
         j += 1;
     }
-    branch_candidates::Candidates { count: kept, rows }
+    to[branch_candidates::MAX_ROWS] = kept as u8;
 }
 
 // Whether one of `m` zones is reached. Only candidates are looked at.
 pub fn is_reached(
     b: [u64; 8],
-    from: branch_candidates::Candidates,
+    from: &[u8],
     m: usize,
     d: branch_directions::Directions,
     zones: &[u32],
 ) -> bool
-    requires { ⌜ Sensible d × Measured d (now zones) m × Sifted m (Missed d (now zones) b) from ⌝ }
+    requires { ⌜ Sensible d × Measured d (now zones) m × Sifted m (Missed d (now zones) b) (now from) ⌝ }
     ensures { λ r. ⌜ (r ≡ false → (i : ℕ) → i < m → Missed d (now (zones .entry)) b i) ⌝ }
 {
     let least = clamp_bound(b, d.objectives + d.sums);
-    let count = from.count;
-    let rows = from.rows;
+    let count = from[branch_candidates::MAX_ROWS] as usize;
     let mut j: usize = 0;
     while j < count {
-        if is_under(least, ZONE_WIDTH * rows[j] as usize, zones) {
+        if is_under(least, ZONE_WIDTH * from[j] as usize, zones) {
             return true;
         }
         j += 1;

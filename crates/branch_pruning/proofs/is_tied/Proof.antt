@@ -6,6 +6,7 @@ use borrow.Author.Count.{below-more}
 use lib.ListN.{getD}
 use denote.Ref.{now}
 use Rattle.model.proofs.Bits.{true-false}
+use Rattle.branch_candidates.specs.Sifted.{countIn}
 use Rattle.branch_candidates.proofs.Sifting.{sifted-map, sifted-none}
 use Rattle.branch_pruning.specs.Tests.{Untied}
 use Rattle.branch_pruning.proofs.Ties.{untied}
@@ -13,37 +14,54 @@ use Rattle.branch_pruning.proofs.is_tied.Statement.{statement}
 use Rattle.branch_pruning.proofs.is_tied.Tie as tie
 
 abbrev Inv-loop : tie.InvT-loop
-Inv-loop x b c n d work count rows j₀ j = (j ≤ count) × ((k : ℕ) → k < j → Untied d n work x b (getD rows k 0))
+Inv-loop x b from c n d work count j₀ j = (j ≤ count) × ((k : ℕ) → k < j → Untied d n work x b (getD from k 0))
 
 abbrev μ-loop : tie.MeasureT-loop
-μ-loop x b c n d work count rows j₀ j = count - j
+μ-loop x b from c n d work count j₀ j = count - j
 
-abbrev start : tie.At-loop Inv-loop μ-loop → tie.Start Inv-loop μ-loop
-start c = c .before .before .before
+abbrev Looping : Type 0
+Looping = tie.At-loop Inv-loop μ-loop
+
+-- how many candidates there are is read
+abbrev Counting : Type 0
+Counting = tie.After-shared-slice-known3 Inv-loop μ-loop
+
+abbrev begun : Counting → tie.Start Inv-loop μ-loop
+begun c = c .before .before .before
+
+abbrev start : Looping → tie.Start Inv-loop μ-loop
+start c = begun (c .before)
 
 -- a candidate is one of the points
-inside : (c : tie.At-loop Inv-loop μ-loop) → c .loop .j < start c .args .from .count
-    → getD (start c .args .from .rows) (c .loop .j) 0 < start c .args .c
+inside : (c : Looping) → c .loop .j < countIn (now (start c .args .from))
+    → getD (now (start c .args .from)) (c .loop .j) 0 < start c .args .c
 inside c l = start c .pre .5 .inside (c .loop .j) l
 
-array-read-is-tied-at : tie.Need-array-read-is-tied-at Inv-loop μ-loop
-array-read-is-tied-at c = omega (arith, start (c .before) .pre .5 .few)
+shared-slice-read-count : tie.Need-shared-slice-read-count Inv-loop μ-loop
+shared-slice-read-count c = omega (arith, begun c .pre .5 .long)
+
+cast-count : tie.Need-cast-count Inv-loop μ-loop
+cast-count c = omega (arith, begun c .pre .5 .few)
+
+shared-slice-read-is-tied-at : tie.Need-shared-slice-read-is-tied-at Inv-loop μ-loop
+shared-slice-read-is-tied-at c = let s = start (c .before .before) in omega (arith, s .pre .5 .few, s .pre .5 .long)
 
 cast-is-tied-at : tie.Need-cast-is-tied-at Inv-loop μ-loop
-cast-is-tied-at c = omega (arith, inside (c .before) (omega arith), start (c .before) .pre .2)
+cast-is-tied-at c = let w = c .before .before in omega (arith, inside w (omega arith), start w .pre .2)
 
 is-tied-at-requires : tie.Need-is-tied-at-requires Inv-loop μ-loop
 is-tied-at-requires c κs =
-    let s = start (c .before) in
-    let below = inside (c .before) (omega arith) in
+    let w = c .before .before in
+    let s = start w in
+    let below = inside w (omega arith) in
     (s .pre .0, s .pre .1, omega (arith, below, s .pre .2), s .pre .3, s .pre .4 _ below)
 
 add-j : tie.Need-add-j Inv-loop μ-loop
-add-j c = omega (arith, start (c .before .before .before) .pre .5 .few)
+add-j c = let w = c .before .before .before .before in omega (arith, start w .pre .5 .few)
 
 loop-again : tie.Need-loop-again Inv-loop μ-loop
 loop-again c =
-    let w = c .before .before .before .loop in
+    let w = c .before .before .before .before .loop in
     (omega arith, below-more _ (w .j) (w .inv .1) (c .before .is-tied-at .ensures (c .if1 .left)))
 
 returns-2 : tie.Need-returns-2 Inv-loop μ-loop
@@ -60,8 +78,10 @@ is-tied-spec =
     (tie.spec
     Inv-loop
     μ-loop
+    shared-slice-read-count
+    cast-count
     (λ c. (omega arith, λ j l. absurd (omega arith)))  -- loop-holds
-    array-read-is-tied-at
+    shared-slice-read-is-tied-at
     cast-is-tied-at
     is-tied-at-requires
     (λ c e. absurd (true-false refl e))  -- returns

@@ -22,15 +22,14 @@ use Rattle.branch_buckets.proofs.ContentRows.{planned-fewer}
 use Rattle.branch_buckets.proofs.Ends.{bucket-ranged}
 use Rattle.branch_buckets.proofs.Bounds.{records-inside}
 use Rattle.branch_pruning.specs.declared.Progress as DP
-use Rattle.branch_pruning.specs.declared.Reach as DR
-use Rattle.branch_pruning.specs.Tests.{Reached, Searched}
-use Rattle.branch_pruning.proofs.Reaches.{reached-rises}
+use Rattle.branch_pruning.specs.Tests.{reachWidth, Reached, Searched}
+use Rattle.branch_pruning.proofs.Reaches.{reached-long, reached-rises}
 use Rattle.branch_search.specs.States.{planIn, Partial, Standing}
 use Rattle.branch_values.specs.Rows.{Holding, nextBound, Bucket, Away}
 use Rattle.branch_directions.proofs.Widths.{lead-inside, width-few}
 use Rattle.branch_search.proofs.Nodes.{choice-long, bound-long, withNext, Extends, extends}
-use Rattle.groups.proofs.Tasks.{ceilings-long}
-use Rattle.branch_search.proofs.Testing.{running-searched, reached-spent, reached-idle, reached-extends}
+use Rattle.branch_search.proofs.Aims.{aim-ceilings}
+use Rattle.branch_search.proofs.Testing.{running-searched, reached-spent, reached-idle}
 use Rattle.branch_search.proofs.Memory.{lent-plan, still-refl}
 use Rattle.branch_search.proofs.Leaving.{opened-same, dead-covers}
 use Rattle.branch_search.proofs.Leaf.{leaf-standing, leaf-opened}
@@ -63,31 +62,31 @@ use Rattle.branch_buckets.proofs.variable_at.Reads as variable-at-reads
 use Rattle.branch_search.proofs.+open_position+try_choice.{statement}
 use Rattle.branch_search.proofs.+open_position+try_choice.Tie.{close}
 
-abbrev μ-open-position : Measures 3 open-position-kinds.ps ℕ
-μ-open-position κs a = 2 * (length (now (a .1 .1 .1 .0)) - a .0 .depth)
+abbrev μ-open-position : Measures 4 open-position-kinds.ps ℕ
+μ-open-position κs a = 2 * (length (now (a .1 .1 .1 .1 .0)) - a .0 .depth)
 
-abbrev μ-try-choice : Measures 3 try-choice-kinds.ps ℕ
-μ-try-choice κs a = 2 * (length (now (a .1 .1 .1 .0)) - a .0 .depth) + 1
+abbrev μ-try-choice : Measures 4 try-choice-kinds.ps ℕ
+μ-try-choice κs a = 2 * (length (now (a .1 .1 .1 .1 .0)) - a .0 .depth) + 1
 
-abbrev open-position-at : ℕ → In 3 open-position-kinds.ps
+abbrev open-position-at : ℕ → In 4 open-position-kinds.ps
 open-position-at t =
-    and 3 open-position-kinds.ps (is 3 open-position-kinds.ps μ-open-position t) open-position.Pre
+    and 4 open-position-kinds.ps (is 4 open-position-kinds.ps μ-open-position t) open-position.Pre
 
-abbrev open-position-below : ℕ → In 3 open-position-kinds.ps
+abbrev open-position-below : ℕ → In 4 open-position-kinds.ps
 open-position-below t =
     and
-    3
+    4
     open-position-kinds.ps
-    (falls 3 open-position-kinds.ps _<_ μ-open-position t)
+    (falls 4 open-position-kinds.ps _<_ μ-open-position t)
     open-position.Pre
 
-abbrev try-choice-at : ℕ → In 3 try-choice-kinds.ps
+abbrev try-choice-at : ℕ → In 4 try-choice-kinds.ps
 try-choice-at t =
-    and 3 try-choice-kinds.ps (is 3 try-choice-kinds.ps μ-try-choice t) try-choice.Pre
+    and 4 try-choice-kinds.ps (is 4 try-choice-kinds.ps μ-try-choice t) try-choice.Pre
 
-abbrev try-choice-below : ℕ → In 3 try-choice-kinds.ps
+abbrev try-choice-below : ℕ → In 4 try-choice-kinds.ps
 try-choice-below t =
-    and 3 try-choice-kinds.ps (falls 3 try-choice-kinds.ps _<_ μ-try-choice t) try-choice.Pre
+    and 4 try-choice-kinds.ps (falls 4 try-choice-kinds.ps _<_ μ-try-choice t) try-choice.Pre
 
 abbrev open-calls : ℕ → open-lts.Claims
 open-calls t = (
@@ -127,14 +126,16 @@ try-calls t = (is-alive-reads.Asked, is-alive-reads.Learnt, open-position-below 
 -- the value that is next has the least lead; what may be reached is known unless a complete choice was met since
 abbrev Inv-loop : open-lts.InvT-loop
 Inv-loop
-    node s sizes task d work₀ n k bound v size rows away leads₀ a₀ t₀ reach₀ finished₀ work leads a t reach finished =
+    node from s sizes aim work₀ n k bound d v size rows away leads₀ a₀ t₀ reach₀ seen₀ finished₀
+    work leads a t reach seen finished =
     (a < size) × ((b : ℕ) → b < size → getD leads a 0 ≤ getD leads b 0)
-    × Trying d task sizes s work₀ t₀ node work t leads
-    × (reach .meets ≡ t .meets → Reached d work t bound reach)
+    × Trying d (aim .task) sizes s work₀ t₀ node work t leads × (length reach ≡ reachWidth)
+    × (seen ≡ t .meets → Reached d work t bound reach)
 
 abbrev μ-loop : open-lts.MeasureT-loop
 μ-loop
-    node s sizes task d work₀ n k bound v size rows away leads₀ a₀ t₀ reach₀ finished₀ work leads a t reach finished =
+    node from s sizes aim work₀ n k bound d v size rows away leads₀ a₀ t₀ reach₀ seen₀ finished₀
+    work leads a t reach seen finished =
     untried leads
 
 module _ (t : ℕ) where
@@ -156,13 +157,17 @@ module _ (t : ℕ) where
   abbrev Inner : Type 0
   Inner = open-lts.Else2 (open-calls t) (open-position-at t) open-position.Post Inv-loop μ-loop
 
+  -- the directions are at hand
+  abbrev Directed : Type 0
+  Directed = open-lts.After-d (open-calls t) (open-position-at t) open-position.Post Inv-loop μ-loop
+
   -- its next variable is known
   abbrev Named : Type 0
   Named = open-lts.After-variable-at (open-calls t) (open-position-at t) open-position.Post Inv-loop μ-loop
 
   -- and how many values that has
   abbrev Sized : Type 0
-  Sized = open-lts.After-shared-slice-known3 (open-calls t) (open-position-at t) open-position.Post Inv-loop μ-loop
+  Sized = open-lts.After-shared-slice-known4 (open-calls t) (open-position-at t) open-position.Post Inv-loop μ-loop
 
   -- what the bucket holds for each of them
   abbrev Filled : Type 0
@@ -192,6 +197,10 @@ module _ (t : ℕ) where
   abbrev Trial : Type 0
   Trial = open-lts.Then3 (open-calls t) (open-position-at t) open-position.Post Inv-loop μ-loop
 
+  -- since a complete choice was met, what may be reached is to be found anew
+  abbrev Renewing : Type 0
+  Renewing = open-lts.Then4 (open-calls t) (open-position-at t) open-position.Post Inv-loop μ-loop
+
   -- what may be reached is known again
   abbrev Renewed : Type 0
   Renewed = open-lts.Joined4 (open-calls t) (open-position-at t) open-position.Post Inv-loop μ-loop
@@ -215,7 +224,7 @@ module _ (t : ℕ) where
   -- ## the way back from each to an earlier one
 
   abbrev start : Known → Begun
-  start c = c .before .before .before
+  start c = c .before .before .before .before
 
   abbrev going : Inner → Going
   going c = c .before .before .before
@@ -223,8 +232,11 @@ module _ (t : ℕ) where
   abbrev known : Going → Known
   known c = c .before .before
 
+  abbrev directed : Named → Directed
+  directed c = c .before .before .before
+
   abbrev inner : Named → Inner
-  inner c = c .before .before .before
+  inner c = directed c .before
 
   abbrev named : Sized → Named
   named c = c .before
@@ -245,13 +257,13 @@ module _ (t : ℕ) where
   spending c = c .before .before .before
 
   abbrev reaching : Looping → Reaching
-  reaching c = c .before
+  reaching c = c .before .before
 
   abbrev looping : Trial → Looping
   looping c = c .before .before
 
   abbrev trial : Renewed → Trial
-  trial c = c .before .before .before
+  trial c = c .before .before
 
   abbrev renewed : Bounded → Renewed
   renewed c = c .before .before .before
@@ -260,7 +272,7 @@ module _ (t : ℕ) where
   bounded c = c .before
 
   abbrev grown : Tried → Grown
-  grown c = c .before .before
+  grown c = c .before .before .before
 
   abbrev tried : Counted → Tried
   tried c = c .before .before .before
@@ -280,6 +292,9 @@ module _ (t : ℕ) where
 
   abbrev sending : Looping → Sent
   sending c = sent (led (opened c))
+
+  abbrev renewing : Renewing → Looping
+  renewing c = looping (c .before .before)
 
   abbrev again : Renewed → Looping
   again c = looping (trial c)
@@ -317,10 +332,10 @@ module _ (t : ℕ) where
     long-plan : numbersAt ≤ length lent
     long-plan = rw same-plan (omega (arith, b .pre .1 .0 .ready .long, length-drop listEnd (now (b .args .work))))
 
-    planned : Planned (b .args .d) (b .args .task .records) ds (now (b .args .s)) lent
+    planned : Planned (b .args .aim .d) (b .args .aim .task .records) ds (now (b .args .s)) lent
     planned = rw same-plan (b .pre .1 .0 .ready .planned)
 
-    tested : Tested (b .args .d) (b .args .task .records) ds (now (b .args .s)) lent
+    tested : Tested (b .args .aim .d) (b .args .aim .task .records) ds (now (b .args .s)) lent
     tested = rw same-plan (b .pre .1 .0 .ready .sound .tested)
 
     long-choice : length ds ≤ length (b .args .node .choice)
@@ -360,14 +375,15 @@ module _ (t : ℕ) where
 
     abbrev BucketOf : List ℕ → ℕ → Type 0
     BucketOf l u =
-        Bucket (entry .args .d) (ds entry) (now (entry .args .s)) l (entry .args .node .depth) u (choice entry) rows
+        Bucket (entry .args .aim .d) (ds entry) (now (entry .args .s)) l (entry .args .node .depth) u (choice entry)
+        rows
 
     bucket : BucketOf (plan entry) (next-variable entry)
     bucket =
         let held = subst (λ l. BucketOf l (v (naming c))) (same-plan entry) (filled c .bucket-at .ensures) in
         subst (BucketOf (plan entry)) (is-variable (naming c)) held
 
-    sends : Away (entry .args .d) (plan entry) (entry .args .node .depth) (choice entry) away
+    sends : Away (entry .args .aim .d) (plan entry) (entry .args .node .depth) (choice entry) away
     sends = rw (same-plan entry) at (c .away-at .ensures)
 
     value-below : (a : ℕ) → a < getD (ds entry) (v (naming c)) 0 → a < getD (ds entry) (next-variable entry) 0
@@ -375,7 +391,7 @@ module _ (t : ℕ) where
 
     holding :
         (a : ℕ) → a < getD (ds entry) (v (naming c)) 0 →
-        Holding (widthOf (entry .args .d)) (entry .args .node .bound) away rows a
+        Holding (widthOf (entry .args .aim .d)) (entry .args .node .bound) away rows a
     holding a l =
         let h = entry .pre .1 .0 in
         let i = inside (inner (naming c)) in
@@ -383,14 +399,14 @@ module _ (t : ℕ) where
 
     lead-is :
         (a : ℕ) → a < getD (ds entry) (next-variable entry) 0 →
-        nextBound (entry .args .node .bound) away rows a (leadAt (entry .args .d))
-        ≡ leadWith (entry .args .d) (entry .args .task) (ds entry) (now (entry .args .s)) (plan entry)
+        nextBound (entry .args .node .bound) away rows a (leadAt (entry .args .aim .d))
+        ≡ leadWith (entry .args .aim .d) (entry .args .aim .task) (ds entry) (now (entry .args .s)) (plan entry)
         (entry .args .node) a
     lead-is a l =
         let h = entry .pre .1 .0 in
         let i = inside (inner (naming c)) in
-        let lead = lead-inside (entry .args .d) (h .ready .planned .sensible) in
-        next-exact (h .ready .sound) (h .partial) i rows away bucket sends a l (leadAt (entry .args .d)) lead
+        let lead = lead-inside (entry .args .aim .d) (h .ready .planned .sensible) in
+        next-exact (h .ready .sound) (h .partial) i rows away bucket sends a l (leadAt (entry .args .aim .d)) lead
 
   value-few : (c : Looping) → c .loop .a < maxDomain
   value-few c = omega (arith, c .loop .inv .0, size (naming (sending c)))
@@ -404,13 +420,13 @@ module _ (t : ℕ) where
     next-choice = withNext (plan origin) (length (ds origin)) (origin .args .node) (turn c .loop .a)
 
     next-is :
-        Partial (origin .args .d) (origin .args .task .records) (ds origin) (now (origin .args .s)) (plan origin)
-        (origin .args .node .depth + 1) next-choice (c .row-of .result)
+        Partial (origin .args .aim .d) (origin .args .aim .task .records) (ds origin) (now (origin .args .s))
+        (plan origin) (origin .args .node .depth + 1) next-choice (c .row-of .result)
     next-is =
         let h = origin .pre .1 .0 in
         let a = turn c .loop .a in
         let w = sending (turn c) in
-        let byte = known (going (inner (naming w))) .before .before .shared-slice-known .given in
+        let byte = known (going (inner (naming w))) .before .before .shared-slice-known2 .given in
         let bytes : (at : ℕ) → getD (now (origin .args .s)) at 0 < byteEnd = λ at. omega (arith, byte at) in
         let below = value-below w a (turn c .loop .inv .0) in
         next-partial (h .ready .sound) (h .partial) (inside (inner (naming w))) (rows w) (away w) (bucket w) (sends w)
@@ -419,7 +435,7 @@ module _ (t : ℕ) where
   next-extends :
       (c : Grown) →
       Extends (plan (origin (bounded c))) (length (ds (origin (bounded c)))) (origin (bounded c) .args .node)
-      (turn (bounded c) .loop .a) (bounded c .row-of .result) (renewed (bounded c) .if4 .reach) (c .with .result)
+      (turn (bounded c) .loop .a) (bounded c .row-of .result) (c .with .result)
   next-extends c =
       let n = naming (sending (turn (bounded c))) in
       extends (c .with .ensures) (is-variable n) (variable-below n)
@@ -449,16 +465,16 @@ module _ (t : ℕ) where
       let called = c .before .before in
       let whole = called .before .before in
       let b = start (known (whole .before .before .before)) in
-      leaf-opened (b .args .d) (b .args .task) (ds b) (now (b .args .s)) (now (b .args .work)) (b .args .run) _
-      (called .take-leaf .result) (b .args .node) (whole .if2 .taken) (called .take-leaf .ensures)
+      leaf-opened (b .args .aim .d) (b .args .aim .task) (ds b) (now (b .args .s)) (now (b .args .work)) (b .args .run)
+      _ (called .take-leaf .result) (b .args .node) (whole .if2 .taken) (called .take-leaf .ensures)
 
   open-position-sub-variable-at :
       open-lts.Need-sub-variable-at (open-calls t) (open-position-at t) open-position.Post Inv-loop μ-loop
-  open-position-sub-variable-at c = memory (opening c)
+  open-position-sub-variable-at c = memory (opening (c .before))
 
   open-position-part-variable-at-start :
       open-lts.Need-part-variable-at-start (open-calls t) (open-position-at t) open-position.Post Inv-loop μ-loop
-  open-position-part-variable-at-start c = memory (opening (c .before))
+  open-position-part-variable-at-start c = memory (opening (c .before .before))
 
   open-position-part-variable-at-end :
       open-lts.Need-part-variable-at-end (open-calls t) (open-position-at t) open-position.Post Inv-loop μ-loop
@@ -467,7 +483,7 @@ module _ (t : ℕ) where
   open-position-variable-at-requires :
       open-lts.Need-variable-at-requires (open-calls t) (open-position-at t) open-position.Post Inv-loop μ-loop
   open-position-variable-at-requires c κs =
-      let i = c .before .before in
+      let i = c .before .before .before in
       let b = opening i in
       omega (arith, inside i, b .pre .1 .0 .ready .planned .variables)
 
@@ -564,19 +580,24 @@ module _ (t : ℕ) where
     abbrev first : Begun
     first = entry (sent (led c))
 
-    starts : Standing (first .args .d) (first .args .task) (ds first) (now (first .args .s)) (now (first .args .work))
-        (c .count-opened .result) (first .args .node)
+    starts :
+        Standing (first .args .aim .d) (first .args .aim .task) (ds first) (now (first .args .s))
+        (now (first .args .work)) (c .count-opened .result) (first .args .node)
     starts = spent-standing (first .pre .1 .0) (c .count-opened .ensures)
 
-    four : length (first .args .task .ceilings) ≡ maxObjectives
-    four = ceilings-long (first .args .task) _ (first .good .1 .1 .1 .1 .0)
+    four : length (first .args .aim .task .ceilings) ≡ maxObjectives
+    four = aim-ceilings (first .args .aim) _ (first .good .1 .1 .1 .1 .1 .0)
 
     -- what the tests ask, once values were tried
     tests :
         {work′ : List ℕ} {run′ : DP.Progress} {leads : List ℕ} →
-        Trying (first .args .d) (first .args .task) (ds first) (now (first .args .s)) (now (first .args .work))
-        (c .count-opened .result) (first .args .node) work′ run′ leads → Searched (first .args .d) work′ run′
+        Trying (first .args .aim .d) (first .args .aim .task) (ds first) (now (first .args .s))
+        (now (first .args .work)) (c .count-opened .result) (first .args .node) work′ run′ leads → Searched (first .args .aim .d) work′ run′
     tests w = running-searched (first .pre .1 .0 .ready) four (w .still) (w .running)
+
+  open-position-slice-aggregate-reach-of :
+      open-lts.Need-slice-aggregate-reach-of (open-calls t) (open-position-at t) open-position.Post Inv-loop μ-loop
+  open-position-slice-aggregate-reach-of c = search needs
 
   open-position-reach-of-requires :
       open-lts.Need-reach-of-requires (open-calls t) (open-position-at t) open-position.Post Inv-loop μ-loop
@@ -584,14 +605,16 @@ module _ (t : ℕ) where
       let o = c .before .before in
       let b = first o in
       let h = starts o in (
-        running-searched (h .ready) (four o) (still-refl (b .args .task) (now (b .args .work))) (h .running),
+        running-searched (h .ready) (four o) (still-refl (b .args .aim .task) (now (b .args .work))) (h .running),
         reached-spent (o .count-opened .ensures) (b .pre .1 .1),
+        refl,
       )
 
   open-position-loop-holds :
       open-lts.Need-loop-holds (open-calls t) (open-position-at t) open-position.Post Inv-loop μ-loop
   open-position-loop-holds c =
-      let o = spending c in
+      let r = c .before in
+      let o = spending r in
       let leads = led o in
       let w = sent leads in
       let read = leads .leads-of .ensures in
@@ -600,7 +623,8 @@ module _ (t : ℕ) where
         least .0,
         least .1,
         all (λ a l. read .1 a (rw (← is-variable (naming w)) at l) ∙ lead-is w a l),
-        λ same. c .reach-of .ensures .0,
+        reached-long (r .reach-of .ensures),
+        λ same. r .reach-of .ensures,
       )
 
   open-position-mul-if3 :
@@ -611,41 +635,43 @@ module _ (t : ℕ) where
       open-lts.Need-array-read-if3 (open-calls t) (open-position-at t) open-position.Post Inv-loop μ-loop
   open-position-array-read-if3 c = omega (arith, value-few c)
 
+  open-position-slice-aggregate-reach-anew :
+      open-lts.Need-slice-aggregate-reach-anew (open-calls t) (open-position-at t) open-position.Post Inv-loop μ-loop
+  open-position-slice-aggregate-reach-anew c = sym (renewing (c .before .before) .loop .inv .3)
+
   open-position-reach-anew-requires :
       open-lts.Need-reach-anew-requires (open-calls t) (open-position-at t) open-position.Post Inv-loop μ-loop
   open-position-reach-anew-requires c κs =
-      let if4 = c .before in
-      let w = looping (if4 .before .before .before) in
-      tests (opened w) (w .loop .inv .2)
+      let w = renewing (c .before .before) in
+      (tests (opened w) (w .loop .inv .2), w .loop .inv .3)
 
   -- what may be reached is known, as it is with so many complete choices still to be met
-  abbrev KnownReach : Looping → DR.Reach → Type 0
-  KnownReach c reach =
-      Reached (first (opened c) .args .d) (c .loop .work) (c .loop .t) (first (opened c) .args .node .bound) reach
-      × (reach .meets ≡ c .loop .t .meets)
+  abbrev ReachedIn : Looping → List ℕ → Type 0
+  ReachedIn c =
+      Reached (first (opened c) .args .aim .d) (c .loop .work) (c .loop .t) (first (opened c) .args .node .bound)
 
-  reach-known : (c : Renewed) → KnownReach (again c) (c .if4 .reach)
+  reach-known : (c : Renewed) → ReachedIn (again c) (c .if4 .reach) × (c .if4 .seen ≡ again c .loop .t .meets)
   reach-known c =
       let w = again c .loop in
       ⊎-elim
-      (λ t. subst (KnownReach (again c)) (sym (t .3)) (t .2 .ensures))
+      (λ t. (subst (ReachedIn (again c)) (sym (t .5)) (t .3 .ensures), t .6))
       (λ t.
-      let same : w .reach .meets ≡ w .t .meets = omega (arith, t .0 .left) in
-      subst (KnownReach (again c)) (sym (t .1)) (w .inv .3 same, same))
+      let same : w .seen ≡ w .t .meets = omega (arith, t .0 .left) in
+      (subst (ReachedIn (again c)) (sym (t .1)) (w .inv .4 same), t .2 ∙ same))
       (c .if4 .came)
 
   open-position-add-row-of :
       open-lts.Need-add-row-of (open-calls t) (open-position-at t) open-position.Post Inv-loop μ-loop
   open-position-add-row-of c =
       let b = entry (sending (again (c .before .before))) in
-      omega (arith, width-few (b .args .d) (b .pre .1 .0 .ready .planned .sensible))
+      omega (arith, width-few (b .args .aim .d) (b .pre .1 .0 .ready .planned .sensible))
 
   open-position-row-of-requires :
       open-lts.Need-row-of-requires (open-calls t) (open-position-at t) open-position.Post Inv-loop μ-loop
   open-position-row-of-requires c κs =
       let w = again (c .before .before) in
       let b = entry (sending w) in
-      let few = width-few (b .args .d) (b .pre .1 .0 .ready .planned .sensible) in
+      let few = width-few (b .args .aim .d) (b .pre .1 .0 .ready .planned .sensible) in
       (value-few w, few, holding (sending w) (w .loop .a) (w .loop .inv .0))
 
   open-position-with-requires :
@@ -655,23 +681,27 @@ module _ (t : ℕ) where
       let few = begun n .pre .1 .0 .ready .planned .variables in
       (omega (arith, inside (inner n), few), omega (arith, variable-below n, few), value-few (turn c))
 
+  open-position-slice-aggregate-try-choice :
+      open-lts.Need-slice-aggregate-try-choice (open-calls t) (open-position-at t) open-position.Post Inv-loop μ-loop
+  open-position-slice-aggregate-try-choice c =
+      let r = renewed (bounded (c .before)) in
+      sym (reached-long (reach-known r .0))
+
   open-position-try-choice-requires :
       open-lts.Need-try-choice-requires (open-calls t) (open-position-at t) open-position.Post Inv-loop μ-loop
   open-position-try-choice-requires c κs =
-      let g = c .before in
+      let g = c .before .before in
       let r = bounded g in
       let w = turn r .loop in
       let b = origin r in
       let e = next-extends g in
       let o = opened (turn r) in
-      let reach = renewed r .if4 .reach in
-      let next = trying-standing (starts o) (w .inv .2) (w .a) (r .row-of .result) reach (g .with .result) e
-      (next-is r) in
-      let may = reached-rises (b .args .d) (b .pre .1 .0 .ready .planned .sensible) (b .args .node .bound)
+      let next = trying-standing (starts o) (w .inv .2) (w .a) (r .row-of .result) (g .with .result) e (next-is r) in
+      let may = reached-rises (b .args .aim .d) (b .pre .1 .0 .ready .planned .sensible) (b .args .node .bound)
       (r .row-of .result) (bound-long (b .args .node) _ (b .good .0)) (sym (r .row-of .ensures .0))
       (λ j l. omega (arith, r .row-of .ensures .1 j l))
       (tests o (w .inv .2)) (reach-known (renewed r) .0) in
-      (omega (arith, e .deeper, inside (inner (naming (sending (turn r)))), b .pre .0), (next, reached-extends e may))
+      (omega (arith, e .deeper, inside (inner (naming (sending (turn r)))), b .pre .0), (next, rw (e .bounded) may))
 
   open-position-add-finished-requires :
       open-lts.Need-add-finished-requires (open-calls t) (open-position-at t) open-position.Post Inv-loop μ-loop
@@ -707,13 +737,12 @@ module _ (t : ℕ) where
       let r = bounded g in
       let w = turn r .loop in
       let least = c .least-value2 .ensures in
-      let reach = renewed r .if4 .reach in
-      let next = trying-next (starts (opened (turn r))) (w .inv .2) (w .a) (r .row-of .result) reach
-      (g .with .result) in
+      let next = trying-next (starts (opened (turn r))) (w .inv .2) (w .a) (r .row-of .result) (g .with .result) in
       let before = reach-known (renewed r) in (
         least .0,
         least .1,
         next (next-extends g) _ (called .result) (called .ensures),
+        reached-long (before .0),
         reached-idle (called .ensures .meeting) (before .0) (before .1),
       )
 
@@ -746,7 +775,7 @@ module _ (t : ℕ) where
 
   abbrev entered : Asked → Entered
   entered c =
-      let copies = c .before .before .before in
+      let copies = c .before .before .before .before in
       copies .before .before .before .before
 
   try-choice-is-alive-requires :
@@ -755,8 +784,8 @@ module _ (t : ℕ) where
       let b = entered c in
       let a = b .args in
       let h = b .pre .1 .0 in
-      let four = ceilings-long (a .task) _ (b .good .1 .1 .1 .1 .0) in
-      let still = still-refl (a .task) (now (a .work)) in
+      let four = aim-ceilings (a .aim) _ (b .good .1 .1 .1 .1 .1 .0) in
+      let still = still-refl (a .aim .task) (now (a .work)) in
       (running-searched (h .ready) four still (h .running), h .ready .planned .variables, b .pre .1 .1)
 
   try-choice-open-position-requires :
@@ -820,14 +849,17 @@ pub +open-position+try-choice-spec : {M : Type 1} → statement M
     (open-position-leads-of-requires t)
     (open-position-least-value-requires t)
     (open-position-count-opened-requires t)
+    (open-position-slice-aggregate-reach-of t)
     (open-position-reach-of-requires t)
     (open-position-loop-holds t)
     (open-position-mul-if3 t)
     (open-position-array-read-if3 t)
+    (open-position-slice-aggregate-reach-anew t)
     (open-position-reach-anew-requires t)
     (open-position-add-row-of t)
     (open-position-row-of-requires t)
     (open-position-with-requires t)
+    (open-position-slice-aggregate-try-choice t)
     (open-position-try-choice-requires t)
     (open-position-add-finished-requires t)
     (open-position-mul-leads t)

@@ -81,38 +81,32 @@ root-bound-requires c κs =
     rw (lent-plan (made z))
     (h .planned, h .sound .tested, omega (arith, h .long, length-drop listEnd (made z)), h .some-variable)
 
-full-reach-requires : tie.Need-full-reach-requires
-full-reach-requires c κs =
-    let z = zoned c in
-    let s = begun z in
-    (z .start-zones .ensures .0 .measured .few, omega (arith, s .pre .1 .few, s .pre .0 .room-small))
-
 try-choice-requires : tie.Need-try-choice-requires
 try-choice-requires c κs =
-    let full = c .before in
-    let rooted = full .before in
+    let full = c .before .before .before in
+    let rooted = full .before .before in
     let z = zoned rooted in
     let s = begun z in
     let byte = known (limited z .before) .before .before .shared-slice-known .given in
     let bytes : (at : ℕ) → getD (now (s .args .s)) at 0 < byteEnd = λ at. omega (arith, byte at) in
     let bound = rw (lent-plan (made z)) at (rooted .root-bound .ensures) in
-    let zones = z .start-zones .ensures in
-    let reach = full .full-reach in (
+    let zones = z .start-zones .ensures in (
       root-standing (s .pre .0) (s .pre .1) (limited z .start-limit .ensures) (s .args .left) (zones .0) (zones .1)
-          bytes (rooted .root-bound .result) bound (reach .result),
-      reached-full (reach .ensures .0) (reach .ensures .1),
+          bytes (rooted .root-bound .result) bound,
+      reached-full (full .full-reach .ensures),
     )
 
 returns : tie.Need-returns
 returns c =
-    let full = c .before .before .before .before in
-    let rooted = full .before in
+    let tried = c .before .before in
+    let full = tried .before .before .before .before in
+    let rooted = full .before .before in
     let z = zoned rooted in
     let s = begun z in
     let zones = z .start-zones .ensures in
-    let called = c .before .before .try-choice in
+    let called = tried .try-choice in
     root-passed (s .pre .0) (s .pre .1) (limited z .start-limit .ensures) (s .args .left) (zones .0) (zones .1)
-    (rooted .root-bound .result) (full .full-reach .result) _ (called .result) (called .ensures)
+    (rooted .root-bound .result) _ (called .result) (called .ensures)
 
 pub run-pass-spec : {M : Type 1} → statement M
 run-pass-spec =
@@ -124,7 +118,9 @@ run-pass-spec =
     (λ c. search needs)  -- part-root-bound-start
     (λ c. search needs)  -- part-root-bound-end
     root-bound-requires
-    full-reach-requires
+    (λ c. search needs)  -- slice-aggregate-full-reach
+    (λ c κs. search needs)  -- full-reach-requires
+    (λ c. search needs)  -- slice-aggregate-try-choice
     try-choice-requires
     (λ c. search needs)  -- same-length
     returns)

@@ -21,7 +21,7 @@ use Rattle.rows.proofs.Arrays.{array-length}
 use Rattle.branch_archive.specs.Changes.{maxWeight}
 use Rattle.branch_directions.specs.Directions.{maxDirections, leadAt}
 use Rattle.layout.specs.Layout.{zonesEnd, listEnd}
-use Rattle.groups.proofs.Tasks.{ceilings-long}
+use Rattle.branch_search.proofs.Aims.{aim-ceilings}
 use Rattle.branch_search.proofs.ArchivedWords.{archived-small}
 use Rattle.branch_search.proofs.Memory.{framed-zones, lent-front, lent-behind}
 use Rattle.branch_search.proofs.Zoning.{lent-long, lent-same, lent-measured}
@@ -33,15 +33,15 @@ use Rattle.branch_search.proofs.take_leaf.Tie as tie
 
 module _ (s : tie.Start) where
   abbrev p : ℕ
-  p = s .args .d .objectives
+  p = s .args .aim .d .objectives
 
   abbrev acc : List ℕ
   acc = s .args .bound
 
   abbrev ceilings : List ℕ
-  ceilings = s .args .task .ceilings
+  ceilings = s .args .aim .task .ceilings
 
-  abbrev few : s .args .d .objectives ≤ maxObjectives
+  abbrev few : s .args .aim .d .objectives ≤ maxObjectives
   few = s .pre .ready .planned .sensible .few
 
   wide : maxDirections ≡ length acc
@@ -49,7 +49,7 @@ module _ (s : tie.Start) where
 
   long-ceilings : length (take p ceilings) ≡ p
   long-ceilings =
-      let four = ceilings-long (s .args .task) _ (s .good .1 .1 .1 .1 .1 .0) in
+      let four = aim-ceilings (s .args .aim) _ (s .good .1 .1 .1 .1 .1 .0) in
       length-take-le p ceilings (omega (arith, few, four))
 
   -- what the archive has may be summed
@@ -57,8 +57,8 @@ module _ (s : tie.Start) where
   small =
       let a = s .args in
       let h = s .pre in
-      let four = ceilings-long (a .task) _ (s .good .1 .1 .1 .1 .1 .0) in
-      archived-small (a .d) (a .task) (now (a .sizes)) (now (a .s)) (now (a .work)) (omega (arith, few, four))
+      let four = aim-ceilings (a .aim) _ (s .good .1 .1 .1 .1 .1 .0) in
+      archived-small (a .aim .d) (a .aim .task) (now (a .sizes)) (now (a .s)) (now (a .work)) (omega (arith, few, four))
       (h .ready .limited) (length (now (a .sizes))) (a .run .points) (now (a .work)) (h .running .archived .reached)
 
 -- the costs, which are the first numbers of the bound, were held to the ceilings
@@ -67,7 +67,9 @@ module _ (c : tie.After-is-under) where
   front = c .before .front-of .result
 
   abbrev known : tie.After-slice-known
-  known = c .before .before .before
+  known =
+      let copied = c .before .before in
+      copied .before .before .before
 
   abbrev entry : tie.Start
   entry = known .before .before .before
@@ -92,7 +94,7 @@ module _ (c : tie.Else2) where
   allowed : under (take (p begun) (acc begun)) (take (p begun) (ceilings begun)) ≡ true
   allowed = met tested true (not-false _ (c .before .before .before .if1 .left))
 
-  early : getD (acc begun) (leadAt (begun .args .d)) 0 < begun .args .run .limit
+  early : getD (acc begun) (leadAt (begun .args .aim .d)) 0 < begun .args .run .limit
   early = omega (arith, c .before .before .lead-of .ensures, c .if2 .left)
 
   words : All Word (take (p begun) (front tested))
@@ -205,7 +207,7 @@ returns-5 c =
     let t = added .before .before .before .before in
     let e = taking t in
     let s = start t in
-    let d = s .args .d in
+    let d = s .args .aim .d in
     let work = after t in
     let takes = weighed (weights t .lead-weights .ensures .0) (t .take-point .ensures) in
     let long = lent-long d work z m (says .1) (memory t) (says .0) in
