@@ -33,17 +33,17 @@ childEndsAt = 449
 abbrev pub messageEndsAt : ℕ
 messageEndsAt = 474
 
--- seven numbers for each message: where its numbers start, two variables with their strides, and where the records and
+-- nine numbers for each message: where its numbers start, three variables with their strides, and where the records and
 -- the received messages of its part end
 abbrev pub messagesAt : ℕ
 messagesAt = 499
 
 abbrev pub messageWidth : ℕ
-messageWidth = 7
+messageWidth = 9
 
 -- the messages' numbers, up to the plan's end
 abbrev pub numbersAt : ℕ
-numbersAt = 1339
+numbersAt = 1579
 
 abbrev pub orderIn : List ℕ → ℕ → ℕ
 orderIn plan k = getD plan (orderAt + k) 0

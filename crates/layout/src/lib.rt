@@ -42,8 +42,8 @@ pub const MESSAGE_ENDS_AT: usize = 474;
 
 pub const MESSAGES_AT: usize = 499;
 
-pub const MESSAGE_WIDTH: usize = 7;
+pub const MESSAGE_WIDTH: usize = 9;
 
-pub const NUMBERS_AT: usize = 1339;
+pub const NUMBERS_AT: usize = 1579;
 
 pub const MAX_MESSAGES: usize = 120;
