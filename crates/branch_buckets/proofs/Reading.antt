@@ -29,7 +29,10 @@ use Rattle.branch_buckets.proofs.Sums.{totals-same, totals-append}
 
 -- message g reads only variables that have the property P: a variable with stride 0 is not read
 abbrev pub Reads : (ℕ → Type 0) → List ℕ → ℕ → Type 0
-Reads P plan g = ((fieldIn plan g 2 ≡ 0) ⊎ P (fieldIn plan g 1)) × ((fieldIn plan g 4 ≡ 0) ⊎ P (fieldIn plan g 3))
+Reads P plan g =
+    ((fieldIn plan g 2 ≡ 0) ⊎ P (fieldIn plan g 1))
+    × ((fieldIn plan g 4 ≡ 0) ⊎ P (fieldIn plan g 3))
+    × ((fieldIn plan g 6 ≡ 0) ⊎ P (fieldIn plan g 5))
 
 -- two choices x and y that are the same at the variables that have the property P; these four come first: content-reads
 -- P x y same ..
@@ -42,8 +45,10 @@ module _ (P : ℕ → Type 0) (x y : List ℕ) (same : (v : ℕ) → P v → get
       → messageAt w plan x j g ≡ messageAt w plan y j g
   message-reads w plan j g h =
       ap (λ (e : ℕ). getD plan (fieldIn plan g 0 + w * e + j) 0)
+      (ap₂ _+_
       (ap₂ _+_ (term-reads (fieldIn plan g 1) (fieldIn plan g 2) (h .0))
       (term-reads (fieldIn plan g 3) (fieldIn plan g 4) (h .1)))
+      (term-reads (fieldIn plan g 5) (fieldIn plan g 6) (h .2)))
 
   messages-read : (w : ℕ) (plan : List ℕ) (j : ℕ) (gs : List ℕ) → All (Reads P plan) gs
       → All (λ g. messageAt w plan x j g ≡ messageAt w plan y j g) gs

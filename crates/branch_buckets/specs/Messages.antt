@@ -1,5 +1,5 @@
--- What messages are worth: a message has a number for each direction and each pair of values of two variables; what
--- lies outside the plan counts as 0.
+-- What messages are worth: a message has a number for each direction and all values of three variables; what lies
+-- outside the plan counts as 0.
 use mathlib.Core.List.{List, [], _∷_}
 use Prim.Native.Nat.{ℕ, zero, suc, _+_, _*_, _-_}
 use lib.ListN.{getD, take, drop}
@@ -17,7 +17,9 @@ countFrom i (suc c) = i ∷ countFrom (suc i) c
 
 -- which entry of message g a choice has
 abbrev pub messageEntry : List ℕ → ℕ → List ℕ → ℕ
-messageEntry plan g y = getD y (fieldIn plan g 1) 0 * fieldIn plan g 2 + getD y (fieldIn plan g 3) 0 * fieldIn plan g 4
+messageEntry plan g y =
+    getD y (fieldIn plan g 1) 0 * fieldIn plan g 2 + getD y (fieldIn plan g 3) 0 * fieldIn plan g 4
+    + getD y (fieldIn plan g 5) 0 * fieldIn plan g 6
 
 -- message g at a choice, in direction j of w
 abbrev pub messageAt : ℕ → List ℕ → List ℕ → ℕ → ℕ → ℕ

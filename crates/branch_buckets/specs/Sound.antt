@@ -22,6 +22,7 @@ abbrev pub ReadsBefore : List ℕ → ℕ → ℕ → Type 0
 ReadsBefore plan k g =
     ((fieldIn plan g 2 ≡ 0) ⊎ (positionIn plan (fieldIn plan g 1) < k))
     × ((fieldIn plan g 4 ≡ 0) ⊎ (positionIn plan (fieldIn plan g 3) < k))
+    × ((fieldIn plan g 6 ≡ 0) ⊎ (positionIn plan (fieldIn plan g 5) < k))
 
 -- the record at `at` has only such variables
 abbrev pub ScopeBefore : List ℕ → List ℕ → ℕ → ℕ → Type 0

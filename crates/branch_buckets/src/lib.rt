@@ -131,10 +131,13 @@ fn message_run(g: usize, v: usize, choice: &[u8], width: usize, plan: &[u32]) ->
     let one_stride = number_at(plan, at + 2);
     let two = number_at(plan, at + 3);
     let two_stride = number_at(plan, at + 4);
+    let three = number_at(plan, at + 5);
+    let three_stride = number_at(plan, at + 6);
     let a = term_of(one, one_stride, v, choice);
     let b = term_of(two, two_stride, v, choice);
-    let first = start + width * (a.first + b.first);
-    let stride = width * (a.stride + b.stride);
+    let c = term_of(three, three_stride, v, choice);
+    let first = start + width * (a.first + b.first + c.first);
+    let stride = width * (a.stride + b.stride + c.stride);
     Progression { first, stride }
 }
 
@@ -149,7 +152,10 @@ pub fn message_start(g: usize, choice: &[u8], width: usize, plan: &[u32]) -> usi
     let one_stride = number_at(plan, at + 2);
     let two = number_at(plan, at + 3);
     let two_stride = number_at(plan, at + 4);
-    start + width * (byte_at(choice, one) * one_stride + byte_at(choice, two) * two_stride)
+    let three = number_at(plan, at + 5);
+    let three_stride = number_at(plan, at + 6);
+    let two_terms = byte_at(choice, one) * one_stride + byte_at(choice, two) * two_stride;
+    start + width * (two_terms + byte_at(choice, three) * three_stride)
 }
 
 // Adds eight numbers of the plan, all of which exist, to the row at `at`.

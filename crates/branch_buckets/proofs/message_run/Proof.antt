@@ -6,57 +6,100 @@ use Rattle.branch_buckets.proofs.Runs.{message-runs, start-small, strid
 use borrow.Author.Needs.{needs}
 use Rattle.branch_buckets.proofs.message_run.Statement.{statement}
 use Rattle.branch_buckets.proofs.message_run.Tie as tie
-use Rattle.branch_buckets.proofs.message_run.Reads as reads
-use Rattle.branch_buckets.proofs.message_run.Lts as lts
-use Rattle.branch_buckets.proofs.number_at.Reads as number-at-reads
-use Rattle.branch_buckets.proofs.term_of.Reads as term-of-reads
 
--- where both terms are known, nothing wraps
+-- ## the places: the fields are read, from the last pair back to the start; the terms are known
+
+abbrev two-read : tie.After-number-at7 → tie.After-number-at5
+two-read c = c .before .before
+
+abbrev one-read : tie.After-number-at7 → tie.After-number-at3
+one-read c = two-read c .before .before
+
+abbrev start-read : tie.After-number-at7 → tie.After-number-at
+start-read c = one-read c .before .before
+
+abbrev begun : tie.After-number-at7 → tie.Start
+begun c = start-read c .before .before .before
+
+abbrev fields-read : tie.After-term-of3 → tie.After-number-at7
+fields-read c = c .before .before .before
+
+abbrev terms : tie.After-struct-known3 → tie.After-term-of3
+terms c = c .before .before .before
+
+abbrev all-terms : tie.After-struct-known6 → tie.After-term-of3
+all-terms c = terms (c .before .before .before)
+
+-- where the terms are known, nothing wraps
 low :
-    (c : lts.After-term-of2 (number-at-reads.Asked, number-at-reads.Learnt, term-of-reads.Asked, term-of-reads.Learnt)
-    reads.Pre reads.Post)
-    → c .before .before .before .before .before .before .number-at .result
-    + c .before .before .before .before .before .before .before .before .before .args .width
-    * (c .before .term-of .result .first + c .term-of2 .result .first)
+    (c : tie.After-term-of3)
+    → let read = fields-read c in
+    start-read read .number-at .result
+    + begun read .args .width
+    * (c .before .before .term-of .result .first + c .before .term-of2 .result .first + c .term-of3 .result .first)
     < 35184372088832
 low c =
-    let n = c .before .before .before .before .before .before .number-at in
-    let t = c .before .before .before .before .number-at3 in
-    let t′ = c .before .before .number-at5 in
-    start-small _ _ _ _ (n .ensures .1) (t .ensures .1) (t′ .ensures .1)
-    (c .before .before .before .before .before .before .before .before .before .pre .1) _ _
-    (c .before .term-of .ensures .low) (c .term-of2 .ensures .low)
+    let read = fields-read c in
+    start-small _ _ _ _ _ (start-read read .number-at .ensures .1) (one-read read .number-at3 .ensures .1)
+    (two-read read .number-at5 .ensures .1) (read .number-at7 .ensures .1) (begun read .pre .1) _ _ _
+    (c .before .before .term-of .ensures .low) (c .before .term-of2 .ensures .low) (c .term-of3 .ensures .low)
 
 flat :
-    (c : lts.After-term-of2 (number-at-reads.Asked, number-at-reads.Learnt, term-of-reads.Asked, term-of-reads.Learnt)
-    reads.Pre reads.Post)
-    → c .before .before .before .before .before .before .before .before .before .args .width
-    * (c .before .term-of .result .stride + c .term-of2 .result .stride)
+    (c : tie.After-term-of3)
+    → let read = fields-read c in
+    begun read .args .width
+    * (c .before .before .term-of .result .stride + c .before .term-of2 .result .stride + c .term-of3 .result .stride)
     < 137438953472
 flat c =
-    let n = c .before .before .before .before .before .before .number-at in
-    let t = c .before .before .before .before .number-at3 in
-    let t′ = c .before .before .number-at5 in
-    stride-small _ _ _ _ (n .ensures .1) (t .ensures .1) (t′ .ensures .1)
-    (c .before .before .before .before .before .before .before .before .before .pre .1) _ _
-    (c .before .term-of .ensures .flat) (c .term-of2 .ensures .flat)
+    let read = fields-read c in
+    stride-small _ _ _ _ _ (start-read read .number-at .ensures .1) (one-read read .number-at3 .ensures .1)
+    (two-read read .number-at5 .ensures .1) (read .number-at7 .ensures .1) (begun read .pre .1) _ _ _
+    (c .before .before .term-of .ensures .flat) (c .before .term-of2 .ensures .flat) (c .term-of3 .ensures .flat)
 
-mul-stride : tie.Need-mul-stride
-mul-stride c = omega (arith, flat (c .before .before .before .before))
+add-stride : tie.Need-add-stride
+add-stride c =
+    let t = terms (c .before .before) in
+    let read = fields-read t in
+    omega (
+      arith,
+      t .before .before .term-of .ensures .flat,
+      t .before .term-of2 .ensures .flat,
+      one-read read .number-at3 .ensures,
+      two-read read .number-at5 .ensures,
+    )
+
+add-stride-2 : tie.Need-add-stride-2
+add-stride-2 c =
+    let t = all-terms c in
+    let read = fields-read t in
+    omega (
+      arith,
+      t .before .before .term-of .ensures .flat,
+      t .before .term-of2 .ensures .flat,
+      t .term-of3 .ensures .flat,
+      one-read read .number-at3 .ensures,
+      two-read read .number-at5 .ensures,
+      read .number-at7 .ensures,
+    )
 
 returns : tie.Need-returns
 returns c =
-    let e = c .before .before .before .before in
-    let s = e .before .before .before .before .before .before .before .before .before in
-    let n = e .before .before .before .before .before .before .number-at in
-    let u = e .before .before .before .before .before .number-at2 in
-    let t = e .before .before .before .before .number-at3 in
-    let u′ = e .before .before .before .number-at4 in
-    let t′ = e .before .before .number-at5 in
-    message-runs (s .args .width) (now (s .args .plan)) (s .args .g) (n .result) (u .result) (t .result) (u′ .result)
-    (t′ .result) (n .ensures .0) (u .ensures .0) (t .ensures .0) (u′ .ensures .0) (t′ .ensures .0) (n .ensures .1)
-    (t .ensures .1) (t′ .ensures .1) (s .pre .1) (s .args .v) (now (s .args .choice)) (e .before .term-of .result)
-    (e .term-of2 .result) (e .before .term-of .ensures) (e .term-of2 .ensures)
+    let t = all-terms c in
+    let read = fields-read t in
+    let s = begun read in
+    let n = start-read read .number-at in
+    let one = one-read read .before .number-at2 in
+    let one-stride = one-read read .number-at3 in
+    let two = two-read read .before .number-at4 in
+    let two-stride = two-read read .number-at5 in
+    let three = read .before .number-at6 in
+    let three-stride = read .number-at7 in
+    message-runs (s .args .width) (now (s .args .plan)) (s .args .g) (n .result) (one .result) (one-stride .result)
+    (two .result) (two-stride .result) (three .result) (three-stride .result) (n .ensures .0) (one .ensures .0)
+    (one-stride .ensures .0) (two .ensures .0) (two-stride .ensures .0) (three .ensures .0) (three-stride .ensures .0)
+    (n .ensures .1) (one-stride .ensures .1) (two-stride .ensures .1) (three-stride .ensures .1) (s .pre .1)
+    (s .args .v) (now (s .args .choice)) (t .before .before .term-of .result) (t .before .term-of2 .result)
+    (t .term-of3 .result) (t .before .before .term-of .ensures) (t .before .term-of2 .ensures) (t .term-of3 .ensures)
 
 pub message-run-spec : {M : Type 1} → statement M
 message-run-spec =
@@ -73,11 +116,18 @@ message-run-spec =
     (λ c κs. search needs)  -- number-at-requires-4
     (λ c. search needs)  -- add-number-at-4
     (λ c κs. search needs)  -- number-at-requires-5
+    (λ c. search needs)  -- add-number-at-5
+    (λ c κs. search needs)  -- number-at-requires-6
+    (λ c. search needs)  -- add-number-at-6
+    (λ c κs. search needs)  -- number-at-requires-7
     (λ c κs. search needs)  -- term-of-requires
     (λ c κs. search needs)  -- term-of-requires-2
+    (λ c κs. search needs)  -- term-of-requires-3
     (λ c. search needs)  -- add-first
-    (λ c. omega (arith, low (c .before .before)))  -- mul-first
-    (λ c. omega (arith, low (c .before .before)))  -- add-first-2
-    (λ c. search needs)  -- add-stride
-    mul-stride
+    (λ c. search needs)  -- add-first-2
+    (λ c. omega (arith, low (terms c)))  -- mul-first
+    (λ c. omega (arith, low (terms c)))  -- add-first-3
+    add-stride
+    add-stride-2
+    (λ c. omega (arith, flat (all-terms c)))  -- mul-stride
     returns)
