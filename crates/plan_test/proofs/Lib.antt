@@ -3,5 +3,6 @@ pub mod Limits
 pub mod Marking
 pub mod Earlier
 pub mod Lowering
-pub mod PairChoices
+pub mod PartChoices
 pub mod Parts
+pub mod Pairs

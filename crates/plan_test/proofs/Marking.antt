@@ -19,10 +19,9 @@ use Rattle.branch_buckets.specs.Content.{Ranged}
 use Rattle.branch_buckets.specs.declared.Span as DS
 use Rattle.branch_buckets.proofs.Reading.{Reads, joined}
 use Rattle.branch_buckets.proofs.Sums.{placesOver-split, childrenOver-split}
-use Rattle.layout.specs.Places.{fieldIn}
 use Rattle.plan_test.specs.declared.Part as DP
 use Rattle.plan_test.specs.Marks.{Marked, ScopeIn, BucketIn}
-use Rattle.plan_test.specs.Parts.{PartReads}
+use Rattle.plan_test.specs.Parts.{oneOf, twoOf, threeOf, PartReads}
 
 pub none-marked : (n v : ℕ) → Marked (replicate n 0) v → ⊥
 none-marked n v h = omega (arith, zeros-at n v)
@@ -35,7 +34,11 @@ mark-cases marks v w h =
 -- what reads only variables with the property P reads only those with Q
 module _ (P Q : ℕ → Type 0) (f : (v : ℕ) → P v → Q v) where
   pub reads-map : (plan : List ℕ) (g : ℕ) → Reads P plan g → Reads Q plan g
-  reads-map plan g h = (⊎-elim (λ e. inl e) (λ p. inr (f _ p)) (h .0), ⊎-elim (λ e. inl e) (λ p. inr (f _ p)) (h .1))
+  reads-map plan g h = (
+    ⊎-elim (λ e. inl e) (λ p. inr (f _ p)) (h .0),
+    ⊎-elim (λ e. inl e) (λ p. inr (f _ p)) (h .1),
+    ⊎-elim (λ e. inl e) (λ p. inr (f _ p)) (h .2),
+  )
 
   pub bucket-map : (s plan : List ℕ) (span : DS.Span) → BucketIn P s plan span → BucketIn Q s plan span
   bucket-map s plan span b =
@@ -69,15 +72,18 @@ bucket-join P s plan a b u w e f p q =
     }
 
 -- the marks of a part are on its own variable and on those of its message
-pub part-marks : (plan : List ℕ) (p : DP.Part) (one two three : List ℕ) → one ≡ set (replicate 24 0) (p .own) 1
-    → two ≡ set one (fieldIn plan (p .message) 1) 1 → three ≡ set two (fieldIn plan (p .message) 3) 1 → (w : ℕ)
+pub part-marks :
+    (plan : List ℕ) (p : DP.Part) (own one two three : List ℕ) → own ≡ set (replicate 24 0) (p .own) 1
+    → one ≡ set own (oneOf plan p) 1 → two ≡ set one (twoOf plan p) 1 → three ≡ set two (threeOf plan p) 1 → (w : ℕ)
     → Marked three w → PartReads plan p w
-part-marks plan p one two three d e f w h =
+part-marks plan p own one two three d e f g w h =
     ⊎-elim
-    (λ (q : w ≡ fieldIn plan (p .message) 3). inr (inr q))
-    (λ (m : Marked two w). ⊎-elim (λ (q : w ≡ fieldIn plan (p .message) 1). inr (inl q))
-    (λ (m : Marked one w). ⊎-elim (λ (q : w ≡ p .own). inl q)
+    (λ (q : w ≡ threeOf plan p). inl (inr q))
+    (λ (m : Marked two w). ⊎-elim (λ (q : w ≡ twoOf plan p). inl (inl (inr q)))
+    (λ (m : Marked one w). ⊎-elim (λ (q : w ≡ oneOf plan p). inl (inl (inl q)))
+    (λ (m : Marked own w). ⊎-elim (λ (q : w ≡ p .own). inr q)
     (λ (m : Marked (replicate 24 0) w). absurd (none-marked 24 w m))
     (mark-cases (replicate 24 0) (p .own) w (rw d at m)))
-    (mark-cases one (fieldIn plan (p .message) 1) w (rw e at m)))
-    (mark-cases two (fieldIn plan (p .message) 3) w (rw f at h))
+    (mark-cases own (oneOf plan p) w (rw e at m)))
+    (mark-cases one (twoOf plan p) w (rw f at m)))
+    (mark-cases two (threeOf plan p) w (rw g at h))

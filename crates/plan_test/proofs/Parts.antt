@@ -28,14 +28,23 @@ use Rattle.branch_buckets.proofs.Ranges.{sent-one, sent-none}
 use Rattle.branch_buckets.proofs.Reading.{message-reads, content-reads, content-split, content-grows}
 use Rattle.plan_test.specs.declared.Part as DP
 use Rattle.plan_test.specs.declared.Held as DH
-use Rattle.plan_test.specs.Parts.{restEnd, restBase, Rows, Lowered, RowLeft, PartReads, Fits, Kept}
-use Rattle.plan_test.specs.Parts.{ChoiceLeaves, PairLeaves, PartLeaves, takenSpan, Holding, HoldsAt}
-use Rattle.plan_test.proofs.PairChoices.{value-small}
+use Rattle.plan_test.specs.Parts.{restEnd, restBase, Rows, Lowered, RowLeft, oneOf, twoOf, threeOf}
+use Rattle.plan_test.specs.Parts.{MessageReads, PartReads, Fits, ChoiceLeaves, ValuesLeave, PairLeaves}
+use Rattle.plan_test.specs.Parts.{PartLeaves, takenSpan, Holding, Kept, HoldsAt}
+use Rattle.plan_test.proofs.PartChoices.{partChoice, value-small}
 
 same-at : (n x i : ℕ) → getD (replicate n x) i 0 ≤ x
 same-at zero x i = omega arith
 same-at (suc n) x zero = omega arith
 same-at (suc n) x (suc i) = same-at n x i
+
+-- one more variable has its value in y
+toward : (P : ℕ → Type 0) (x y : List ℕ) → length x ≡ length y → (u : ℕ)
+    → ((a : ℕ) → P a → getD x a 0 ≡ getD y a 0) → (a : ℕ) → P a ⊎ (a ≡ u) → getD (set x u (getD y u 0)) a 0 ≡ getD y a 0
+toward P x y long u h a =
+    ⊎-elim
+    (λ (q : P a). set-toward 0 x y long u a (inr (h a q)))
+    (λ (q : a ≡ u). set-toward 0 x y long u a (inl q))
 
 module _ (d : DD.Directions) (ds s plan : List ℕ) (p : DP.Part) where
   -- the rows of a choice
@@ -48,44 +57,44 @@ module _ (d : DD.Directions) (ds s plan : List ℕ) (p : DP.Part) where
       omega (arith, h a l j m, filled a j l m .0, summed j m .0, sent-one (widthOf d) plan (p .message) x j)
 
   -- what is less still does
-  pub pair-lowered :
-      (i j : ℕ) (left left′ : List ℕ) → Lowered left left′ → PairLeaves d ds s plan p i j left
-      → PairLeaves d ds s plan p i j left′
-  pair-lowered i j left left′ less h y c e f k l = omega (arith, h y c e f k l, less (8 * getD y (p .own) 0 + k))
+  pub values-lowered :
+      (i j l : ℕ) (left left′ : List ℕ) → Lowered left left′ → ValuesLeave d ds s plan p i j l left
+      → ValuesLeave d ds s plan p i j l left′
+  values-lowered i j l left left′ less h y c e f g k m =
+      omega (arith, h y c e f g k m, less (8 * getD y (p .own) 0 + k))
 
-  -- a choice that has the values i and j of the message's variables has, but for its own variable, all that the part
+  -- a choice that has the values i, j and l of the message's variables has, but for its own variable, all that the part
   -- reads as the choice x has it
-  pub pair-leaves :
-      (i j : ℕ) (x left : List ℕ) → p .own < length ds → Fits s plan p
-      → x ≡ set (set (replicate (length ds) 0) (fieldIn plan (p .message) 1) i) (fieldIn plan (p .message) 3) j
-      → ChoiceLeaves d ds s plan p left x → PairLeaves d ds s plan p i j left
-  pair-leaves i j x left own fits is h y c e f k l =
-      let u = fieldIn plan (p .message) 1 in
-      let v = fieldIn plan (p .message) 3 in
+  pub values-leave :
+      (i j l : ℕ) (x left : List ℕ) → p .own < length ds → Fits s plan p → x ≡ partChoice (length ds) plan p i j l
+      → ChoiceLeaves d ds s plan p left x → ValuesLeave d ds s plan p i j l left
+  values-leave i j l x left own fits is h y c e f g k m =
+      let u = oneOf plan p in
+      let v = twoOf plan p in
+      let w = threeOf plan p in
       let zeros = replicate {A = ℕ} (length ds) 0 in
       let first = set zeros u (getD y u 0) in
       let second = set first v (getD y v 0) in
-      let third = set second (p .own) (getD y (p .own) 0) in
+      let third = set second w (getD y w 0) in
       let long : length zeros ≡ length y = length-replicate (length ds) 0 ∙ sym (choice-length ds y c) in
       let long′ : length first ≡ length y = length-set zeros u (getD y u 0) ∙ long in
       let long″ : length second ≡ length y = length-set first v (getD y v 0) ∙ long′ in
-      let at-first : (w : ℕ) → w ≡ u → getD first w 0 ≡ getD y w 0 = λ w q. set-toward 0 zeros y long u w (inl q) in
-      let at-second : (w : ℕ) → (w ≡ u) ⊎ (w ≡ v) → getD second w 0 ≡ getD y w 0 = λ w. ⊎-elim
-      (λ (q : w ≡ u). set-toward 0 first y long′ v w (inr (at-first w q)))
-      (λ (q : w ≡ v). set-toward 0 first y long′ v w (inl q)) in
-      let at-third : (w : ℕ) → PartReads plan p w → getD third w 0 ≡ getD y w 0 = λ w. ⊎-elim
-      (λ (q : w ≡ p .own). set-toward 0 second y long″ (p .own) w (inl q))
-      (λ (q : (w ≡ u) ⊎ (w ≡ v)). set-toward 0 second y long″ (p .own) w (inr (at-second w q))) in
-      let x-is : x ≡ second = rw (e, f) is in
+      let long‴ : length third ≡ length y = length-set second w (getD y w 0) ∙ long″ in
+      let at-first : (a : ℕ) → a ≡ u → getD first a 0 ≡ getD y a 0 = λ a q. set-toward 0 zeros y long u a (inl q) in
+      let at-second = toward (λ a. a ≡ u) first y long′ v at-first in
+      let at-third = toward (λ a. (a ≡ u) ⊎ (a ≡ v)) second y long″ w at-second in
+      let at-own = toward (MessageReads plan p) third y long‴ (p .own) at-third in
+      let x-is : x ≡ third = rw (e, f, g) is in
       let number : messageAt (widthOf d) plan x k (p .message) ≡ messageAt (widthOf d) plan y k (p .message) = rw x-is
-      (message-reads (λ w. (w ≡ u) ⊎ (w ≡ v)) second y at-second (widthOf d) plan k (p .message)
-      (inr (inl refl), inr (inr refl))) in
-      let third-reads =
-      content-reads (PartReads plan p) third y at-third d ds s plan (p .span) (fits .records) (fits .children) k in
+      (message-reads (MessageReads plan p) third y at-third (widthOf d) plan k (p .message)
+      (inr (inl (inl refl)), inr (inl (inr refl)), inr (inr refl))) in
+      let all-read =
+      content-reads (PartReads plan p) (set third (p .own) (getD y (p .own) 0)) y at-own d ds s plan (p .span)
+      (fits .records) (fits .children) k in
       let held :
       contentOver d ds s plan (p .span) (set x (p .own) (getD y (p .own) 0)) k
-      ≡ contentOver d ds s plan (p .span) y k = rw x-is third-reads in
-      omega (arith, h (getD y (p .own) 0) k (value-below ds y c (p .own) own) l, number, held)
+      ≡ contentOver d ds s plan (p .span) y k = rw x-is all-read in
+      omega (arith, h (getD y (p .own) 0) k (value-below ds y c (p .own) own) m, number, held)
 
 -- the first c pairs of values are done, eight to each value of the first variable
 pub record PartSteps (d : DD.Directions) (ds s plan : List ℕ) (p : DP.Part) (c : ℕ) (left : List ℕ) : Type 0 where
@@ -112,7 +121,7 @@ module _ {d : DD.Directions} {ds s plan : List ℕ} {p : DP.Part} where
           pairs = λ i j l h.
               ⊎-elim
               (λ (q : ltb (8 * i + j) c ≡ true).
-              pair-lowered d ds s plan p i j left left′ less (t .pairs i j l (ltb-true (8 * i + j) c q)))
+              λ m. values-lowered d ds s plan p i j m left left′ less (t .pairs i j l (ltb-true (8 * i + j) c q) m))
               (λ (q : ltb (8 * i + j) c ≡ false).
               let first : c / 8 ≡ i = omega (arith, ltb-false (8 * i + j) c q) in
               let second : c % 8 ≡ j = omega (arith, ltb-false (8 * i + j) c q) in
@@ -127,10 +136,12 @@ module _ {d : DD.Directions} {ds s plan : List ℕ} {p : DP.Part} where
           rows = rw is (t .rows);
           span = span;
           leaves = λ y c k l.
-              let u = fieldIn plan (p .message) 1 in
-              let v = fieldIn plan (p .message) 3 in
+              let u = oneOf plan p in
+              let v = twoOf plan p in
               let small = value-small ds y sizes c in
-              rw is (t .pairs (getD y u 0) (getD y v 0) (small v) (omega (arith, small u, small v)) y c refl refl k l);
+              rw is
+              (t .pairs (getD y u 0) (getD y v 0) (small v) (omega (arith, small u, small v))
+              (getD y (threeOf plan p) 0) y c refl refl refl k l);
         }
 
 -- a message whose numbers lie outside the plan is worth nothing

@@ -6,6 +6,7 @@ use mathlib.Core.Bool.{true}
 use mathlib.Core.List.{List}
 use Prim.Native.Nat.{ℕ, _+_, _*_, _≤_, _<_}
 use lib.ListN.{length, getD, set}
+use Rattle.model.specs.Limits.{maxDomain}
 use Rattle.model.specs.Costs.{isChoice}
 use Rattle.branch_directions.specs.Directions.{widthOf}
 use Rattle.branch_directions.specs.declared.Directions as DD
@@ -43,6 +44,7 @@ RowLeft w at number rest rows left =
 pub record Counted (ds : List ℕ) (u c : ℕ) : Type 0 where
   pub enough : (y : List ℕ) → isChoice ds y ≡ true → getD y u 0 < c
   pub exist : u < length ds → c ≤ getD ds u 0
+  pub few : c ≤ maxDomain
 
 -- a part of a bucket over n variables
 pub record PartOf (n : ℕ) (p : DP.Part) : Type 0 where
@@ -51,12 +53,31 @@ pub record PartOf (n : ℕ) (p : DP.Part) : Type 0 where
   pub ranged : Ranged (p .span)
   pub rows : Rows (p .rest)
 
--- the variables of a part: the bucket's own and the two of its message
+-- the three variables of a part's message
+abbrev pub oneOf : List ℕ → DP.Part → ℕ
+oneOf plan p = fieldIn plan (p .message) 1
+
+abbrev pub twoOf : List ℕ → DP.Part → ℕ
+twoOf plan p = fieldIn plan (p .message) 3
+
+abbrev pub threeOf : List ℕ → DP.Part → ℕ
+threeOf plan p = fieldIn plan (p .message) 5
+
+abbrev pub MessageReads : List ℕ → DP.Part → ℕ → Type 0
+MessageReads plan p w = ((w ≡ oneOf plan p) ⊎ (w ≡ twoOf plan p)) ⊎ (w ≡ threeOf plan p)
+
+-- the variables of a part: those of its message and the bucket's own
 abbrev pub PartReads : List ℕ → DP.Part → ℕ → Type 0
-PartReads plan p w = (w ≡ p .own) ⊎ ((w ≡ fieldIn plan (p .message) 1) ⊎ (w ≡ fieldIn plan (p .message) 3))
+PartReads plan p w = MessageReads plan p w ⊎ (w ≡ p .own)
 
 abbrev pub Fits : List ℕ → List ℕ → DP.Part → Type 0
 Fits s plan p = BucketIn (PartReads plan p) s plan (p .span)
+
+-- i, j and l are values of those of the message's variables that exist
+pub record Exist (ds plan : List ℕ) (p : DP.Part) (i j l : ℕ) : Type 0 where
+  pub one : oneOf plan p < length ds → i < getD ds (oneOf plan p) 0
+  pub two : twoOf plan p < length ds → j < getD ds (twoOf plan p) 0
+  pub three : threeOf plan p < length ds → l < getD ds (threeOf plan p) 0
 
 -- at the choice y, the part's message and what is left over are at most what was left over before
 -- and what the part holds
@@ -73,13 +94,17 @@ ChoiceLeaves d ds s plan p left x =
     → messageAt (widthOf d) plan x j (p .message) + getD left (8 * a + j) 0
     ≤ getD (p .rest) (8 * a + j) 0 + contentOver d ds s plan (p .span) (set x (p .own) a) j
 
--- the same for the choices that have the values i and j of the message's variables
+-- the same for the choices that have the values i, j and l of the message's variables, and for those that have i and j
+abbrev pub ValuesLeave :
+    (d : DD.Directions) (ds s plan : List ℕ) (p : DP.Part) (i j l : ℕ) (left : List ℕ) → Type 0
+ValuesLeave d ds s plan p i j l left =
+    (y : List ℕ) → isChoice ds y ≡ true
+    → getD y (oneOf plan p) 0 ≡ i → getD y (twoOf plan p) 0 ≡ j → getD y (threeOf plan p) 0 ≡ l
+    → Leaves d ds s plan p left y
+
 abbrev pub PairLeaves :
     (d : DD.Directions) (ds s plan : List ℕ) (p : DP.Part) (i j : ℕ) (left : List ℕ) → Type 0
-PairLeaves d ds s plan p i j left =
-    (y : List ℕ) → isChoice ds y ≡ true
-    → getD y (fieldIn plan (p .message) 1) 0 ≡ i → getD y (fieldIn plan (p .message) 3) 0 ≡ j
-    → Leaves d ds s plan p left y
+PairLeaves d ds s plan p i j left = (l : ℕ) → ValuesLeave d ds s plan p i j l left
 
 -- the same for every choice
 pub record PartLeaves (d : DD.Directions) (ds s plan : List ℕ) (p : DP.Part) (h : DH.Held) : Type 0 where

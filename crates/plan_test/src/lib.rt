@@ -18,7 +18,8 @@ ghost use Rattle.branch_buckets.proofs.Reading.{Reads};
 ghost use Rattle.plan_test.specs.Orders.{LeadsBack, Falling};
 ghost use Rattle.plan_test.specs.Marks.{Marked, ScopeIn, Inside, BucketIn};
 ghost use Rattle.plan_test.specs.Parts.{Rows, Lowered, RowLeft, Counted, PartOf, Fits};
-ghost use Rattle.plan_test.specs.Parts.{ChoiceLeaves, PairLeaves, PartLeaves, BucketOf, Holding, Kept, HoldsAt};
+ghost use Rattle.plan_test.specs.Parts.{Exist, ChoiceLeaves, ValuesLeave, PairLeaves, PartLeaves, BucketOf};
+ghost use Rattle.plan_test.specs.Parts.{Holding, Kept, HoldsAt};
 
 // What is left over of a bucket counts as no more than this.
 const MOST_REST: u64 = 4611686018427387904;
@@ -119,7 +120,7 @@ fn is_marked(v: usize, marks: &[u8]) -> bool
 
 // Whether the variable in field `i` of message `g` is marked or, as its stride is 0, not read.
 fn is_field_marked(g: usize, i: usize, marks: &[u8], plan: &[u32]) -> bool
-    requires { ⌜ (g < maxMessages) × (i < 4) × (numbersAt ≤ length (now plan)) ⌝ }
+    requires { ⌜ (g < maxMessages) × (i < 6) × (numbersAt ≤ length (now plan)) ⌝ }
     ensures { λ ok. ⌜ (ok ≡ true
         → (fieldIn (now (plan .entry)) g (i + 1) ≡ 0)
         ⊎ Marked (now (marks .entry)) (fieldIn (now (plan .entry)) g i)) ⌝ }
@@ -142,7 +143,10 @@ fn reads_marked(g: usize, marks: &[u8], plan: &[u32]) -> bool
     if !is_field_marked(g, 1, marks, plan) {
         return false;
     }
-    is_field_marked(g, 3, marks, plan)
+    if !is_field_marked(g, 3, marks, plan) {
+        return false;
+    }
+    is_field_marked(g, 5, marks, plan)
 }
 
 // Whether the record at `at` has marked variables only.
@@ -345,8 +349,52 @@ fn lower_rows(
     true
 }
 
-// The same for pair `c` of values of the two variables of the part's message: no other variable is read. There is
-// nothing to do where they have no such values.
+// The same for the values number `c` of the three variables of the part's message, the third running fastest: no other
+// variable is read. There is nothing to do where a variable would have two values.
+fn lower_choice(
+    s: &[u8],
+    sizes: &[u8],
+    p: Part,
+    c: usize,
+    d: branch_directions::Directions,
+    plan: &[u32],
+    left: &mut [u64],
+) -> bool
+    requires { ⌜ Planned d (p .span .to) (now sizes) (now s) (now plan) × (numbersAt ≤ length (now plan))
+        × PartOf (length (now sizes)) p × Fits (now s) (now plan) p × (c < 512)
+        × Exist (now sizes) (now plan) p (c / 64) (c / 8 % 8) (c % 8) × (length (now left) ≡ 64) ⌝ }
+    ensures { λ ok. ⌜ Lowered (now (left .entry)) (now (left .exit))
+        × (ok ≡ true
+        → ValuesLeave d (now (sizes .entry)) (now (s .entry)) (now (plan .entry)) p (c / 64) (c / 8 % 8) (c % 8)
+        (now (left .exit))) ⌝ }
+{
+    let n = sizes.len();
+    let i = c / 64;
+    let j = c / 8 % 8;
+    let l = c % 8;
+    let at = layout::MESSAGES_AT + layout::MESSAGE_WIDTH * p.message;
+    let u = plan[at + 1] as usize;
+    let v = plan[at + 3] as usize;
+    let w = plan[at + 5] as usize;
+    if u == w {
+        if i != l {
+            return true;
+        }
+    }
+    if v == w {
+        if j != l {
+            return true;
+        }
+    }
+    let zeros = [0u8; 24];
+    let one = branch_buckets::with_value(zeros, u, i);
+    let two = branch_buckets::with_value(one, v, j);
+    let choice = branch_buckets::with_value(two, w, l);
+    lower_rows(s, sizes, p, &choice[..n], d, plan, left)
+}
+
+// The same for pair `c` of values of the first two variables, with every value of the third: one where it does not
+// exist. There is nothing to do where the two have no such values.
 fn lower_pair(
     s: &[u8],
     sizes: &[u8],
@@ -363,7 +411,6 @@ fn lower_pair(
         → PairLeaves d (now (sizes .entry)) (now (s .entry)) (now (plan .entry)) p (c / 8) (c % 8)
         (now (left .exit))) ⌝ }
 {
-    let n = sizes.len();
     let i = c / 8;
     let j = c % 8;
     let at = layout::MESSAGES_AT + layout::MESSAGE_WIDTH * p.message;
@@ -380,13 +427,18 @@ fn lower_pair(
     if count_values(v, sizes) <= j {
         return true;
     }
-    let zeros = [0u8; 24];
-    let one = branch_buckets::with_value(zeros, u, i);
-    let choice = branch_buckets::with_value(one, v, j);
-    lower_rows(s, sizes, p, &choice[..n], d, plan, left)
+    let size = count_values(plan[at + 5] as usize, sizes);
+    let mut l: usize = 0;
+    while l < size {
+        if !lower_choice(s, sizes, p, 8 * c + l, d, plan, left) {
+            return false;
+        }
+        l += 1;
+    }
+    true
 }
 
-// Whether the part reads only its own variable and the two of its message.
+// Whether the part reads only its own variable and the three of its message.
 fn part_fits(s: &[u8], p: Part, plan: &[u32]) -> bool
     requires { ⌜ (p .message < maxMessages) × Ranged (p .span) × (p .span .to ≤ maxTables)
         × Inside (now s) (now plan) (p .span .to) × (numbersAt ≤ length (now plan)) ⌝ }
@@ -396,7 +448,8 @@ fn part_fits(s: &[u8], p: Part, plan: &[u32]) -> bool
     let zeros = [0u8; 24];
     let one = branch_buckets::with_value(zeros, p.own, 1);
     let two = branch_buckets::with_value(one, plan[at + 1] as usize, 1);
-    let marks = branch_buckets::with_value(two, plan[at + 3] as usize, 1);
+    let three = branch_buckets::with_value(two, plan[at + 3] as usize, 1);
+    let marks = branch_buckets::with_value(three, plan[at + 5] as usize, 1);
     is_bucket_marked(s, p.span, &marks, plan)
 }
 
@@ -470,8 +523,8 @@ fn after_message(
     let taken = held.span;
     let from = taken.to;
     let first = taken.last;
-    let to = larger(from, plan[at + 5] as usize);
-    let last = larger(first, plan[at + 6] as usize);
+    let to = larger(from, plan[at + 7] as usize);
+    let last = larger(first, plan[at + 8] as usize);
     if (plan[layout::RECORD_ENDS_AT + k] as usize) < to {
         return none_held();
     }

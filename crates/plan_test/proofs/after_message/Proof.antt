@@ -58,7 +58,7 @@ planned :
 planned c = planned-fewer (begun c .pre .0 .planned) (span c .to) (c .before .before .if2 .left)
 
 cast-if1 : tie.Need-cast-if1
-cast-if1 c = omega (arith, c .shared-slice-known4 .given (499 + 7 * c .before .before .before .before .args .g))
+cast-if1 c = omega (arith, c .shared-slice-known4 .given (499 + 9 * c .before .before .before .before .args .g))
 
 returns : tie.Need-returns
 returns c =
@@ -73,10 +73,10 @@ cast-larger : tie.Need-cast-larger
 cast-larger c =
     let opened = c .before .before .before in
     let s = opened .before .before .before .before in
-    omega (arith, c .shared-slice-known5 .given (499 + 7 * s .args .g + 5))
+    omega (arith, c .shared-slice-known5 .given (499 + 9 * s .args .g + 7))
 
 cast-larger-2 : tie.Need-cast-larger-2
-cast-larger-2 c = omega (arith, c .shared-slice-known6 .given (499 + 7 * start (c .before) .args .g + 6))
+cast-larger-2 c = omega (arith, c .shared-slice-known6 .given (499 + 9 * start (c .before) .args .g + 8))
 
 cast-if2 : tie.Need-cast-if2
 cast-if2 c = omega (arith, c .shared-slice-known7 .given (424 + start (first-end (c .before)) .args .k))

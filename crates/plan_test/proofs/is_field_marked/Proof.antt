@@ -11,7 +11,7 @@ cast-is-marked c =
     omega (
       arith,
       c .shared-slice-known4 .given
-          (499 + 7 * c .before .before .before .before .before .args .g
+          (499 + 9 * c .before .before .before .before .before .args .g
           + c .before .before .before .before .before .args .i),
     )
 

@@ -1,130 +1,171 @@
--- `plan_test::lower_pair` meets its contract: the choice that is made has the values of the pair.
-use mathlib.Core.Path.{_≡_, ap, sym, _∙_}
-use Prim.Native.Nat.{ℕ, _+_, _*_, _/_, _%_}
+-- `plan_test::lower_pair` meets its contract. The invariant, `PairSteps`: the first `l` values of the third variable
+-- are done.
+use mathlib.Core.Path.{ap, sym, _∙_}
+use mathlib.Core.Bool.{false≢true}
+use Prim.Native.Nat.{ℕ, _+_, _*_, _-_, _/_, _%_, _<_}
 use native.Mathlib.Omega.{arith}
-use borrow.Author.Needs.{needs}
-use lib.ListN.{length, getD, take, set, replicate}
-use lib.Seq.{length-take-le}
+use borrow.Author.Tests.{not-false}
+use lib.ListN.{getD}
 use denote.Ref.{now}
-use Rattle.layout.specs.Places.{fieldIn}
-use Rattle.plan_test.proofs.PairChoices.{pair-front, pair-choice}
-use Rattle.plan_test.proofs.Parts.{pair-leaves}
+use Rattle.plan_test.specs.Parts.{Exist}
+use Rattle.plan_test.proofs.Lowering.{lowered-twice}
+use Rattle.plan_test.proofs.Pairs.{number-exists, number-leaves, PairSteps, pair-start, pair-next, pair-end}
 use Rattle.plan_test.proofs.lower_pair.Statement.{statement}
 use Rattle.plan_test.proofs.lower_pair.Tie as tie
 
--- ## the places: the variables are known, their values counted, the choice is made
+abbrev Inv-loop : tie.InvT-loop
+Inv-loop s sizes p c d plan left₀ i j at u v size l₀ left l =
+    PairSteps d sizes s plan p (c / 8) (c % 8) size left₀ l left
 
-abbrev start : tie.After-shared-slice-known4 → tie.Start
+abbrev μ-loop : tie.MeasureT-loop
+μ-loop s sizes p c d plan left₀ i j at u v size l₀ left l = size - l
+
+-- ## the places: the variables are known, their values counted, the loop begins
+
+abbrev start : tie.After-shared-slice-known4 Inv-loop μ-loop → tie.Start Inv-loop μ-loop
 start c =
     let known = c .before .before .before .before in
     known .before .before
 
-abbrev counted : tie.After-with-value → tie.After-count-values
-counted c = c .before .before .before .before
-
-abbrev begun : tie.After-count-values → tie.Start
+abbrev begun : tie.After-count-values Inv-loop μ-loop → tie.Start Inv-loop μ-loop
 begun c = start (c .before .before .before)
 
-abbrev start-of : tie.After-with-value2 → tie.Start
-start-of c = begun (counted (c .before))
+abbrev one-counted : tie.After-count-values2 Inv-loop μ-loop → tie.After-count-values Inv-loop μ-loop
+one-counted c = c .before .before
 
--- the variables of the part's message
-abbrev one-of : tie.Start → ℕ
-one-of s = fieldIn (now (s .args .plan)) (s .args .p .message) 1
+abbrev two-counted : tie.After-count-values3 Inv-loop μ-loop → tie.After-count-values2 Inv-loop μ-loop
+two-counted c = c .before .before .before
 
-abbrev two-of : tie.Start → ℕ
-two-of s = fieldIn (now (s .args .plan)) (s .args .p .message) 3
+abbrev start-of : tie.After-count-values3 Inv-loop μ-loop → tie.Start Inv-loop μ-loop
+start-of c = begun (one-counted (two-counted c))
 
--- the choice's first values
-front :
-    (c : tie.After-with-value2) → let s = start-of c in let n = length (now (s .args .sizes)) in
-    take n (c .with-value2 .result) ≡ set (set (replicate n 0) (one-of s) (s .args .c / 8)) (two-of s) (s .args .c % 8)
-front c =
-    let s = start-of c in
-    let one = c .before .with-value in
-    let two = c .with-value2 in
-    pair-front (length (now (s .args .sizes))) (one-of s) (s .args .c / 8) (two-of s) (s .args .c % 8)
-    (one .result) (two .result) (s .pre .0 .variables) (one .ensures) (two .ensures)
+abbrev looped : tie.After-lower-choice Inv-loop μ-loop → tie.At-loop Inv-loop μ-loop
+looped c = c .before .before .before
 
-mul-at : tie.Need-mul-at
+-- a variable has at most eight values
+small : (c : tie.In-loop Inv-loop μ-loop) → c .before .loop .l < 8
+small c = omega (arith, c .loop-test .taken, c .before .before .count-values3 .ensures .few)
+
+exist :
+    (c : tie.In-loop Inv-loop μ-loop) → let a = start-of (c .before .before) .args in
+    Exist (now (a .sizes)) (now (a .plan)) (a .p) (a .c / 8) (a .c % 8) (c .before .loop .l)
+exist c =
+    let counted = c .before .before in
+    let two = two-counted counted in
+    record {
+      one = λ h. omega (arith, one-counted two .count-values .ensures .exist h, two .before .if3 .left);
+      two = λ h. omega (arith, two .count-values2 .ensures .exist h, counted .before .before .if4 .left);
+      three = λ h. omega (arith, counted .count-values3 .ensures .exist h, c .loop-test .taken);
+    }
+
+mul-at : tie.Need-mul-at Inv-loop μ-loop
 mul-at c = omega (arith, c .before .before .before .before .before .pre .2 .known)
 
-add-at : tie.Need-add-at
+add-at : tie.Need-add-at Inv-loop μ-loop
 add-at c = omega (arith, c .before .before .before .before .before .pre .2 .known)
 
-add-u : tie.Need-add-u
+add-u : tie.Need-add-u Inv-loop μ-loop
 add-u c = omega (arith, c .before .before .before .before .before .pre .2 .known)
 
-mul-u : tie.Need-mul-u
+mul-u : tie.Need-mul-u Inv-loop μ-loop
 mul-u c = omega (arith, c .before .before .before .before .before .pre .2 .known)
 
-cast-u : tie.Need-cast-u
-cast-u c = omega (arith, c .shared-slice-known4 .given (499 + 7 * start c .args .p .message + 1))
+cast-u : tie.Need-cast-u Inv-loop μ-loop
+cast-u c = omega (arith, c .shared-slice-known4 .given (499 + 9 * start c .args .p .message + 1))
 
-shared-slice-read-v : tie.Need-shared-slice-read-v
+shared-slice-read-v : tie.Need-shared-slice-read-v Inv-loop μ-loop
 shared-slice-read-v c = omega (arith, start (c .before) .pre .1, start (c .before) .pre .2 .known)
 
-cast-v : tie.Need-cast-v
-cast-v c = omega (arith, c .shared-slice-known5 .given (499 + 7 * start (c .before) .args .p .message + 3))
+cast-v : tie.Need-cast-v Inv-loop μ-loop
+cast-v c = omega (arith, c .shared-slice-known5 .given (499 + 9 * start (c .before) .args .p .message + 3))
 
-returns : tie.Need-returns
+returns : tie.Need-returns Inv-loop μ-loop
 returns c = (
   λ k. omega arith,
-  λ _ y h e f. absurd (c .if2 .taken (sym e ∙ ap (λ (w : ℕ). getD y w 0) (c .before .if1 .taken) ∙ f)),
+  λ _ l y h e f g. absurd (c .if2 .taken (sym e ∙ ap (λ (a : ℕ). getD y a 0) (c .before .if1 .taken) ∙ f)),
 )
 
-returns-2 : tie.Need-returns-2
-returns-2 c = (λ k. omega arith, λ _ y h e f. absurd (omega (arith, e, c .before .count-values .ensures .enough y h)))
+returns-2 : tie.Need-returns-2 Inv-loop μ-loop
+returns-2 c = (
+  λ k. omega arith,
+  λ _ l y h e f g. absurd (omega (arith, e, c .before .count-values .ensures .enough y h)),
+)
 
-returns-3 : tie.Need-returns-3
-returns-3 c = (λ k. omega arith, λ _ y h e f. absurd (omega (arith, f, c .before .count-values2 .ensures .enough y h)))
+returns-3 : tie.Need-returns-3 Inv-loop μ-loop
+returns-3 c = (
+  λ k. omega arith,
+  λ _ l y h e f g. absurd (omega (arith, f, c .before .count-values2 .ensures .enough y h)),
+)
 
-with-value-requires : tie.Need-with-value-requires
-with-value-requires c κs =
-    let s = begun (c .before .before .before) in
-    omega (arith, s .pre .4)
+shared-slice-read-count-values : tie.Need-shared-slice-read-count-values Inv-loop μ-loop
+shared-slice-read-count-values c =
+    let s = begun (one-counted (c .before .before)) in
+    omega (arith, s .pre .1, s .pre .2 .known)
 
-array-share-prefix-choice : tie.Need-array-share-prefix-choice
-array-share-prefix-choice c = omega (arith, c .with-value2 .ok, start-of c .pre .0 .variables)
+cast-count-values : tie.Need-cast-count-values Inv-loop μ-loop
+cast-count-values c =
+    let s = begun (one-counted (c .before .before)) in
+    omega (arith, c .shared-slice-known6 .given (499 + 9 * s .args .p .message + 5))
 
-slice-aggregate-lower-rows : tie.Need-slice-aggregate-lower-rows
-slice-aggregate-lower-rows c =
-    let made = c .before in
-    let s = start-of made in
-    sym (length-take-le (length (now (s .args .sizes))) (made .with-value2 .result)
-    (omega (arith, made .with-value2 .ok, s .pre .0 .variables)))
-
-lower-rows-requires : tie.Need-lower-rows-requires
-lower-rows-requires c κs =
-    let made = c .before .before in
-    let s = start-of made in
-    let values = counted (made .before) in
-    let second = values .before in
-    let q = s .pre in
-    let tested = made .before .before in
-    let values2 = tested .before in
-    let inside =
-    pair-choice (now (s .args .sizes)) (one-of s) (s .args .c / 8) (two-of s) (s .args .c % 8) (q .0 .small)
-    (λ l. omega (arith, values .count-values .ensures .exist l, values2 .before .if3 .left))
-    (λ l. omega (arith, values2 .count-values2 .ensures .exist l, tested .if4 .left)) in
-    (q .0, q .2, rw (front made) inside, q .5)
-
-returns-4 : tie.Need-returns-4
-returns-4 c =
-    let lowered = c .before .before in
-    let made = lowered .before .before .before in
-    let s = start-of made in
+lower-choice-requires : tie.Need-lower-choice-requires Inv-loop μ-loop
+lower-choice-requires c κs =
+    let tested = c .before in
+    let at-loop = tested .before in
+    let s = start-of (at-loop .before) in
     let a = s .args in
-    let e = lowered .lower-rows .ensures in (
-      e .0,
-      λ h. pair-leaves (a .d) (now (a .sizes)) (now (a .s)) (now (a .plan)) (a .p) (a .c / 8) (a .c % 8) _
-          (lowered .lower-rows .last .1 .1 .1 .1 .1 .1 .0) (s .pre .2 .variable) (s .pre .3) (front made) (e .1 h),
+    let q = s .pre in (
+      q .0,
+      q .1,
+      q .2,
+      q .3,
+      omega (arith, q .4, small tested),
+      number-exists (a .c) (at-loop .loop .l) (small tested) (now (a .sizes)) (now (a .plan)) (a .p) (exist tested),
+      at-loop .loop .inv .long ∙ q .5,
     )
+
+same-length : tie.Need-same-length Inv-loop μ-loop
+same-length c =
+    let lowered = c .before .before .before in
+    lowered .lower-choice .kept .1 .1 .1 .1 .1 .1 .0 ∙ looped lowered .loop .inv .long
+
+returns-4 : tie.Need-returns-4 Inv-loop μ-loop
+returns-4 c =
+    let lowered = c .before .before .before in
+    let at-loop = looped lowered in
+    let choice = lowered .lower-choice in (
+      lowered-twice (now (start-of (at-loop .before) .args .left)) (at-loop .loop .left)
+          (choice .last .1 .1 .1 .1 .1 .1 .0) (at-loop .loop .inv .lowered) (choice .ensures .0),
+      λ h. absurd (false≢true h),
+    )
+
+add-l : tie.Need-add-l Inv-loop μ-loop
+add-l c =
+    let lowered = c .before .before .before in
+    omega (arith, small (lowered .before .before))
+
+loop-again : tie.Need-loop-again Inv-loop μ-loop
+loop-again c =
+    let lowered = c .before .before .before in
+    let at-loop = looped lowered in
+    let tested = lowered .before .before in
+    let choice = lowered .lower-choice in
+    let a = start-of (at-loop .before) .args in
+    pair-next (at-loop .loop .inv) (tested .loop-test .taken) _ (choice .kept .1 .1 .1 .1 .1 .1 .0) (choice .ensures .0)
+    (number-leaves (a .c) (at-loop .loop .l) (small tested) (a .d) (now (a .sizes)) (now (a .s)) (now (a .plan)) (a .p)
+    (choice .last .1 .1 .1 .1 .1 .1 .0) (choice .ensures .1 (not-false _ (c .if5 .left))))
+
+returns-5 : tie.Need-returns-5 Inv-loop μ-loop
+returns-5 c =
+    let at-loop = c .before in
+    let w = at-loop .loop .inv in
+    (w .lowered, λ _. pair-end w (at-loop .before .count-values3 .ensures) (omega arith))
 
 pub lower-pair-spec : {M : Type 1} → statement M
 lower-pair-spec =
     tie.close
     (tie.spec
+    Inv-loop
+    μ-loop
     mul-at
     add-at
     add-u
@@ -140,10 +181,19 @@ lower-pair-spec =
     returns-2
     (λ c κs. begun (c .before) .pre .0 .small)  -- count-values-requires-2
     returns-3
-    with-value-requires
-    (λ c κs. omega arith)  -- with-value-requires-2
-    array-share-prefix-choice
-    slice-aggregate-lower-rows
-    lower-rows-requires
-    (λ c. search needs)  -- same-length
-    returns-4)
+    (λ c. omega (arith, begun (one-counted (c .before)) .pre .2 .known))  -- add-count-values
+    (λ c. omega (arith, begun (one-counted (c .before)) .pre .2 .known))  -- mul-count-values
+    shared-slice-read-count-values
+    cast-count-values
+    (λ c κs. begun (one-counted (c .before .before)) .pre .0 .small)  -- count-values-requires-3
+    (λ c. pair-start (omega arith))  -- loop-holds
+    (λ c. omega (arith, start-of (c .before .before) .pre .4))  -- mul-lower-choice
+    (λ c. omega (arith, start-of (c .before .before) .pre .4, small c))  -- add-lower-choice
+    lower-choice-requires
+    same-length
+    returns-4
+    add-l
+    (λ c. omega arith)  -- loop-less
+    loop-again
+    (λ c. c .before .loop .inv .long)  -- same-length-2
+    returns-5)

@@ -8,38 +8,49 @@ use Rattle.plan_test.proofs.Marking.{bucket-map, part-marks}
 use Rattle.plan_test.proofs.part_fits.Statement.{statement}
 use Rattle.plan_test.proofs.part_fits.Tie as tie
 
+-- ## the places: the variables are marked, the bucket's own first
+
+abbrev start : tie.After-with-value → tie.Start
+start c = c .before .before .before .before
+
+abbrev own : tie.After-with-value2 → tie.After-with-value
+own c = c .before .before
+
+abbrev one : tie.After-with-value3 → tie.After-with-value2
+one c = c .before .before
+
+abbrev two : tie.After-with-value4 → tie.After-with-value3
+two c = c .before .before
+
 cast-with-value : tie.Need-cast-with-value
-cast-with-value c =
-    omega (
-      arith,
-      c .shared-slice-known3 .given (499 + 7 * c .before .before .before .before .before .args .p .message + 1),
-    )
+cast-with-value c = omega (arith, c .shared-slice-known3 .given (499 + 9 * start (c .before) .args .p .message + 1))
 
 cast-with-value-2 : tie.Need-cast-with-value-2
 cast-with-value-2 c =
-    omega (
-      arith,
-      c .shared-slice-known4 .given
-          (499 + 7 * c .before .before .before .before .before .before .before .args .p .message + 3),
-    )
+    omega (arith, c .shared-slice-known4 .given (499 + 9 * start (own (c .before)) .args .p .message + 3))
+
+cast-with-value-3 : tie.Need-cast-with-value-3
+cast-with-value-3 c =
+    omega (arith, c .shared-slice-known5 .given (499 + 9 * start (own (one (c .before))) .args .p .message + 5))
 
 is-bucket-marked-requires : tie.Need-is-bucket-marked-requires
 is-bucket-marked-requires c κs =
-    let first = c .before .before .before .before .before in
-    let q = first .before .before .before .before .pre in
+    let q = start (own (one (two (c .before)))) .pre in
     (q .1, q .2, q .3, q .4)
 
 returns : tie.Need-returns
 returns c =
-    let third = c .before .before in
-    let second = third .before .before in
-    let first = second .before .before in
-    let a = first .before .before .before .before .args in
+    let fourth = c .before .before in
+    let third = two fourth in
+    let second = one third in
+    let first = own second in
+    let a = start first .args in
     let p = a .p in
-    let marks = third .with-value3 .result in
+    let marks = fourth .with-value4 .result in
     let is =
-    part-marks (now (a .plan)) p (first .with-value .result) (second .with-value2 .result) marks
-    (first .with-value .ensures) (second .with-value2 .ensures) (third .with-value3 .ensures) in
+    part-marks (now (a .plan)) p (first .with-value .result) (second .with-value2 .result) (third .with-value3 .result)
+    marks (first .with-value .ensures) (second .with-value2 .ensures) (third .with-value3 .ensures)
+    (fourth .with-value4 .ensures) in
     λ h. bucket-map (Marked marks) (PartReads (now (a .plan)) p) is (now (a .s)) (now (a .plan)) (p .span)
     (c .is-bucket-marked .ensures h)
 
@@ -60,6 +71,11 @@ part-fits-spec =
     (λ c. omega arith)  -- shared-slice-read-with-value-2
     cast-with-value-2
     (λ c κs. omega arith)  -- with-value-requires-3
-    (λ c. omega (arith, c .before .with-value3 .ok))  -- slice-aggregate-is-bucket-marked
+    (λ c. omega arith)  -- add-with-value-3
+    (λ c. omega arith)  -- mul-with-value-3
+    (λ c. omega arith)  -- shared-slice-read-with-value-3
+    cast-with-value-3
+    (λ c κs. omega arith)  -- with-value-requires-4
+    (λ c. omega (arith, c .before .with-value4 .ok))  -- slice-aggregate-is-bucket-marked
     is-bucket-marked-requires
     returns)

@@ -1,5 +1,5 @@
--- The choices at which a part is looked at: zeros, but for the values of two variables. Every choice has the same
--- values there as one of them.
+-- The choices at which a part is looked at: zeros, but for the values of its message's variables. Every choice has the
+-- same values there as one of them.
 use mathlib.Core.Path.{_≡_}
 use mathlib.Core.Logic.{⊎-elim}
 use mathlib.Core.Bool.{true, false}
@@ -20,6 +20,8 @@ use Rattle.model.proofs.Prefixes.{set-choice}
 use Rattle.model.proofs.Zeros.{zeros-choice, front-same}
 use Rattle.problem.proofs.Sizes.{domain-size}
 use Rattle.costs.proofs.ScopeVariables.{value-below}
+use Rattle.plan_test.specs.Parts.{oneOf, twoOf, threeOf, Exist}
+use Rattle.plan_test.specs.declared.Part as DP
 
 -- a value of a variable, if there is such a variable
 pub put-choice : (ds x : List ℕ) (u a : ℕ) → isChoice ds x ≡ true → (u < length ds → a < getD ds u 0)
@@ -31,17 +33,34 @@ put-choice ds x u a c h =
     rw (set-out x u a (omega (arith, choice-length ds x c, ltb-false u (length ds) t))) c)
     (test (ltb u (length ds)))
 
--- the choice that is made, by its first values
-pub pair-front : (n u i v j : ℕ) (one two : List ℕ) → n ≤ 24 → one ≡ set (replicate 24 0) u i → two ≡ set one v j
-    → take n two ≡ set (set (replicate n 0) u i) v j
-pair-front n u i v j one two few e f =
-    rw (f, take-set n one v j, e, take-set n (replicate 24 0) u i, front-same n 24 0 few)
+-- the choice of n values that has i, j and l at the message's variables
+abbrev pub partChoice : ℕ → List ℕ → DP.Part → (i j l : ℕ) → List ℕ
+partChoice n plan p i j l = set (set (set (replicate n 0) (oneOf plan p) i) (twoOf plan p) j) (threeOf plan p) l
 
-pub pair-choice : (ds : List ℕ) (u i v j : ℕ) → All DomainSize ds → (u < length ds → i < getD ds u 0)
-    → (v < length ds → j < getD ds v 0) → isChoice ds (set (set (replicate (length ds) 0) u i) v j) ≡ true
-pair-choice ds u i v j sizes g h =
-    put-choice ds (set (replicate (length ds) 0) u i) v j
-    (put-choice ds (replicate (length ds) 0) u i (zeros-choice ds sizes) g) h
+-- it is made of 24 zeros
+pub choice-front :
+    (n : ℕ) (plan : List ℕ) (p : DP.Part) (i j l : ℕ) (one two three : List ℕ) → n ≤ 24
+    → one ≡ set (replicate 24 0) (oneOf plan p) i → two ≡ set one (twoOf plan p) j → three ≡ set two (threeOf plan p) l
+    → take n three ≡ partChoice n plan p i j l
+choice-front n plan p i j l one two three few e f g =
+    rw (
+      g,
+      take-set n two (threeOf plan p) l,
+      f,
+      take-set n one (twoOf plan p) j,
+      e,
+      take-set n (replicate 24 0) (oneOf plan p) i,
+      front-same n 24 0 few,
+    )
+
+pub choice-exists : (ds plan : List ℕ) (p : DP.Part) (i j l : ℕ) → All DomainSize ds → Exist ds plan p i j l
+    → isChoice ds (partChoice (length ds) plan p i j l) ≡ true
+choice-exists ds plan p i j l sizes h =
+    let zeros = replicate {A = ℕ} (length ds) 0 in
+    let one = set zeros (oneOf plan p) i in
+    put-choice ds (set one (twoOf plan p) j) (threeOf plan p) l
+    (put-choice ds one (twoOf plan p) j
+    (put-choice ds zeros (oneOf plan p) i (zeros-choice ds sizes) (h .one)) (h .two)) (h .three)
 
 -- any variable's value, and that of one that does not exist
 pub value-outside : (ds y : List ℕ) → isChoice ds y ≡ true → (u : ℕ) → length ds ≤ u → getD y u 0 ≡ 0
