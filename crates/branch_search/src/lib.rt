@@ -384,7 +384,7 @@ fn run_pass(
         choice: [0u8; 24],
         bound,
     };
-    try_choice(node, &reach, run, s, sizes, Aim { task, d }, work)
+    open_position(node, &reach, run, s, sizes, Aim { task, d }, work)
 }
 
 // What is said of a search that was given up.

@@ -81,8 +81,8 @@ root-bound-requires c κs =
     rw (lent-plan (made z))
     (h .planned, h .sound .tested, omega (arith, h .long, length-drop listEnd (made z)), h .some-variable)
 
-try-choice-requires : tie.Need-try-choice-requires
-try-choice-requires c κs =
+open-position-requires : tie.Need-open-position-requires
+open-position-requires c κs =
     let full = c .before .before .before in
     let rooted = full .before .before in
     let z = zoned rooted in
@@ -104,7 +104,7 @@ returns c =
     let z = zoned rooted in
     let s = begun z in
     let zones = z .start-zones .ensures in
-    let called = tried .try-choice in
+    let called = tried .open-position in
     root-passed (s .pre .0) (s .pre .1) (limited z .start-limit .ensures) (s .args .left) (zones .0) (zones .1)
     (rooted .root-bound .result) _ (called .result) (called .ensures)
 
@@ -120,7 +120,7 @@ run-pass-spec =
     root-bound-requires
     (λ c. search needs)  -- slice-aggregate-full-reach
     (λ c κs. search needs)  -- full-reach-requires
-    (λ c. search needs)  -- slice-aggregate-try-choice
-    try-choice-requires
+    (λ c. search needs)  -- slice-aggregate-open-position
+    open-position-requires
     (λ c. search needs)  -- same-length
     returns)
