@@ -214,20 +214,15 @@ fn send_constant(
     if are_zero(numbers, width) {
         return made;
     }
-    let shape = plan_shapes::constant_shape(
-        plan_shapes::NO_VARIABLE,
-        plan_shapes::NO_VARIABLE,
-        1,
-        1,
-        at,
-    );
+    let shape = plan_shapes::constant_shape(at);
+    let end = plan_shapes::numbers_end(shape, at, width);
     plan_numbers::put_entry(0, at, numbers, width, plan);
     plan_shapes::put_message(g, shape, made.records, made.slots, plan);
     Made {
         records: made.records,
         slots: made.slots,
         messages: g + 1,
-        numbers: plan_shapes::numbers_end(shape, at, width),
+        numbers: end,
         rest,
     }
 }
@@ -302,13 +297,7 @@ fn make_buckets(
 fn end_messages(made: Made, plan: &mut [u32])
     ensures { λ _. ⌜ Loose (now (plan .entry)) (now (plan .exit)) ⌝ }
 {
-    let shape = plan_shapes::constant_shape(
-        plan_shapes::NO_VARIABLE,
-        plan_shapes::NO_VARIABLE,
-        1,
-        1,
-        plan_memory::MOST_NUMBER,
-    );
+    let shape = plan_shapes::constant_shape(plan_memory::MOST_NUMBER);
     let records = made.records;
     let slots = made.slots;
     let mut g = made.messages;

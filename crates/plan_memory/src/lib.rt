@@ -108,6 +108,9 @@ pub fn message_scope(g: usize, plan: &[u32]) -> u32 {
     if branch_buckets::number_at(plan, at + 4) != 0 {
         set = set | position_of(branch_buckets::number_at(plan, at + 3), plan);
     }
+    if branch_buckets::number_at(plan, at + 6) != 0 {
+        set = set | position_of(branch_buckets::number_at(plan, at + 5), plan);
+    }
     set
 }
 

@@ -37,15 +37,23 @@ struct Sharing {
     rest: [u64; 64],
 }
 
-// The choice of zeros, but for the variables of a message: pair `c` of their values.
-fn pair_choice(shape: plan_shapes::Shape, c: usize) -> [u8; 24] {
+// The choice of zeros, but for the variables of a part: combination `c` of their values, the last of them fastest.
+fn choice_of(scope: plan_shapes::Scope, c: usize) -> [u8; 24] {
     let zeros = [0u8; 24];
-    let d = shape.v_values;
-    if d == 0 {
+    let u = scope.u;
+    let v = scope.v;
+    let w = scope.w;
+    let dv = v.values;
+    let dw = w.values;
+    if dv == 0 {
         return zeros;
     }
-    let x = branch_buckets::with_value(zeros, shape.v, c % d % 8);
-    branch_buckets::with_value(x, shape.u, c / d % 8)
+    if dw == 0 {
+        return zeros;
+    }
+    let x = branch_buckets::with_value(zeros, w.number, c % dw % 8);
+    let y = branch_buckets::with_value(x, v.number, c / dw % dv % 8);
+    branch_buckets::with_value(y, u.number, c / dw / dv % 8)
 }
 
 // What a part holds for each value of the bucket's variable, at a choice of the others.
@@ -104,7 +112,7 @@ fn lowered(low: [u64; 64], rest: [u64; 64], rows: [u64; 64], count: usize) -> [u
 }
 
 // Entry `e` of a message for each value of the bucket's variable:
-// the least over the pairs of values that the entry stands for.
+// the least over the combinations of values that the entry stands for.
 fn entry_rows(
     s: &[u8],
     sizes: &[u8],
@@ -114,16 +122,17 @@ fn entry_rows(
     d: branch_directions::Directions,
     plan: &[u32],
 ) -> [u64; 64]
-    requires { ⌜ Planned d r (now sizes) (now s) (now plan) × (e ≤ 64) ⌝ }
+    requires { ⌜ Planned d r (now sizes) (now s) (now plan) × (e ≤ 512) ⌝ }
 {
     let count = 8 * plan_shapes::size_of(part.own, sizes);
     let shape = part.shape;
     let rest = part.rest;
-    let share = plan_shapes::at_most(shape.share, 64);
+    let scope = shape.scope;
+    let share = plan_shapes::at_most(shape.share, plan_shapes::MOST_ENTRIES);
     let mut low = [NO_SUM; 64];
     let mut t: usize = 0;
     while t < share {
-        let x = pair_choice(shape, e * share + t);
+        let x = choice_of(scope, e * share + t);
         let rows = content_of(s, sizes, r, part, x, d, plan);
         let next = lowered(low, rest, rows, count);
         low = next;
@@ -174,7 +183,7 @@ fn numbers_at(place: usize, rows: [u64; 64], count: usize) -> [u64; 8]
 
 // Writes entry `e` of a message.
 pub fn put_entry(e: usize, place: usize, numbers: [u64; 8], width: usize, plan: &mut [u32])
-    requires { ⌜ (e ≤ 64) × (width ≤ 8) ⌝ }
+    requires { ⌜ (e ≤ 512) × (width ≤ 8) ⌝ }
     ensures { λ _. ⌜ Loose (now (plan .entry)) (now (plan .exit)) ⌝ }
 {
     let at = plan_shapes::at_most(place, plan_memory::MOST_NUMBER) + width * e;
@@ -201,7 +210,7 @@ fn put_entries(
     let width = plan_shapes::width_of(d);
     let shape = part.shape;
     let place = shape.place;
-    let entries = plan_shapes::at_most(shape.entries, 64);
+    let entries = plan_shapes::at_most(shape.entries, plan_shapes::MOST_ENTRIES);
     let mut left = [MOST_REST; 64];
     let mut e: usize = 0;
     while e < entries {
@@ -223,9 +232,9 @@ fn part_at(g: usize, own: usize, before: branch_buckets::Span, sizes: &[u8], pla
     let first = before.last;
     let span = branch_buckets::Span {
         from,
-        to: branch_buckets::number_at(plan, at + 5),
+        to: branch_buckets::number_at(plan, at + 7),
         first,
-        last: branch_buckets::number_at(plan, at + 6),
+        last: branch_buckets::number_at(plan, at + 8),
     };
     let shape = plan_shapes::shape_at(g, sizes, plan);
     Part {
@@ -236,7 +245,8 @@ fn part_at(g: usize, own: usize, before: branch_buckets::Span, sizes: &[u8], pla
     }
 }
 
-// What a part holds at least for each value of the bucket's variable: an entry that stands for all pairs of values.
+// What a part holds at least for each value of the bucket's variable: an entry that stands for all combinations of
+// values.
 fn part_least(
     s: &[u8],
     sizes: &[u8],
@@ -250,8 +260,7 @@ fn part_least(
     let own = part.own;
     let span = part.span;
     let shape = part.shape;
-    let pairs = plan_shapes::at_most(shape.entries, 64) * plan_shapes::at_most(shape.share, 64);
-    let all = plan_shapes::constant_shape(shape.u, shape.v, shape.v_values, pairs, shape.place);
+    let all = plan_shapes::shape_over(shape.scope, 0, shape.place);
     let whole = Part {
         own,
         span,

@@ -1,29 +1,37 @@
 // Which variables a message has, as there is room, and where its numbers stand.
 ghost use Prim.Native.Nat.{_≤_, _<_};
 ghost use Rattle.model.specs.Limits.{maxVariables};
+ghost use Rattle.layout.specs.Places.{numbersAt};
 ghost use Rattle.branch_directions.specs.Directions.{Sensible};
 ghost use Rattle.plan_memory.specs.Arranged.{Loose};
 
 // No variable has this number: it stands for one that a message lacks.
 pub const NO_VARIABLE: usize = 255;
 
-// A message: its two variables, how many values the second has (one where it is missing), their strides,
-// how many entries there are, over how many pairs of values an entry is the least, and where the numbers start.
+// Three variables have at most so many combinations of values.
+pub const MOST_ENTRIES: usize = 512;
+
+// A variable and how many values it has. A missing one has one value.
+pub struct Variable {
+    pub number: usize,
+    pub values: usize,
+}
+
+// The variables of a part, from its first position on.
+pub struct Scope {
+    pub u: Variable,
+    pub v: Variable,
+    pub w: Variable,
+}
+
+// A message: the variables of its part, their strides (0 where it has no entries for a variable), how many entries
+// there are, over how many combinations of values an entry is the least, and where the numbers start.
 pub struct Shape {
-    pub u: usize,
-    pub v: usize,
-    pub v_values: usize,
-    pub u_stride: usize,
-    pub v_stride: usize,
+    pub scope: Scope,
+    pub strides: [usize; 3],
     pub entries: usize,
     pub share: usize,
     pub place: usize,
-}
-
-// A variable and how many values it has.
-struct Variable {
-    number: usize,
-    values: usize,
 }
 
 // The number, or `most` where it is larger.
@@ -63,37 +71,74 @@ pub fn room_from(at: usize, plan: &[u32]) -> usize {
     0
 }
 
-// A message without variables: one number in each direction, the least over so many pairs of values.
-pub fn constant_shape(u: usize, v: usize, v_values: usize, share: usize, place: usize) -> Shape {
+// How many combinations `x` values of one kind and `y` of another make.
+fn product(x: usize, y: usize) -> usize
+    ensures { λ n. ⌜ n ≤ 512 ⌝ }
+{
+    at_most(
+        at_most(x, MOST_ENTRIES) * at_most(y, MOST_ENTRIES),
+        MOST_ENTRIES,
+    )
+}
+
+// How many numbers so many entries have.
+fn numbers_of(entries: usize, width: usize) -> usize
+    requires { ⌜ width ≤ 8 ⌝ }
+    ensures { λ n. ⌜ n ≤ 4096 ⌝ }
+{
+    width * at_most(entries, MOST_ENTRIES)
+}
+
+// A message with entries for the first `kept` variables of a scope, the last of which runs fastest.
+pub fn shape_over(scope: Scope, kept: usize, place: usize) -> Shape {
+    let u = scope.u;
+    let v = scope.v;
+    let w = scope.w;
+    let pairs = product(v.values, w.values);
+    let mut strides = [0usize; 3];
+    let mut entries: usize = 1;
+    let mut share = product(u.values, pairs);
+    if kept == 1 {
+        strides = [1, 0, 0];
+        entries = u.values;
+        share = pairs;
+    }
+    if kept == 2 {
+        strides = [v.values, 1, 0];
+        entries = product(u.values, v.values);
+        share = w.values;
+    }
+    if 2 < kept {
+        strides = [pairs, w.values, 1];
+        entries = share;
+        share = 1;
+    }
     Shape {
-        u,
-        v,
-        v_values,
-        u_stride: 0,
-        v_stride: 0,
-        entries: 1,
+        scope,
+        strides,
+        entries,
         share,
         place,
     }
 }
 
-// A message over `u`, which has so many values, the least over so many of `v`.
-fn one_shape(u: usize, v: usize, values: usize, v_values: usize, place: usize) -> Shape {
-    Shape {
-        u,
-        v,
-        v_values,
-        u_stride: 1,
-        v_stride: 0,
-        entries: values,
-        share: v_values,
-        place,
-    }
+// A message of a part without variables.
+pub fn constant_shape(place: usize) -> Shape {
+    let none = Variable {
+        number: NO_VARIABLE,
+        values: 1,
+    };
+    let scope = Scope {
+        u: none,
+        v: none,
+        w: none,
+    };
+    shape_over(scope, 0, place)
 }
 
 // How many numbers there are for messages with variables:
 // those for a constant of each position up to `k` are kept back.
-fn room_for(k: usize, at: usize, width: usize, plan: &[u32]) -> usize
+pub fn room_for(k: usize, at: usize, width: usize, plan: &[u32]) -> usize
     requires { ⌜ (k < maxVariables) × (width ≤ 8) ⌝ }
 {
     let room = room_from(at, plan);
@@ -129,64 +174,73 @@ fn lowest(set: u32) -> usize
     k
 }
 
-// A message over `u` and `v`, or over the first of them, or over none, as there is room.
-fn pair_shape(u: Variable, v: Variable, width: usize, room: usize, at: usize, place: usize) -> Shape
-    requires { ⌜ (width ≤ 8) × (u .values ≤ 8) × (v .values ≤ 8) ⌝ }
-{
-    let du = u.values;
-    let dv = v.values;
-    let entries = du * dv;
-    if width * entries <= room {
-        return Shape {
-            u: u.number,
-            v: v.number,
-            v_values: dv,
-            u_stride: dv,
-            v_stride: 1,
-            entries,
-            share: 1,
-            place: at,
-        };
+// The variable of this number.
+fn variable_of(number: usize, sizes: &[u8]) -> Variable {
+    Variable {
+        number,
+        values: size_of(number, sizes),
     }
-    if width * du <= room {
-        return one_shape(u.number, v.number, du, dv, at);
-    }
-    constant_shape(u.number, v.number, dv, entries, place)
 }
 
-// The message of a part over the positions of `set`: over as many variables as there is room for, from the first
-// position on, at `at`; without any at `place`.
-fn shape_of(
-    set: u32,
-    width: usize,
-    room: usize,
-    at: usize,
-    place: usize,
-    sizes: &[u8],
-    plan: &[u32],
-) -> Shape
+// The variable at position `k`, or a missing one at 24.
+fn variable_at(k: usize, sizes: &[u8], plan: &[u32]) -> Variable
+    requires { ⌜ k ≤ maxVariables ⌝ }
+{
+    if k == 24 {
+        return variable_of(NO_VARIABLE, sizes);
+    }
+    variable_of(branch_buckets::variable_at(k, plan), sizes)
+}
+
+// The variables at the first three positions of a set.
+fn scope_of(set: u32, sizes: &[u8], plan: &[u32]) -> Scope {
+    let first = lowest(set);
+    let behind = set & !plan_memory::bit(first);
+    let second = lowest(behind);
+    let third = lowest(behind & !plan_memory::bit(second));
+    let u = variable_at(first, sizes, plan);
+    let v = variable_at(second, sizes, plan);
+    let w = variable_at(third, sizes, plan);
+    Scope { u, v, w }
+}
+
+// How many numbers the message of a part over the positions of `set` has where it has all its variables.
+pub fn numbers_over(set: u32, width: usize, sizes: &[u8], plan: &[u32]) -> usize
+    requires { ⌜ width ≤ 8 ⌝ }
+    ensures { λ n. ⌜ n ≤ 4096 ⌝ }
+{
+    let whole = shape_over(scope_of(set, sizes, plan), 3, 0);
+    numbers_of(whole.entries, width)
+}
+
+// Whether there is such a variable, and room for a message over it and those before it.
+fn has_room(variable: Variable, entries: usize, width: usize, room: usize) -> bool
     requires { ⌜ width ≤ 8 ⌝ }
 {
-    let low = lowest(set);
-    if low == 24 {
-        return constant_shape(NO_VARIABLE, NO_VARIABLE, 1, 1, place);
+    if variable.number == NO_VARIABLE {
+        return false;
     }
-    let u = branch_buckets::variable_at(low, plan);
-    let values = size_of(u, sizes);
-    let high = lowest(set & !plan_memory::bit(low));
-    if high == 24 {
-        if width * values <= room {
-            return one_shape(u, NO_VARIABLE, values, 1, at);
-        }
-        return constant_shape(u, NO_VARIABLE, 1, values, place);
+    numbers_of(entries, width) <= room
+}
+
+// How many variables of its part a message has, from the first on: as many as there is room for.
+fn kept_of(scope: Scope, width: usize, room: usize) -> usize
+    requires { ⌜ width ≤ 8 ⌝ }
+{
+    let u = scope.u;
+    let v = scope.v;
+    let w = scope.w;
+    let pairs = product(u.values, v.values);
+    if has_room(w, product(pairs, w.values), width, room) {
+        return 3;
     }
-    let v = branch_buckets::variable_at(high, plan);
-    let one = Variable { number: u, values };
-    let two = Variable {
-        number: v,
-        values: size_of(v, sizes),
-    };
-    pair_shape(one, two, width, room, at, place)
+    if has_room(v, pairs, width, room) {
+        return 2;
+    }
+    if has_room(u, u.values, width, room) {
+        return 1;
+    }
+    0
 }
 
 // The message of the part of position `k` over the positions of `set`, with its numbers from `at` on.
@@ -201,54 +255,64 @@ pub fn choose_shape(
 ) -> Shape
     requires { ⌜ (k < maxVariables) × (width ≤ 8) ⌝ }
 {
-    let room = room_for(k, at, width, plan);
-    let place = constant_place(is_last, at, width, plan);
-    shape_of(set, width, room, at, place, sizes, plan)
+    let scope = scope_of(set, sizes, plan);
+    let kept = kept_of(scope, width, room_for(k, at, width, plan));
+    if kept == 0 {
+        return shape_over(scope, 0, constant_place(is_last, at, width, plan));
+    }
+    shape_over(scope, kept, at)
+}
+
+// Writes a variable of a message and its stride.
+fn put_variable(at: usize, variable: Variable, stride: usize, plan: &mut [u32])
+    requires { ⌜ at ≤ numbersAt ⌝ }
+    ensures { λ _. ⌜ Loose (now (plan .entry)) (now (plan .exit)) ⌝ }
+{
+    plan_memory::put(at, variable.number, plan);
+    plan_memory::put(at + 1, stride, plan);
 }
 
 // Writes message `g`, whose part's records and slots end where said.
 pub fn put_message(g: usize, shape: Shape, records: usize, slots: usize, plan: &mut [u32])
     ensures { λ _. ⌜ Loose (now (plan .entry)) (now (plan .exit)) ⌝ }
 {
+    let scope = shape.scope;
+    let strides = shape.strides;
     if g < layout::MAX_MESSAGES {
         let at = layout::MESSAGES_AT + layout::MESSAGE_WIDTH * g;
         plan_memory::put(at, shape.place, plan);
-        plan_memory::put(at + 1, shape.u, plan);
-        plan_memory::put(at + 2, shape.u_stride, plan);
-        plan_memory::put(at + 3, shape.v, plan);
-        plan_memory::put(at + 4, shape.v_stride, plan);
-        plan_memory::put(at + 5, records, plan);
-        plan_memory::put(at + 6, slots, plan);
+        put_variable(at + 1, scope.u, strides[0], plan);
+        put_variable(at + 3, scope.v, strides[1], plan);
+        put_variable(at + 5, scope.w, strides[2], plan);
+        plan_memory::put(at + 7, records, plan);
+        plan_memory::put(at + 8, slots, plan);
     }
 }
 
-// Message `g` as it was written: with a stride it has entries for a variable, without one it is the least over it.
+// How many variables the message at `at` has entries for: those with a stride.
+fn kept_at(at: usize, plan: &[u32]) -> usize
+    requires { ⌜ at ≤ numbersAt ⌝ }
+{
+    if branch_buckets::number_at(plan, at + 2) == 0 {
+        return 0;
+    }
+    if branch_buckets::number_at(plan, at + 4) == 0 {
+        return 1;
+    }
+    if branch_buckets::number_at(plan, at + 6) == 0 {
+        return 2;
+    }
+    3
+}
+
+// Message `g` as it was written.
 pub fn shape_at(g: usize, sizes: &[u8], plan: &[u32]) -> Shape {
     let at = layout::MESSAGES_AT + layout::MESSAGE_WIDTH * at_most(g, layout::MAX_MESSAGES);
-    let place = branch_buckets::number_at(plan, at);
-    let u = branch_buckets::number_at(plan, at + 1);
-    let u_stride = branch_buckets::number_at(plan, at + 2);
-    let v = branch_buckets::number_at(plan, at + 3);
-    let v_stride = branch_buckets::number_at(plan, at + 4);
-    let values = size_of(u, sizes);
-    let v_values = size_of(v, sizes);
-    let pairs = values * v_values;
-    if u_stride == 0 {
-        return constant_shape(u, v, v_values, pairs, place);
-    }
-    if v_stride == 0 {
-        return one_shape(u, v, values, v_values, place);
-    }
-    Shape {
-        u,
-        v,
-        v_values,
-        u_stride,
-        v_stride,
-        entries: pairs,
-        share: 1,
-        place,
-    }
+    let u = variable_of(branch_buckets::number_at(plan, at + 1), sizes);
+    let v = variable_of(branch_buckets::number_at(plan, at + 3), sizes);
+    let w = variable_of(branch_buckets::number_at(plan, at + 5), sizes);
+    let kept = kept_at(at, plan);
+    shape_over(Scope { u, v, w }, kept, branch_buckets::number_at(plan, at))
 }
 
 // Where the next numbers go after those of a message.
@@ -258,5 +322,5 @@ pub fn numbers_end(shape: Shape, at: usize, width: usize) -> usize
     if shape.place == layout::NUMBERS_AT {
         return at;
     }
-    at_most(at, plan_memory::MOST_NUMBER) + width * at_most(shape.entries, 64)
+    at_most(at, plan_memory::MOST_NUMBER) + numbers_of(shape.entries, width)
 }

@@ -6,8 +6,9 @@ use Rattle.plan_making.proofs.send_constant.Tie as tie
 
 returns-4 : tie.Need-returns-4
 returns-4 c =
-    loose-trans (c .before .before .before .before .before .before .before .put-entry .ensures)
-    (c .before .before .before .put-message .ensures)
+    let message = c .before .before in
+    let entry = message .before .before .before .before in
+    loose-trans (entry .put-entry .ensures) (message .put-message .ensures)
 
 pub send-constant-spec : {M : Type 1} → statement M
 send-constant-spec =
@@ -27,9 +28,9 @@ send-constant-spec =
     (λ c. search needs)  -- same-length-3
     (λ c. search needs)  -- returns-3
     (λ c κs. search needs)  -- constant-shape-requires
+    (λ c κs. search needs)  -- numbers-end-requires
     (λ c κs. search needs)  -- put-entry-requires
     (λ c κs. search needs)  -- put-message-requires
     (λ c. search needs)  -- add-t16
-    (λ c κs. search needs)  -- numbers-end-requires
     (λ c. search needs)  -- same-length-4
     returns-4)

@@ -11,7 +11,7 @@ use Rattle.plan_numbers.proofs.put_entry.Statement.{statement}
 use Rattle.plan_numbers.proofs.put_entry.Tie as tie
 
 abbrev Inv-loop : tie.InvT-loop
-Inv-loop e place width plan₀ numbers at j₀ plan j = Loose plan₀ plan × (length numbers ≡ 8) × (at ≤ 4294967807)
+Inv-loop e place width plan₀ numbers at j₀ plan j = Loose plan₀ plan × (length numbers ≡ 8) × (at ≤ 4294971391)
 
 abbrev μ-loop : tie.MeasureT-loop
 μ-loop e place width plan₀ numbers at j₀ plan j = width - j
@@ -20,7 +20,7 @@ mul-at : tie.Need-mul-at Inv-loop μ-loop
 mul-at c =
     omega (
       arith,
-      product-small 8 64 (c .before .before .args .width) (c .before .before .args .e) (omega arith) (omega arith),
+      product-small 8 512 (c .before .before .args .width) (c .before .before .args .e) (omega arith) (omega arith),
     )
 
 add-at : tie.Need-add-at Inv-loop μ-loop
@@ -28,7 +28,7 @@ add-at c =
     omega (
       arith,
       c .at-most .ensures,
-      product-small 8 64 (c .before .before .args .width) (c .before .before .args .e) (omega arith) (omega arith),
+      product-small 8 512 (c .before .before .args .width) (c .before .before .args .e) (omega arith) (omega arith),
     )
 
 loop-holds : tie.Need-loop-holds Inv-loop μ-loop
@@ -39,7 +39,7 @@ loop-holds c =
       omega (
         arith,
         c .at-most .ensures,
-        product-small 8 64 (start .args .width) (start .args .e) (omega arith) (omega arith),
+        product-small 8 512 (start .args .width) (start .args .e) (omega arith) (omega arith),
       ),
     )
 
