@@ -78,12 +78,17 @@ fn are_short(ceilings: [u64; 4]) -> bool
     true
 }
 
-// The kind of a turn's plan.
-fn kind_of(turn: usize, best: Best) -> usize {
+// How the plan of a turn is made. All but the first are wide: most problems end with the first, which costs less to
+// make.
+fn making_of(turn: usize, best: Best) -> plan_making::Making {
+    let wide = 0 < turn;
     if turn < 4 {
-        return turn;
+        return plan_making::Making { kind: turn, wide };
     }
-    best.kind
+    plan_making::Making {
+        kind: best.kind,
+        wide,
+    }
 }
 
 // Whether a sum can be adapted to the ceilings: several objectives, and a ceiling that binds.
@@ -183,7 +188,7 @@ fn plan_source(
     sizes: &[u8],
     r: usize,
     d: branch_directions::Directions,
-    order: usize,
+    making: plan_making::Making,
     work: &mut [u32],
 ) -> bool
     requires { ⌜ Plannable r (now sizes) (now s) (now work) × Sensible d ⌝ }
@@ -192,7 +197,7 @@ fn plan_source(
         × (ok ≡ true → PlanSays d r (now (sizes .entry)) (now (s .entry)) (now (work .entry)) (now (work .exit))) ⌝ }
 {
     groups::copy_numbers(layout::SOURCE_AT, layout::PLAN_AT, r, work);
-    plan_making::make_plan(s, sizes, r, d, order, &mut work[layout::PLAN_AT..]);
+    plan_making::make_plan(s, sizes, r, d, making, &mut work[layout::PLAN_AT..]);
     plan_test::is_sound(s, sizes, r, d, &work[layout::PLAN_AT..])
 }
 
@@ -230,14 +235,13 @@ fn turn_sums(
     plan_sums::with_adapted(sums, shares, ranges)
 }
 
-// A plan with these sums and an order of this kind is made, tested and searched by. Where it fails its test the archive
-// is as it was.
+// A plan with these sums is made as asked, tested and searched by. Where it fails its test the archive is as it was.
 fn search_by(
     s: &[u8],
     sizes: &[u8],
     task: groups::Task,
     sums: branch_directions::Sums,
-    order: usize,
+    making: plan_making::Making,
     from: branch_search::Resume,
     work: &mut [u32],
 ) -> branch_search::Explored
@@ -246,19 +250,19 @@ fn search_by(
     ensures { λ e. ⌜ Turned task (now (sizes .entry)) (now (s .entry)) (now (work .entry)) (now (work .exit)) e ⌝ }
 {
     let d = branch_directions::choose_directions(task.objectives, sums);
-    if !plan_source(s, sizes, task.records, d, order, work) {
+    if !plan_source(s, sizes, task.records, d, making, work) {
         return branch_search::not_made(from.points);
     }
     branch_search::explore(from, s, sizes, task, d, work)
 }
 
-// One turn: the sums of a plan of this kind are found, and it is searched by.
+// One turn: the sums of a plan that is made so are found, and it is searched by.
 fn search_turn(
     s: &[u8],
     sizes: &[u8],
     task: groups::Task,
     ranges: plan_sums::Ranges,
-    kind: usize,
+    making: plan_making::Making,
     from: branch_search::Resume,
     work: &mut [u32],
 ) -> branch_search::Explored
@@ -266,9 +270,13 @@ fn search_turn(
         × Between (sourceProblem task (now sizes) (now s) (now work)) (task .room) (now work) (from .points) ⌝ }
     ensures { λ e. ⌜ Turned task (now (sizes .entry)) (now (s .entry)) (now (work .entry)) (now (work .exit)) e ⌝ }
 {
-    let sums = turn_sums(s, sizes, task, ranges, kind, work);
-    let order = order_of(kind, is_adaptable(task.objectives, ranges));
-    search_by(s, sizes, task, sums, order, from, work)
+    let sums = turn_sums(s, sizes, task, ranges, making.kind, work);
+    let order = order_of(making.kind, is_adaptable(task.objectives, ranges));
+    let ordered = plan_making::Making {
+        kind: order,
+        wide: making.wide,
+    };
+    search_by(s, sizes, task, sums, ordered, from, work)
 }
 
 // The turns of a search, each with the archive that the turn before has left.
@@ -288,17 +296,17 @@ fn take_turns(
     let mut points: usize = 0;
     let mut turn: usize = 0;
     while turn < TURNS {
-        let kind = kind_of(turn, best);
+        let making = making_of(turn, best);
         let budget = budget_of(turn);
         let from = branch_search::Resume { points, budget };
-        let explored = search_turn(s, sizes, task, ranges, kind, from, work);
+        let explored = search_turn(s, sizes, task, ranges, making, from, work);
         let effort = explored.effort;
         measures = measured(measures, budget, effort);
         if explored.decided {
             return Taken { explored, measures };
         }
         points = explored.count;
-        best = best_after(best, turn, kind, effort.done);
+        best = best_after(best, turn, making.kind, effort.done);
         turn += 1;
     }
     let explored = branch_search::not_made(points);

@@ -354,7 +354,8 @@ fn try_shares(
     let r = task.records;
     let tried = t.shares;
     let d = one_sum(task.objectives, tried, ranges);
-    plan_making::make_plan(s, sizes, r, d, kind, plan);
+    let making = plan_making::Making { kind, wide: false };
+    plan_making::make_plan(s, sizes, r, d, making, plan);
     let bound = root_bound(s, sizes, r, d, plan);
     let x = follow(s, sizes, r, d, plan);
     let v = costs_of(s, sizes, r, x, d, plan);

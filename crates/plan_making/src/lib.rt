@@ -4,7 +4,7 @@ ghost use mathlib.Core.Path.{_≡_};
 ghost use Prim.Native.Nat.{_≤_, _<_};
 ghost use lib.ListN.{length, take, drop};
 ghost use Rattle.model.specs.Basics.{All};
-ghost use Rattle.model.specs.Limits.{maxVariables};
+ghost use Rattle.model.specs.Limits.{maxVariables, maxTables};
 ghost use Rattle.problem.specs.Records.{Whole};
 ghost use Rattle.layout.specs.Places.{numbersAt, maxMessages, childrenAt};
 ghost use Rattle.branch_buckets.specs.Messages.{countFrom};
@@ -12,6 +12,12 @@ ghost use Rattle.branch_buckets.specs.Sound.{Rearranged};
 ghost use Rattle.branch_buckets.specs.Content.{Planned};
 ghost use Rattle.branch_directions.specs.Directions.{Sensible};
 ghost use Rattle.plan_memory.specs.Arranged.{Loose, Arranged};
+
+// How a plan is made: its kind says which order it has, and where it is wide, parts may have three positions.
+pub struct Making {
+    pub kind: usize,
+    pub wide: bool,
+}
 
 // How far the plan is made: records and slots that have a part, messages sent, where the next numbers go, and what is
 // left of the bucket's content for each value.
@@ -23,9 +29,10 @@ struct Made {
     rest: [u64; 64],
 }
 
-// A bucket: its position, and its records and slots.
+// A bucket: its position, whether its parts may have three positions, and its records and slots.
 struct Bucket {
     position: usize,
+    wide: bool,
     span: branch_buckets::Span,
 }
 
@@ -56,6 +63,68 @@ fn may_send(g: usize, k: usize, plan: &[u32]) -> bool
         return false;
     }
     plan_shapes::at_most(g, layout::MAX_MESSAGES) + 3 * k + 1 < layout::MAX_MESSAGES
+}
+
+// How many numbers the messages of parts have where each has all its variables.
+fn numbers_for(parts: plan_parts::Parts, width: usize, sizes: &[u8], plan: &[u32]) -> usize
+    requires { ⌜ width ≤ 8 ⌝ }
+{
+    let count = plan_shapes::at_most(parts.count, 64);
+    let sets = parts.sets;
+    let mut numbers: usize = 0;
+    let mut g: usize = 0;
+    while g < count {
+        numbers += plan_shapes::numbers_over(sets[g], width, sizes, plan);
+        g += 1;
+    }
+    numbers
+}
+
+// Whether position `k` may send a message for each part, with all its variables.
+fn may_send_all(
+    parts: plan_parts::Parts,
+    k: usize,
+    width: usize,
+    made: Made,
+    sizes: &[u8],
+    plan: &[u32],
+) -> bool
+    requires { ⌜ (k < maxVariables) × (width ≤ 8) ⌝ }
+{
+    let count = plan_shapes::at_most(parts.count, 64);
+    if count == 0 {
+        return true;
+    }
+    let last = plan_shapes::at_most(made.messages, layout::MAX_MESSAGES) + (count - 1);
+    if !may_send(last, k, plan) {
+        return false;
+    }
+    let room = plan_shapes::room_for(k, made.numbers, width, plan);
+    numbers_for(parts, width, sizes, plan) <= room
+}
+
+// The parts of a bucket: of at most three positions where that is wanted and all messages can have all their variables,
+// and otherwise of at most two.
+fn parts_of(
+    s: &[u8],
+    sizes: &[u8],
+    bucket: Bucket,
+    d: branch_directions::Directions,
+    made: Made,
+    plan: &[u32],
+) -> plan_parts::Parts
+    requires { ⌜ Sensible d × (bucket .position < maxVariables) ⌝ }
+{
+    let k = bucket.position;
+    let span = bucket.span;
+    let own = plan_memory::bit(k);
+    if bucket.wide {
+        let parts = plan_parts::make_parts(s, own, span, 3, plan);
+        if may_send_all(parts, k, plan_shapes::width_of(d), made, sizes, plan) {
+            return parts;
+        }
+    }
+    plan_parts::make_parts(s, own, span, 2, plan)
 }
 
 // Writes the message of a part but for its numbers: of the bucket's records and slots from those made on it has those
@@ -114,8 +183,7 @@ fn lay_parts(
     requires { ⌜ Planned d r (now sizes) (now s) (now plan) × (bucket .position < maxVariables) ⌝ }
     ensures { λ _. ⌜ Arranged r (now (plan .entry)) (now (plan .exit)) ⌝ }
 {
-    let span = bucket.span;
-    let parts = plan_parts::make_parts(s, plan_memory::bit(bucket.position), span, plan);
+    let parts = parts_of(s, sizes, bucket, d, made, plan);
     let count = plan_shapes::at_most(parts.count, 64);
     let sets = parts.sets;
     let mut laid = made;
@@ -227,38 +295,52 @@ fn send_constant(
     }
 }
 
-// Position `k` takes the records and the messages that only earlier positions share with it,
-// and sends its own messages.
+// Position `k` takes the records and the messages that only earlier positions share with it.
+fn take_bucket(s: &[u8], r: usize, k: usize, wide: bool, made: Made, plan: &mut [u32]) -> Bucket
+    requires { ⌜ r ≤ maxTables ⌝ }
+    ensures { λ b. ⌜ Arranged r (now (plan .entry)) (now (plan .exit)) × (b .position ≡ k) ⌝ }
+{
+    let own = plan_memory::bit(k);
+    let from = made.records;
+    let first = made.slots;
+    let to = plan_memory::gather_records(s, own, 4294967295, from, r, r, plan);
+    let last = plan_memory::gather_slots(own, 4294967295, first, made.messages, r, plan);
+    let span = branch_buckets::Span {
+        from,
+        to,
+        first,
+        last,
+    };
+    Bucket {
+        position: k,
+        wide,
+        span,
+    }
+}
+
+// A bucket sends its messages.
 fn make_bucket(
     s: &[u8],
     sizes: &[u8],
     r: usize,
-    k: usize,
+    bucket: Bucket,
     d: branch_directions::Directions,
     made: Made,
     plan: &mut [u32],
 ) -> Made
-    requires { ⌜ Planned d r (now sizes) (now s) (now plan) × (k < maxVariables) ⌝ }
+    requires { ⌜ Planned d r (now sizes) (now s) (now plan) × (bucket .position < maxVariables) ⌝ }
     ensures { λ _. ⌜ Arranged r (now (plan .entry)) (now (plan .exit)) ⌝ }
 {
-    let own = plan_memory::bit(k);
-    let records = plan_memory::gather_records(s, own, 4294967295, made.records, r, r, plan);
-    let slots = plan_memory::gather_slots(own, 4294967295, made.slots, made.messages, r, plan);
-    let span = branch_buckets::Span {
-        from: made.records,
-        to: records,
-        first: made.slots,
-        last: slots,
-    };
-    let bucket = Bucket { position: k, span };
+    let k = bucket.position;
+    let span = bucket.span;
     let sent = send_parts(s, sizes, r, bucket, d, made, plan);
-    let last = send_constant(k, sizes, d, sent, plan);
-    put_ends(k, records, slots, last.messages, plan);
+    let end = send_constant(k, sizes, d, sent, plan);
+    put_ends(k, span.to, span.last, end.messages, plan);
     Made {
-        records,
-        slots,
-        messages: last.messages,
-        numbers: last.numbers,
+        records: span.to,
+        slots: span.last,
+        messages: end.messages,
+        numbers: end.numbers,
         rest: [0u64; 64],
     }
 }
@@ -270,6 +352,7 @@ fn make_buckets(
     sizes: &[u8],
     r: usize,
     d: branch_directions::Directions,
+    wide: bool,
     plan: &mut [u32],
 )
     requires { ⌜ Planned d r (now sizes) (now s) (now plan) ⌝ }
@@ -287,7 +370,8 @@ fn make_buckets(
     let mut k = n;
     while 0 < k {
         k -= 1;
-        made = make_bucket(s, sizes, r, k, d, made, plan);
+        let bucket = take_bucket(s, r, k, wide, made, plan);
+        made = make_bucket(s, sizes, r, bucket, d, made, plan);
     }
     plan_memory::put(layout::MESSAGE_ENDS_AT, layout::MAX_MESSAGES, plan);
     end_messages(made, plan);
@@ -307,13 +391,13 @@ fn end_messages(made: Made, plan: &mut [u32])
     }
 }
 
-// Makes a plan of `r` records, whose places are its first numbers. Its kind says which order it has.
+// Makes a plan of `r` records, whose places are its first numbers.
 pub fn make_plan(
     s: &[u8],
     sizes: &[u8],
     r: usize,
     d: branch_directions::Directions,
-    kind: usize,
+    making: Making,
     plan: &mut [u32],
 )
     requires { ⌜ Planned d r (now sizes) (now s) (now plan) × (numbersAt ≤ length (now plan)) ⌝ }
@@ -323,6 +407,6 @@ pub fn make_plan(
         × Rearranged (countFrom 0 maxMessages) (take maxMessages (drop childrenAt (now (plan .exit)))) ⌝ }
 {
     plan_memory::fill_slots(plan);
-    plan_order::set_order(s, sizes, r, kind, plan);
-    make_buckets(s, sizes, r, d, plan);
+    plan_order::set_order(s, sizes, r, making.kind, plan);
+    make_buckets(s, sizes, r, d, making.wide, plan);
 }

@@ -1,16 +1,17 @@
-// The parts of a bucket: sets of at most two earlier positions that cover what its records and messages read.
+// The parts of a bucket: sets of a few earlier positions that cover what its records and messages read.
 ghost use Prim.Native.Nat.{_≤_};
 
-// Parts of a bucket: so many sets of earlier positions, of at most two each; zeros behind them.
+// Parts of a bucket: so many sets of earlier positions, of at most `most` each; zeros behind them.
 pub struct Parts {
+    pub most: u32,
     pub count: usize,
     pub sets: [u32; 64],
 }
 
-// Whether a part covers the set, or can take it in.
-fn is_part_for(part: u32, set: u32, join: bool) -> bool {
+// Whether a part covers the set, or can take it in, so that it has at most `most` positions.
+fn is_part_for(part: u32, set: u32, join: bool, most: u32) -> bool {
     if join {
-        return u32::count_ones(part | set) <= 2;
+        return u32::count_ones(part | set) <= most;
     }
     part | set == part
 }
@@ -19,6 +20,7 @@ fn is_part_for(part: u32, set: u32, join: bool) -> bool {
 fn find_part(set: u32, join: bool, parts: Parts) -> usize
     ensures { λ g. ⌜ g ≤ 64 ⌝ }
 {
+    let most = parts.most;
     let count = parts.count;
     let sets = parts.sets;
     let mut g: usize = 0;
@@ -26,7 +28,7 @@ fn find_part(set: u32, join: bool, parts: Parts) -> usize
         if count <= g {
             return g;
         }
-        if is_part_for(sets[g], set, join) {
+        if is_part_for(sets[g], set, join, most) {
             return g;
         }
         g += 1;
@@ -47,9 +49,17 @@ fn cover(set: u32, parts: Parts) -> Parts {
     let mut sets = parts.sets;
     sets[g] = sets[g] | set;
     if g < count {
-        return Parts { count, sets };
+        return Parts {
+            most: parts.most,
+            count,
+            sets,
+        };
     }
-    Parts { count: g + 1, sets }
+    Parts {
+        most: parts.most,
+        count: g + 1,
+        sets,
+    }
 }
 
 // Parts for the records of a span with `size` positions besides `own`.
@@ -97,9 +107,17 @@ fn cover_slots(
     all
 }
 
-// The parts of a bucket with this span, large functions first. `own` is its position.
-pub fn make_parts(s: &[u8], own: u32, span: branch_buckets::Span, plan: &[u32]) -> Parts {
+// The parts of a bucket with this span, large functions first: sets of at most `most` positions, two or three. `own` is
+// its position. No record and no message reads more than two others.
+pub fn make_parts(
+    s: &[u8],
+    own: u32,
+    span: branch_buckets::Span,
+    most: u32,
+    plan: &[u32],
+) -> Parts {
     let none = Parts {
+        most,
         count: 0,
         sets: [0u32; 64],
     };

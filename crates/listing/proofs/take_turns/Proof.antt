@@ -112,7 +112,7 @@ take-turns-spec =
     μ-loop
     (λ c κs. search needs)  -- unmeasured-requires
     loop-holds
-    (λ c κs. search needs)  -- kind-of-requires
+    (λ c κs. search needs)  -- making-of-requires
     (λ c κs. search needs)  -- budget-of-requires
     search-turn-requires
     (λ c κs. search needs)  -- measured-requires

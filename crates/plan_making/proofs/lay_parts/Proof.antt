@@ -17,9 +17,8 @@ abbrev μ-loop : tie.MeasureT-loop
 lay-part-requires : tie.Need-lay-part-requires Inv-loop μ-loop
 lay-part-requires c κs =
     let at-loop = c .before .before in
-    let made = at-loop .before .before .before .before in
-    let known = made .before .before .before .before in
-    let start = known .before .before in
+    let asked = at-loop .before .before .before .before in
+    let start = asked .before .before .before .before in
     (planned-arranged (start .pre .0) (at-loop .loop .inv .0), start .pre .1)
 
 loop-again : tie.Need-loop-again Inv-loop μ-loop
@@ -34,8 +33,7 @@ lay-parts-spec =
     (tie.spec
     Inv-loop
     μ-loop
-    (λ c κs. search needs)  -- bit-requires
-    (λ c κs. search needs)  -- make-parts-requires
+    (λ c κs. search needs)  -- parts-of-requires
     (λ c κs. search needs)  -- at-most-requires
     (λ c. (arranged-refl _ _, search needs))  -- loop-holds
     (λ c. search needs)  -- mul-set

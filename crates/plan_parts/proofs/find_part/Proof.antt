@@ -7,10 +7,10 @@ use Rattle.plan_parts.proofs.find_part.Statement.{statement}
 use Rattle.plan_parts.proofs.find_part.Tie as tie
 
 abbrev Inv-loop : tie.InvT-loop
-Inv-loop set join count sets g₀ g = (length sets ≡ 64) × (g ≤ 64)
+Inv-loop set join most count sets g₀ g = (length sets ≡ 64) × (g ≤ 64)
 
 abbrev μ-loop : tie.MeasureT-loop
-μ-loop set join count sets g₀ g = 64 - g
+μ-loop set join most count sets g₀ g = 64 - g
 
 pub find-part-spec : {M : Type 1} → statement M
 find-part-spec =
