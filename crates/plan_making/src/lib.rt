@@ -19,6 +19,9 @@ pub struct Making {
     pub wide: bool,
 }
 
+// Parts of three positions may need so many even shares of the room.
+const MOST_SHARES: usize = 4;
+
 // How far the plan is made: records and slots that have a part, messages sent, where the next numbers go, and what is
 // left of the bucket's content for each value.
 struct Made {
@@ -80,7 +83,8 @@ fn numbers_for(parts: plan_parts::Parts, width: usize, sizes: &[u8], plan: &[u32
     numbers
 }
 
-// Whether position `k` may send a message for each part, with all its variables.
+// Whether position `k` may send a message for each part, with all its variables. They may need a few times the
+// position's even share of the room: the positions before it need room too.
 fn may_send_all(
     parts: plan_parts::Parts,
     k: usize,
@@ -100,7 +104,11 @@ fn may_send_all(
         return false;
     }
     let room = plan_shapes::room_for(k, made.numbers, width, plan);
-    numbers_for(parts, width, sizes, plan) <= room
+    let numbers = numbers_for(parts, width, sizes, plan);
+    if room < numbers {
+        return false;
+    }
+    numbers / MOST_SHARES <= room / (k + 1)
 }
 
 // The parts of a bucket: of at most three positions where that is wanted and all messages can have all their variables,
