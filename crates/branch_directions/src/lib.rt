@@ -256,13 +256,13 @@ fn weights_for(sums: Sums) -> [u64; 16]
 fn some_sums(count: usize) -> usize
     ensures { λ c. ⌜ (1 ≤ c) × (c ≤ maxSums) ⌝ }
 {
-    if count < 1 {
-        return 1;
-    }
     if 4 < count {
         return 4;
     }
-    count
+    if 0 < count {
+        return count;
+    }
+    1
 }
 
 // Directions for `p` objectives with these sums, of which one objective has none. Only the speed depends on them.

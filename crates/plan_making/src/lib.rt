@@ -20,7 +20,7 @@ pub struct Making {
 }
 
 // Parts of three positions may need so many even shares of the room.
-const MOST_SHARES: usize = 4;
+const MOST_SHARES: usize = 2;
 
 // How far the plan is made: records and slots that have a part, messages sent, where the next numbers go, and what is
 // left of the bucket's content for each value.
@@ -83,8 +83,8 @@ fn numbers_for(parts: plan_parts::Parts, width: usize, sizes: &[u8], plan: &[u32
     numbers
 }
 
-// Whether position `k` may send a message for each part, with all its variables. They may need a few times the
-// position's even share of the room: the positions before it need room too.
+// Whether position `k` may send a message for each part, with all its variables. They may need twice the position's even
+// share of the room: the positions before it need room too.
 fn may_send_all(
     parts: plan_parts::Parts,
     k: usize,

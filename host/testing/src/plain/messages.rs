@@ -1,4 +1,4 @@
-//! Messages: what a bucket costs at least, as functions of at most two earlier variables, which
+//! Messages: what a bucket costs at least, as functions of at most three earlier variables, which
 //! the buckets of these variables receive. So each bucket knows of the costs that come after it.
 //!
 //! For every choice and in every direction, what a bucket sends (its messages and its constant) is
@@ -16,10 +16,15 @@ const MOST_NUMBER: u64 = u32::MAX as u64;
 /// A bucket has at most this many parts; what is in none of them is not bounded.
 const MOST_PARTS: usize = 64;
 
-/// Sends the messages of all buckets, from the last to the first.
+/// Messages over three variables may need so many even shares of the memory that is left: the
+/// positions before need memory too.
+const MOST_SHARES: usize = 2;
+
+/// Sends the messages of all buckets, over at most `width` variables, from the last to the first.
 pub fn send_all<const D: usize>(
     buckets: &mut [Bucket<D>],
     sizes: &[usize],
+    width: usize,
     directions: &Directions,
     settings: &Settings,
 ) {
@@ -35,7 +40,7 @@ pub fn send_all<const D: usize>(
         messages: settings.messages,
     };
     for position in (0..buckets.len()).rev() {
-        sender.send(buckets, position, settings.width);
+        sender.send(buckets, position, width);
     }
 }
 
@@ -47,7 +52,7 @@ fn least<const D: usize>(one: &Vector<D>, other: &Vector<D>) -> Vector<D> {
 /// A part of a bucket: its functions over these earlier variables become one message.
 struct Part {
     set: VariableSet,
-    /// The earlier variables in search order, at most two.
+    /// The earlier variables in search order, at most three.
     variables: Vec<usize>,
     /// The message is over so many of them, the first ones.
     kept: usize,
@@ -151,8 +156,13 @@ impl Sender<'_> {
         }
     }
 
-    /// The parts with the widest messages that the memory allows.
-    fn widest_parts<const D: usize>(&self, functions: &[Function<D>], most: usize) -> Vec<Part> {
+    /// The parts of a position with the widest messages that the memory allows.
+    fn widest_parts<const D: usize>(
+        &self,
+        functions: &[Function<D>],
+        position: usize,
+        most: usize,
+    ) -> Vec<Part> {
         if self.by_part {
             return self.shared_out(self.parts(functions, most));
         }
@@ -160,7 +170,13 @@ impl Sender<'_> {
             let parts = self.parts(functions, width);
             let numbers: usize = parts.iter().map(|part| self.numbers_of(part)).sum();
             let messages = parts.iter().filter(|part| part.kept > 0).count();
-            if numbers <= self.numbers && messages <= self.messages {
+            let room = match width {
+                3 => self
+                    .numbers
+                    .min(MOST_SHARES * self.numbers / (position + 1)),
+                _ => self.numbers,
+            };
+            if numbers <= room && messages <= self.messages {
                 return parts;
             }
         }
@@ -182,7 +198,7 @@ impl Sender<'_> {
 
     /// Sends the messages and the constant of one bucket.
     fn send<const D: usize>(&mut self, buckets: &mut [Bucket<D>], position: usize, width: usize) {
-        let parts = self.widest_parts(&buckets[position].functions, width);
+        let parts = self.widest_parts(&buckets[position].functions, position, width);
         let size = buckets[position].size;
         let nothing = [[0; D]; MAX_DOMAIN];
         let (mut rest, mut constant) = (nothing, [0; D]);

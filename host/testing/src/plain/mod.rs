@@ -113,10 +113,14 @@ struct Task<'a> {
     end: Option<Duration>,
 }
 
-/// Positions that may be opened in each turn but the last, in parts of the setting `budget`: three
+/// Positions that may be opened in each turn but the last, in parts of the setting `budget`: four
 /// kinds of plan in turn, and then the one that came furthest to its end. The first one answers most
-/// problems, and the three together cost no more than a fraction of a second.
-const BUDGETS: [u64; MOST_TURNS - 1] = [4, 1, 1];
+/// problems, and the four together cost no more than a fraction of a second.
+const BUDGETS: [u64; MOST_TURNS - 1] = [4, 1, 1, 1];
+
+/// Messages of the first plan are over at most so many variables: it costs less to make, and most
+/// problems end with it.
+const FIRST_WIDTH: usize = 2;
 
 /// Which kind of plan came furthest, and how far.
 struct Furthest {
@@ -133,7 +137,7 @@ impl Task<'_> {
         for turn in 0..self.settings.turns {
             let kind = self.kind(turn, &furthest);
             let directions = self.directions(kind);
-            let (buckets, base) = self.plan::<D>(&directions, self.rule(kind));
+            let (buckets, base) = self.plan::<D>(&directions, self.rule(kind), self.width(turn));
             let mut search = Search::new(&buckets, &directions, self.settings, self.room, self.end);
             search.archive.points = with_sums(points, &directions);
             if let (true, Some(parts)) = (turn + 1 < self.settings.turns, BUDGETS.get(turn)) {
@@ -162,22 +166,37 @@ impl Task<'_> {
 
     /// The kind of plan in a turn: each in turn, and then the one that came furthest.
     fn kind(&self, turn: usize, furthest: &Furthest) -> usize {
-        match (self.settings.kinds, turn) {
-            (false, _) => 0,
-            (true, 0..=2) => turn,
-            (true, _) => furthest.kind,
+        match self.settings.kinds {
+            false => 0,
+            true if turn + 1 < self.settings.turns => turn,
+            true => furthest.kind,
         }
+    }
+
+    /// How many variables a message of a turn's plan may have.
+    fn width(&self, turn: usize) -> usize {
+        match turn {
+            0 => self.settings.width.min(FIRST_WIDTH),
+            _ => self.settings.width,
+        }
+    }
+
+    /// Whether plans of the fourth kind have one sum alone: several objectives, and a ceiling that
+    /// binds. With fewer directions there is room for wider messages.
+    fn has_one_sum(&self) -> bool {
+        self.problem.objectives() > 1 && self.extent.binds && self.settings.slacks
     }
 
     /// The directions of a kind of plan.
     fn directions(&self, kind: usize) -> Directions {
         let settings = self.settings;
-        let by = match kind {
-            _ if !self.extent.binds || !settings.slacks => Weighting::Spreads,
-            1 => Weighting::Slacks,
-            _ => Weighting::OneBySlacks,
+        let (by, sums) = match kind {
+            _ if !self.extent.binds || !settings.slacks => (Weighting::Spreads, settings.sums),
+            1 => (Weighting::Slacks, settings.sums),
+            3 => (Weighting::Slacks, settings.sums.min(1)),
+            _ => (Weighting::OneBySlacks, settings.sums),
         };
-        Directions::new(&self.extent, self.problem.objectives(), settings.sums, by)
+        Directions::new(&self.extent, self.problem.objectives(), sums, by)
     }
 
     /// The rule for the order of a kind of plan.
@@ -186,6 +205,7 @@ impl Task<'_> {
             _ if !self.settings.min_degree => Rule::Natural,
             0 => Rule::LastOfFewest,
             1 => Rule::FirstOfFewest,
+            3 if !self.has_one_sum() => Rule::Natural,
             _ => Rule::LeastFill,
         }
     }
@@ -195,11 +215,12 @@ impl Task<'_> {
         &self,
         directions: &Directions,
         rule: Rule,
+        width: usize,
     ) -> (Vec<Bucket<D>>, Vector<D>) {
         let order = search_order(self.problem, rule);
         let (mut buckets, mut base) = fill_buckets::<D>(self.problem, &order, directions);
         let sizes = domain_sizes(self.problem);
-        send_all(&mut buckets, &sizes, directions, self.settings);
+        send_all(&mut buckets, &sizes, width, directions, self.settings);
         for bucket in &buckets {
             for (number, more) in base.iter_mut().zip(&bucket.constant) {
                 *number += more;

@@ -14,17 +14,17 @@ pub struct Settings {
     pub by_part: bool,
     /// What a message leaves of its part of a bucket goes on to the next part.
     pub rest: bool,
-    /// A message is over at most this many earlier variables.
+    /// A message is over at most this many earlier variables, in the first plan over at most two.
     pub width: usize,
     /// The parts of a bucket share alike what they have at least.
     pub shared: bool,
     /// Min-degree order instead of the natural one.
     pub min_degree: bool,
-    /// So many plans are tried in turn; the last one is followed to its end.
+    /// So many plans are tried in turn; the last one, of the kind that came furthest, is followed to its end.
     pub turns: usize,
     /// A plan in turn may open so many positions, or a few times as many.
     pub budget: usize,
-    /// Plans in turn have orders and weights of three kinds.
+    /// Plans in turn have orders and weights of up to four kinds.
     pub kinds: bool,
     /// Where a ceiling binds, one sum is weighted by what the ceilings leave.
     pub slacks: bool,
@@ -39,10 +39,10 @@ pub struct Settings {
 }
 
 /// A message is over at most this many earlier variables.
-pub const MOST_WIDTH: usize = 2;
+pub const MOST_WIDTH: usize = 3;
 
 /// There are at most this many turns.
-pub const MOST_TURNS: usize = 4;
+pub const MOST_TURNS: usize = 5;
 
 /// There are at most this many sums.
 pub const MOST_SUMS: usize = 4;
@@ -53,12 +53,12 @@ pub const SETTINGS: &str =
   messages=N         at most N messages (160)
   memory=bucket|part messages of a bucket are alike wide, or each as wide as it can be (bucket)
   rest=yes|no        what a message leaves goes on to the next part of its bucket (yes)
-  width=0|1|2        a message is over at most so many variables (2)
+  width=0|1|2|3      a message is over at most so many variables, of the first plan two (3)
   parts=shared|alone what the parts of a bucket have at least is shared alike (shared)
   order=min-degree|natural
-  turns=1..4         so many plans in turn, the last one without a budget (4)
+  turns=1..5         so many plans in turn, the last one without a budget (5)
   budget=N           a plan in turn may open N positions, or a few times as many (50000)
-  kinds=three|one    plans in turn have other orders and weights (three)
+  kinds=four|one     plans in turn have other orders and weights (four)
   slacks=yes|no      a sum by what the ceilings leave, where one binds (yes)
   values=sorted|natural
   zones=N            at most N search zones (128)
@@ -110,7 +110,7 @@ impl Settings {
             "parts" => self.shared = first_of(change, value, ["shared", "alone"])?,
             "turns" => self.turns = number_in(change, value, 1..=MOST_TURNS)?,
             "budget" => self.budget = number_in(change, value, 1..=1 << 32)?,
-            "kinds" => self.kinds = first_of(change, value, ["three", "one"])?,
+            "kinds" => self.kinds = first_of(change, value, ["four", "one"])?,
             "slacks" => self.slacks = first_of(change, value, ["yes", "no"])?,
             "order" => self.min_degree = first_of(change, value, ["min-degree", "natural"])?,
             "values" => self.sorted = first_of(change, value, ["sorted", "natural"])?,
