@@ -32,8 +32,8 @@ pub struct Directions {
     pub weights: [u64; 16],
 }
 
-// What the weights of up to four sums are made from, four numbers in a row: the share of each objective in each sum, and
-// the range that it is divided by. There are `count` sums.
+// What the weights of up to four sums are made from, four numbers in a row: the share of each objective in each sum,
+// and the range that it is divided by. There are `count` sums.
 pub struct Sums {
     pub shares: [u64; 16],
     pub ranges: [u64; 16],

@@ -83,8 +83,8 @@ fn numbers_for(parts: plan_parts::Parts, width: usize, sizes: &[u8], plan: &[u32
     numbers
 }
 
-// Whether position `k` may send a message for each part, with all its variables. They may need twice the position's even
-// share of the room: the positions before it need room too.
+// Whether position `k` may send a message for each part, with all its variables. They may need twice the position's
+// even share of the room: the positions before it need room too.
 fn may_send_all(
     parts: plan_parts::Parts,
     k: usize,

@@ -592,7 +592,8 @@ module _ (t : ℕ) where
     tests :
         {work′ : List ℕ} {run′ : DP.Progress} {leads : List ℕ} →
         Trying (first .args .aim .d) (first .args .aim .task) (ds first) (now (first .args .s))
-        (now (first .args .work)) (c .count-opened .result) (first .args .node) work′ run′ leads → Searched (first .args .aim .d) work′ run′
+        (now (first .args .work)) (c .count-opened .result) (first .args .node) work′ run′ leads →
+        Searched (first .args .aim .d) work′ run′
     tests w = running-searched (first .pre .1 .0 .ready) four (w .still) (w .running)
 
   open-position-slice-aggregate-reach-of :
