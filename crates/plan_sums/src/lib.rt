@@ -1,6 +1,5 @@
-// Which sums a plan has: the shares of the objectives in them, and the ranges that they are divided by. By its number
-// among the plans of a search a plan has others, so that what one plan does not prune another may. Nothing is promised
-// of them.
+// Which sums a plan has: the shares of the objectives in them, and the ranges that they are divided by. A plan of
+// another kind has others, so that what one plan does not prune another may. Nothing is promised of them.
 ghost use Prim.Native.Nat.{_≤_};
 ghost use Rattle.model.specs.Limits.{maxObjectives};
 
