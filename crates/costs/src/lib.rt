@@ -138,7 +138,7 @@ pub struct Run {
 }
 
 // The entries of the record at `at` that agree with the prefix, where they stand in a row, else a run of 0.
-// They do where no free variable comes before a fixed one: the last scope variable runs fastest.
+// They do where no free variable is written before a fixed one: the variable that is written last runs fastest.
 pub fn run_at(s: &[u8], at: usize, sizes: &[u8], prefix: &[u8]) -> Run
     requires { ⌜ Whole (now sizes) (now s) at × All DomainSize (now sizes)
         × (prefixOk (now sizes) (now prefix) ≡ true) ⌝ }

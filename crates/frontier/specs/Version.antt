@@ -2,7 +2,7 @@
 use Prim.Native.Nat.{ℕ, _+_, _*_}
 
 abbrev pub major : ℕ
-major = 1
+major = 2
 
 abbrev pub minor : ℕ
 minor = 0

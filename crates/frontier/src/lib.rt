@@ -5,7 +5,7 @@ ghost use Rattle.frontier.specs.Says.{asPoints, SolveExports, ListExport
 ghost use Rattle.frontier.specs.Version.{version};
 
 // The version of the interface; include/frontier.h has the same three numbers.
-const VERSION_MAJOR: u32 = 1;
+const VERSION_MAJOR: u32 = 2;
 
 const VERSION_MINOR: u32 = 0;
 

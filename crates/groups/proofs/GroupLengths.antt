@@ -11,10 +11,11 @@ use borrow.Author.Tests.{eqb-true, ne-eqb}
 use borrow.Author.Count.{below-more}
 use Rattle.model.specs.Basics.{All, when}
 use Rattle.model.specs.Limits.{maxArity}
+use Rattle.model.specs.Problems.{hasVariable}
 use Rattle.model.specs.Reading.{tableScope}
 use Rattle.model.proofs.Bits.{keep-length}
 use Rattle.problem.specs.Records.{Whole}
-use Rattle.groups.specs.Groups.{hasVariable, groupOf}
+use Rattle.groups.specs.Groups.{groupOf}
 use Rattle.problem.proofs.Scopes.{scope-few}
 
 unfoldable pub lengthTo : List ℕ → List ℕ → ℕ → ℕ

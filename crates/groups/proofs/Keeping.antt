@@ -8,9 +8,10 @@ use native.Mathlib.Numerals.{add-one}
 use lib.ListN.{length, getD, take, drop, length-append, take-append-drop}
 use lib.Seq.{take-suc}
 use Rattle.model.specs.Basics.{All, keepIf}
+use Rattle.model.specs.Problems.{hasVariable}
 use Rattle.model.specs.Reading.{tableScope}
 use Rattle.model.proofs.Bits.{keep-append, keep-all, keep-few}
-use Rattle.groups.specs.Groups.{hasVariable, groupOf}
+use Rattle.groups.specs.Groups.{groupOf}
 
 -- `of` keeps, in order, the numbers that pass the test
 pub record Keeps (test : ℕ → Bool) (of : List ℕ → List ℕ) : Type 0 where

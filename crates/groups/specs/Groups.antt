@@ -1,21 +1,15 @@
 -- Which records a variable touches: its group has, in order, the records whose scope has the variable.
 use mathlib.Core.Path.{_≡_}
-use mathlib.Core.Bool.{Bool, false, _||_}
 use mathlib.Core.List.{List, [], _∷_}
 use Prim.Native.Nat.{ℕ, _+_, _-_, _≤_, _<_}
-use lib.Dec.{eqb}
 use lib.ListN.{length, getD, take, drop}
 use Rattle.model.specs.Basics.{All, keepIf}
 use Rattle.model.specs.Limits.{maxTables, maxVariables}
-use Rattle.model.specs.Problems.{Table, DomainSize}
+use Rattle.model.specs.Problems.{Table, DomainSize, hasVariable}
 use Rattle.model.specs.Reading.{tableScope}
 use Rattle.problem.specs.Records.{Whole}
 use Rattle.costs.specs.Entries.{tableAt}
 use Rattle.layout.specs.Layout.{groupsAt, recordsAt, searchEnd}
-
-unfoldable pub hasVariable : ℕ → List ℕ → Bool
-hasVariable v [] = false
-hasVariable v (w ∷ ws) = eqb w v || hasVariable v ws
 
 -- the places of the records whose scope has v
 unfoldable pub groupOf : List ℕ → ℕ → List ℕ → List ℕ

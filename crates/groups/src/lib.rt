@@ -8,12 +8,11 @@ ghost use lib.ListN.{length, take, drop};
 ghost use Rattle.model.specs.Basics.{All};
 ghost use Rattle.model.specs.Limits.{maxTables, maxObjectives};
 ghost use Rattle.model.specs.Problems.{DomainSize};
-ghost use Rattle.model.specs.Reading.{tableScope};
 ghost use Rattle.model.specs.Costs.{totalsFrom};
 ghost use Rattle.model.specs.Bounds.{prefixOk, leastOf};
-ghost use Rattle.problem.specs.Records.{Headed, Whole};
+ghost use Rattle.problem.specs.Records.{Whole};
 ghost use Rattle.layout.specs.Layout.{groupsAt, recordsAt};
-ghost use Rattle.groups.specs.Groups.{hasVariable, groupOf, tablesOver, placesIn, Placed, Grouped};
+ghost use Rattle.groups.specs.Groups.{groupOf, tablesOver, placesIn, Placed, Grouped};
 
 // What is searched: so many records placed in work memory, so many objectives, their ceilings, and how many points
 // there is room for.
@@ -22,22 +21,6 @@ pub struct Task {
     pub objectives: usize,
     pub ceilings: [u64; 4],
     pub room: usize,
-}
-
-// Whether the scope of the record at `at` has the variable `v`.
-pub fn has_variable(s: &[u8], at: usize, v: usize) -> bool
-    requires { ⌜ Headed (now s) at ⌝ }
-    ensures { λ r. ⌜ r ≡ hasVariable v (tableScope (drop at (now (s .entry)))) ⌝ }
-{
-    let a = problem::arity_at(s, at);
-    let mut i: usize = 0;
-    while i < a {
-        if problem::scope_at(s, at, i) == v {
-            return true;
-        }
-        i += 1;
-    }
-    false
 }
 
 // Writes the group of variable `v` from `from` on, and answers where it ends. `sizes` are the domain sizes.
@@ -53,7 +36,7 @@ pub fn add_group(s: &[u8], sizes: &[u8], r: usize, v: usize, from: usize, work: 
     let mut i: usize = 0;
     while i < r {
         let at = work[layout::RECORDS_AT + i];
-        if has_variable(s, at as usize, v) {
+        if problem::has_variable(s, at as usize, v) {
             work[end] = at;
             end += 1;
         }

@@ -53,7 +53,7 @@ module _ (p : ℕ) (ds : List ℕ) (few : p ≤ maxObjectives) (small : length d
           omega (arith, r .arity),
           all-append Byte (t .scope) (wordBytes (t .costs))
               (all-map (λ v. v < length ds) Byte (λ v l. omega arith) (t .scope)
-              (distinct-range (length ds) (t .scope) (scope-distinct (length ds) (t .scope) (r .rising))))
+              (distinct-range (length ds) (t .scope) (scope-distinct (length ds) (t .scope) (r .distinct))))
               (words-bytes (t .costs) (r .words)),
         ),
       ),

@@ -1,6 +1,6 @@
 -- One name that opens every definition, for what is proved by computation: write `unfolding computing`.
 use Rattle.model.specs.Basics.{firstOf}
-use Rattle.model.specs.Problems.{sizeOf, scopeOk}
+use Rattle.model.specs.Problems.{sizeOf, hasVariable, scopeRule}
 use Rattle.model.specs.Encoding.{twoBytes, fourBytes, wordBytes, headBytes, domainBytes, tableBytes, tablesBytes}
 use Rattle.model.specs.Encoding.{encode}
 use Rattle.model.specs.Reading.{word2, word4, wordsIn, startNumber, headNumber, domainNumber, tableScope}
@@ -19,7 +19,7 @@ use Rattle.model.specs.Calls.{workVerdict, roomVerdict, solveVerdict, so
 use Rattle.model.specs.Calls.{cutRoomVerdict, cutVerdict, cutOutcome, boundVerdict, boundOutcome}
 
 unfoldable pub computing : Unit {0}
-unfolding firstOf sizeOf scopeOk twoBytes fourBytes wordBytes headBytes domainBytes tableBytes tablesBytes encode word2
+unfolding firstOf sizeOf hasVariable scopeRule twoBytes fourBytes wordBytes headBytes domainBytes tableBytes tablesBytes encode word2
     word4 wordsIn startNumber headNumber domainNumber tableScope tableLength tableNumber tableOf domainsVerdict
     domainsAt tablesVerdict tablesAt placesAt bodyVerdict verdictOf problemOf placesOf under atMost same earlier added
     isChoice entryFrom costOf total totalsFrom totals costsOf consistent someBeats unbeaten put sorted best withFirst

@@ -4,7 +4,8 @@ use mathlib.Core.List.{List, [], _∷_}
 use Rattle.model.specs.Basics.{All}
 use Rattle.model.specs.Frontiers.{point}
 use Rattle.model.proofs.Computing.{computing}
-use Rattle.model.proofs.ExampleProblems.{colours, pair, pairAndConstant, interleaved, stairsOver}
+use Rattle.model.proofs.ExampleProblems.{colours, pair, pairAndConstant, interleaved, interleavedTurned}
+use Rattle.model.proofs.ExampleProblems.{stairsOver}
 use Rattle.model.proofs.ExampleRow.{Row, Right}
 use Rattle.model.proofs.RowBuilders.{lent, usual, lists, refuses, full, bounds, row, answered, uncut}
 
@@ -28,6 +29,11 @@ cut-rows =
     (point (0 ∷ 7 ∷ []) (1 ∷ 1 ∷ 1 ∷ []) ∷ point (1 ∷ 5 ∷ []) (0 ∷ 1 ∷ 1 ∷ []) ∷ point (3 ∷ 3 ∷ []) (0 ∷ 2 ∷ 1 ∷ [])
     ∷ point (5 ∷ 2 ∷ []) (0 ∷ 0 ∷ 1 ∷ []) ∷ point (7 ∷ 1 ∷ []) (0 ∷ 2 ∷ 0 ∷ []) ∷ [])
     3 4 (2 ∷ 2 ∷ []) ∷
+    -- the same with falling scopes: a half keeps their order
+    answered usual interleavedTurned (0 ∷ 1 ∷ 0 ∷ []) (0 ∷ 1 ∷ [])
+    (point (0 ∷ 7 ∷ []) (1 ∷ 1 ∷ 1 ∷ []) ∷ point (1 ∷ 5 ∷ []) (0 ∷ 1 ∷ 1 ∷ []) ∷ point (3 ∷ 3 ∷ []) (0 ∷ 2 ∷ 1 ∷ [])
+    ∷ point (5 ∷ 2 ∷ []) (0 ∷ 0 ∷ 1 ∷ []) ∷ point (7 ∷ 1 ∷ []) (0 ∷ 2 ∷ 0 ∷ []) ∷ [])
+    4 3 (1 ∷ 3 ∷ []) ∷
     -- 65 points in half 0, and every sum over a ceiling
     row usual (stairsOver 65 64) (0 ∷ 0 ∷ 0 ∷ 1 ∷ []) [] (lists []) (lists []) full 0 0 (bounds (64 ∷ 1 ∷ [])) ∷
     -- the same in half 1
@@ -52,7 +58,10 @@ cut-right = (
           (refl, refl, refl, refl),
           (
             (refl, refl, refl, refl),
-            ((refl, refl, refl, refl), ((refl, refl, refl, refl), ((refl, refl, refl, refl), tt))),
+            (
+              (refl, refl, refl, refl),
+              ((refl, refl, refl, refl), ((refl, refl, refl, refl), ((refl, refl, refl, refl), tt))),
+            ),
           ),
         ),
       ),

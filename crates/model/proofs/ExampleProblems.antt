@@ -45,6 +45,17 @@ mixed =
     ∷ table 3 [] (5 ∷ [])
     ∷ [])
 
+-- the same problem with scopes that do not rise, and tables to fit
+abbrev pub turned : List ℕ
+turned =
+    problem (9 ∷ 9 ∷ 9 ∷ 9 ∷ []) (2 ∷ 3 ∷ 2 ∷ []) (
+    table 0 (2 ∷ 0 ∷ 1 ∷ []) (9 ∷ 8 ∷ 5 ∷ 0 ∷ 4 ∷ 9 ∷ 5 ∷ 3 ∷ 1 ∷ 3 ∷ 9 ∷ 3 ∷ [])
+    ∷ table 1 (1 ∷ 0 ∷ []) (1 ∷ 4 ∷ 5 ∷ 7 ∷ 2 ∷ 0 ∷ [])
+    ∷ table 2 (2 ∷ 1 ∷ []) (0 ∷ 1 ∷ 5 ∷ 5 ∷ 4 ∷ 0 ∷ [])
+    ∷ table 3 (2 ∷ []) (2 ∷ 2 ∷ [])
+    ∷ table 3 [] (5 ∷ [])
+    ∷ [])
+
 -- the largest four-byte number
 abbrev forbidden : ℕ
 forbidden = 4294967295
@@ -89,6 +100,16 @@ interleaved =
     problem (9 ∷ 9 ∷ []) (2 ∷ 3 ∷ 2 ∷ []) (
     table 0 (0 ∷ 2 ∷ []) (5 ∷ 1 ∷ 3 ∷ 0 ∷ [])
     ∷ table 1 (0 ∷ 2 ∷ []) (0 ∷ 2 ∷ 1 ∷ 4 ∷ [])
+    ∷ table 0 (1 ∷ []) (4 ∷ 0 ∷ 2 ∷ [])
+    ∷ table 1 (1 ∷ []) (0 ∷ 3 ∷ 1 ∷ [])
+    ∷ [])
+
+-- the same with scopes that fall, and tables to fit
+abbrev pub interleavedTurned : List ℕ
+interleavedTurned =
+    problem (9 ∷ 9 ∷ []) (2 ∷ 3 ∷ 2 ∷ []) (
+    table 0 (2 ∷ 0 ∷ []) (5 ∷ 3 ∷ 1 ∷ 0 ∷ [])
+    ∷ table 1 (2 ∷ 0 ∷ []) (0 ∷ 1 ∷ 2 ∷ 4 ∷ [])
     ∷ table 0 (1 ∷ []) (4 ∷ 0 ∷ 2 ∷ [])
     ∷ table 1 (1 ∷ []) (0 ∷ 3 ∷ 1 ∷ [])
     ∷ [])

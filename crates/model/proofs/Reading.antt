@@ -72,7 +72,7 @@ unfolding problemOf tableOf
 accepted-scopes s h =
     let ds = domainsOf s in
     tables-every (headObjectives s) ds s (λ t. scopeRule (length ds) (t .scope) ≡ true)
-    (λ at n. table-good (headObjectives s) ds (drop at s) n .rising) (headTables s) (tablesStart s)
+    (λ at n. table-good (headObjectives s) ds (drop at s) n .distinct) (headTables s) (tablesStart s)
     (accepted-parts s h .tables)
 
 pub accepted-owners : (s : List ℕ) → verdictOf s .number ≡ 0

@@ -55,12 +55,18 @@ reading-rows =
     unread (head 1 1 1 (1 ∷ []) ++ domains (1 ∷ []) ++ 67 ∷ 70 ∷ 0 ∷ 4 ∷ []) 9 13 ∷
     -- a scope byte missing, and a variable out of range
     unread (head 1 1 1 (1 ∷ []) ++ domains (1 ∷ []) ++ 67 ∷ 70 ∷ 0 ∷ 2 ∷ 1 ∷ []) 2 13 ∷
-    -- a scope that repeats a variable, in the second `CF`, and no table
+    -- a scope that names a variable twice, in the second `CF`, and no table
     unread (head 2 1 2 (1 ∷ []) ++ domains (1 ∷ 1 ∷ []) ++ table 0 [] (0 ∷ []) ++ table 0 (1 ∷ 1 ∷ []) []) 10 24 ∷
-    -- a falling scope
-    unread (head 2 1 1 (1 ∷ []) ++ domains (1 ∷ 1 ∷ []) ++ table 0 (1 ∷ 0 ∷ []) (0 ∷ [])) 10 16 ∷
+    -- twice with another between
+    unread (head 2 1 1 (1 ∷ []) ++ domains (1 ∷ 1 ∷ []) ++ table 0 (0 ∷ 1 ∷ 0 ∷ []) (0 ∷ [])) 10 16 ∷
+    -- twice behind another
+    unread (head 2 1 1 (1 ∷ []) ++ domains (1 ∷ 1 ∷ []) ++ table 0 (1 ∷ 0 ∷ 0 ∷ []) (0 ∷ [])) 10 16 ∷
     -- a scope with variable n
     unread (head 2 1 1 (1 ∷ []) ++ domains (1 ∷ 1 ∷ []) ++ table 0 (1 ∷ 2 ∷ []) (0 ∷ [])) 10 16 ∷
+    -- variable n behind one that is named twice
+    unread (head 2 1 1 (1 ∷ []) ++ domains (1 ∷ 1 ∷ []) ++ table 0 (0 ∷ 0 ∷ 2 ∷ []) (0 ∷ [])) 10 16 ∷
+    -- a falling scope is none of these: its table is asked for
+    unread (head 2 1 1 (1 ∷ []) ++ domains (1 ∷ 1 ∷ []) ++ table 0 (1 ∷ 0 ∷ []) []) 2 16 ∷
     -- the last table one byte short
     unread (take 154 (colours 100 100)) 2 133 ∷
     -- a leftover byte; a long work buffer is unchanged
@@ -120,7 +126,16 @@ reading-right = (
                                                 (refl, refl, refl, refl),
                                                 (
                                                   (refl, refl, refl, refl),
-                                                  ((refl, refl, refl, refl), ((refl, refl, refl, refl), tt)),
+                                                  (
+                                                    (refl, refl, refl, refl),
+                                                    (
+                                                      (refl, refl, refl, refl),
+                                                      (
+                                                        (refl, refl, refl, refl),
+                                                        ((refl, refl, refl, refl), ((refl, refl, refl, refl), tt)),
+                                                      ),
+                                                    ),
+                                                  ),
                                                 ),
                                               ),
                                             ),

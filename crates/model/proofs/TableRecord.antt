@@ -24,7 +24,7 @@ pub record GoodTable (p : ℕ) (ds s : List ℕ) : Type 0 where
   pub start : Marked letterC letterF 2 s
   pub owner : tableObjective s < p
   pub arity : tableArity s ≤ maxArity
-  pub rising : scopeRule (length ds) (tableScope s) ≡ true
+  pub distinct : scopeRule (length ds) (tableScope s) ≡ true
   pub long : tableLength ds s ≤ length s
 
 pub table-good : (p : ℕ) (ds s : List ℕ) → tableNumber p ds s ≡ 0 → GoodTable p ds s
@@ -39,7 +39,7 @@ table-good p ds s h =
       start = start-marked letterC letterF 2 s (h₁ .0);
       owner = leb-false _ _ (when-none _ badOwner refl (h₂ .0));
       arity = ltb-false _ _ (when-none _ badArity refl (h₃ .0));
-      rising = not-false _ (when-none _ badScope refl (h₅ .0));
+      distinct = not-false _ (when-none _ badScope refl (h₅ .0));
       long = ltb-false _ _ (when-none _ cutShort refl (h₅ .1));
     }
 
@@ -50,7 +50,7 @@ good-table p ds s g =
     (none-first _ (none-when badOwner (lt-leb _ _ (g .owner)))
     (none-first _ (none-when badArity (le-ltb _ _ (g .arity)))
     (none-first _ (none-when cutShort (le-ltb (length s) (4 + tableArity s) (omega (arith, g .long))))
-    (none-first _ (none-when badScope (ap not (g .rising))) (none-when cutShort (le-ltb _ _ (g .long)))))))
+    (none-first _ (none-when badScope (ap not (g .distinct))) (none-when cutShort (le-ltb _ _ (g .long)))))))
 
 -- ## from a table to bytes
 
@@ -93,7 +93,7 @@ module _ (p : ℕ) (ds : List ℕ) (t : Table) (rest : List ℕ) (rules : TableR
         start = start;
         owner = rules .owner;
         arity = rules .arity;
-        rising = rw scope-read (rules .rising);
+        distinct = rw scope-read (rules .distinct);
         long = long;
       })
 
@@ -106,7 +106,7 @@ table-rules p ds s b h =
     record {
       owner = g .owner;
       arity = omega (arith, length-take (tableArity s) (drop 4 s), g .arity);
-      rising = g .rising;
+      distinct = g .distinct;
       entries = length-wordsIn _ _;
       words = words-below _ _ (all-drop Byte (4 + tableArity s) s b);
     }

@@ -15,7 +15,7 @@ isChoice (d ∷ ds) [] = false
 isChoice (d ∷ ds) (x ∷ xs) = ltb x d && isChoice ds xs
 
 -- where a table has the entry for a choice, after the index i of the variables before:
--- the last scope variable runs fastest
+-- the variable that the scope names last runs fastest
 unfoldable pub entryFrom : ℕ → List ℕ → List ℕ → List ℕ → ℕ
 entryFrom i ds [] xs = i
 entryFrom i ds (v ∷ vs) xs = entryFrom (i * getD ds v 0 + getD xs v 0) ds vs xs

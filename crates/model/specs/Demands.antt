@@ -10,7 +10,7 @@ use Rattle.model.specs.Basics.{All}
 use Rattle.model.specs.Limits.{maxObjectives, maxPoints, workNeed, sumEnd}
 use Rattle.model.specs.Refusals.{cutShort, leftover, workShort, badSides, linked, full, badPrefix}
 use Rattle.model.specs.Refusals.{Verdict, accepted}
-use Rattle.model.specs.Problems.{Table, Problem, scopeOk, Word, AllInRange, RecordRules}
+use Rattle.model.specs.Problems.{Table, Problem, scopeRule, Word, AllInRange, RecordRules}
 use Rattle.model.specs.Encoding.{Byte, encode, WellFormed}
 use Rattle.model.specs.Reading.{verdictOf, problemOf, placesOf}
 use Rattle.model.specs.Vectors.{atMost}
@@ -226,7 +226,7 @@ pub record Bound-laws : Type 0 where
   pub least : (ds prefix x : List ℕ) (t : Table) → isChoice ds x ≡ true → agrees prefix x ≡ true
       → leastOf ds prefix t ≤ costOf ds x t
   pub reached : (ds prefix : List ℕ) (t : Table) → All (λ d. 1 ≤ d) ds → prefixOk ds prefix ≡ true
-      → scopeOk (length ds) 0 (t .scope) ≡ true
+      → scopeRule (length ds) (t .scope) ≡ true
       → (x : List ℕ) × (isChoice ds x ≡ true) × (agrees prefix x ≡ true) × (leastOf ds prefix t ≡ costOf ds x t)
   pub whole : (q : Problem) (x : List ℕ) → isChoice (q .domains) x ≡ true → boundOf q x ≡ costsOf q x
   pub grows : (q : Problem) (prefix more : List ℕ) → prefixOk (q .domains) (prefix ++ more) ≡ true

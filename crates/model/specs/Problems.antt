@@ -1,14 +1,14 @@
 -- Problems: ceilings, domains, cost tables; and the rules that a problem's records keep.
 use mathlib.Core.Path.{_≡_}
-use mathlib.Core.Bool.{Bool, true, _&&_}
+use mathlib.Core.Bool.{Bool, true, false, not, _&&_, _||_}
 use mathlib.Core.List.{List, [], _∷_}
-use Prim.Native.Nat.{ℕ, suc, _*_, _≤_, _<_}
-use lib.Dec.{ltb, leb}
+use Prim.Native.Nat.{ℕ, _*_, _≤_, _<_}
+use lib.Dec.{eqb, ltb}
 use lib.ListN.{length, getD}
 use Rattle.model.specs.Basics.{All}
 use Rattle.model.specs.Limits.{maxVariables, maxObjectives, maxTables, maxDomain, maxArity, wordEnd}
 
--- a cost record: the objective that it belongs to, its scope, its table of costs
+-- a cost record: the objective that it belongs to, its scope in the order in which it is written, its table of costs
 pub record Table : Type 0 where
   pub objective : ℕ
   pub scope : List ℕ
@@ -26,14 +26,15 @@ unfoldable pub sizeOf : List ℕ → List ℕ → ℕ
 sizeOf ds [] = 1
 sizeOf ds (v ∷ vs) = getD ds v 0 * sizeOf ds vs
 
--- a scope: each variable below n, and above the one before; the first from `low` on
-unfoldable pub scopeOk : ℕ → ℕ → List ℕ → Bool
-scopeOk n low [] = true
-scopeOk n low (v ∷ vs) = ltb v n && (leb low v && scopeOk n (suc v) vs)
+-- whether a scope has the variable v
+unfoldable pub hasVariable : ℕ → List ℕ → Bool
+hasVariable v [] = false
+hasVariable v (w ∷ ws) = eqb w v || hasVariable v ws
 
--- the rule of a scope over n variables
-abbrev pub scopeRule : ℕ → List ℕ → Bool
-scopeRule n vs = scopeOk n 0 vs
+-- the rule of a scope over n variables, in any order: each is below n, and none is named again after it
+unfoldable pub scopeRule : ℕ → List ℕ → Bool
+scopeRule n [] = true
+scopeRule n (v ∷ vs) = ltb v n && (not (hasVariable v vs) && scopeRule n vs)
 
 -- variables that exist, in one scope and in those of some records
 abbrev pub InRange : ℕ → List ℕ → Type 0
@@ -53,7 +54,7 @@ DomainSize d = (1 ≤ d) × (d ≤ maxDomain)
 pub record TableRules (p : ℕ) (ds : List ℕ) (t : Table) : Type 0 where
   pub owner : t .objective < p
   pub arity : length (t .scope) ≤ maxArity
-  pub rising : scopeRule (length ds) (t .scope) ≡ true
+  pub distinct : scopeRule (length ds) (t .scope) ≡ true
   pub entries : length (t .costs) ≡ sizeOf ds (t .scope)
   pub words : All Word (t .costs)
 

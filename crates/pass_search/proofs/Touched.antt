@@ -9,13 +9,13 @@ use lib.Dec.{eqb, ltb}
 use lib.ListN.{length, getD, drop, length-append, List·getD-append}
 use borrow.Author.Tests.{ltb-true, ltb-false, lt-ltb, le-ltb, eqb-false}
 use Rattle.model.specs.Basics.{when}
-use Rattle.model.specs.Problems.{Table}
+use Rattle.model.specs.Problems.{Table, hasVariable}
 use Rattle.model.specs.Reading.{tableScope, tableOf}
 use Rattle.model.specs.Costs.{total}
 use Rattle.model.specs.Bounds.{leastTo, leastFrom, leastOf}
 use Rattle.model.proofs.Bits.{test, or-false}
 use Rattle.costs.specs.Entries.{tableAt}
-use Rattle.groups.specs.Groups.{hasVariable, groupOf, tablesOver}
+use Rattle.groups.specs.Groups.{groupOf, tablesOver}
 use Rattle.pass_search.specs.States.{untouched}
 
 -- a variable that a scope lacks does not matter

@@ -6,7 +6,7 @@ use Prim.Native.Nat.{ℕ, _+_, _-_, _*_, _≤_, _<_}
 use lib.ListN.{length, getD, take, drop, replicate}
 use Rattle.model.specs.Basics.{pick, when}
 use Rattle.model.specs.Limits.{maxObjectives, maxPoints}
-use Rattle.model.specs.Problems.{Table, Problem}
+use Rattle.model.specs.Problems.{Table, Problem, hasVariable}
 use Rattle.model.specs.Vectors.{under}
 use Rattle.model.specs.Costs.{totalsFrom}
 use Rattle.model.specs.Frontiers.{Point, point}
@@ -14,7 +14,7 @@ use Rattle.model.specs.Bounds.{prefixOk, leastOf}
 use Rattle.model.specs.Search.{Held, nothing, just, matched, late, dead, tries, opens}
 use Rattle.model.specs.Suffixes.{sharper}
 use Rattle.layout.specs.Layout.{gainsAt}
-use Rattle.groups.specs.Groups.{hasVariable, tablesOver, placesIn, Grouped}
+use Rattle.groups.specs.Groups.{tablesOver, placesIn, Grouped}
 use Rattle.groups.specs.declared.Task as DT
 use Rattle.rows.specs.Rows.{listIn}
 use Rattle.pass_search.specs.declared.Partial as DP

@@ -5,7 +5,7 @@ pub mod Filled
 -- one record
 pub mod Chains
 pub mod HeadFields
-pub mod Rising
+pub mod ScopeRule
 pub mod Sizes
 pub mod SizeSteps
 pub mod TableFields

@@ -51,9 +51,9 @@ module _ (p : ℕ) (ds s : List ℕ) where
           pub table-scope : scopeRule (length ds) (tableScope s) ≡ false → tableNumber p ds s ≡ badScope
           table-scope h = fields-passed ∙ pass-test cutShort _ (le-ltb _ _ there) ∙ stop-test badScope _ refl (ap not h)
 
-          module _ (rising : scopeRule (length ds) (tableScope s) ≡ true) where
+          module _ (distinct : scopeRule (length ds) (tableScope s) ≡ true) where
             table-last : tableNumber p ds s ≡ when (ltb (length s) (tableLength ds s)) cutShort
-            table-last = fields-passed ∙ pass-test cutShort _ (le-ltb _ _ there) ∙ pass-test badScope _ (ap not rising)
+            table-last = fields-passed ∙ pass-test cutShort _ (le-ltb _ _ there) ∙ pass-test badScope _ (ap not distinct)
 
             pub table-short : length s < tableLength ds s → tableNumber p ds s ≡ cutShort
             table-short h = table-last ∙ when-on cutShort (lt-ltb _ _ h)

@@ -13,7 +13,7 @@ use Rattle.model.proofs.TableRecord.{table-good}
 use Rattle.problem.specs.Says.{RefusalSays}
 use Rattle.problem.specs.Records.{Whole, AllWhole}
 use Rattle.problem.proofs.Chains.{pass-record, stop-record}
-use Rattle.problem.proofs.Rising.{scope-range}
+use Rattle.problem.proofs.ScopeRule.{scope-range}
 
 -- the next record starts in the list, or at its end
 pub table-next : (p : ℕ) (ds s : List ℕ) (at : ℕ) → at ≤ length s → tableNumber p ds (drop at s) ≡ 0
@@ -68,7 +68,7 @@ all-whole (suc r) p ds s at few h e =
     let whole : Whole ds s at = record {
       owner = omega (arith, good .owner);
       few = good .arity;
-      range = scope-range (length ds) (tableScope l) (good .rising);
+      range = scope-range (length ds) (tableScope l) (good .distinct);
       long = long;
     } in
     (whole, all-whole r p ds s next few long (both .1))

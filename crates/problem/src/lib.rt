@@ -4,7 +4,7 @@ ghost use Prim.Native.Nat.{_+_, _-_, _*_, _<_, _≤_};
 ghost use lib.ListN.{length, getD, take, drop};
 ghost use Rattle.model.specs.Basics.{All};
 ghost use Rattle.model.specs.Limits.{maxBytes, maxVariables, maxObjectives, maxArity, shortEnd};
-ghost use Rattle.model.specs.Problems.{DomainSize, InRange, sizeOf, scopeRule};
+ghost use Rattle.model.specs.Problems.{DomainSize, InRange, sizeOf, hasVariable, scopeRule};
 ghost use Rattle.model.specs.Reading.{word2, word4, wordsIn, startNumber, headNumber, domainNumber, tableLength};
 ghost use Rattle.model.specs.Reading.{tableObjective, tableArity, tableScope, tablesVerdict, placesAt};
 ghost use Rattle.model.specs.Calls.{padded, over};
@@ -38,8 +38,23 @@ pub fn four_at(s: &[u8], at: usize) -> u32
     low + 65536 * high
 }
 
-// The head of the accepted record at `at`: these three alone know where it has its objective, the number of its
-// scope's variables and number `k` of them.
+// Whether one of the `count` variables at `at` is `v`.
+pub fn is_named(s: &[u8], at: usize, count: usize, v: usize) -> bool
+    requires { ⌜ at + count ≤ length (now s) ⌝ }
+    ensures { λ r. ⌜ r ≡ hasVariable v (take count (drop at (now (s .entry)))) ⌝ }
+{
+    let mut i: usize = 0;
+    while i < count {
+        if s[at + i] as usize == v {
+            return true;
+        }
+        i += 1;
+    }
+    false
+}
+
+// The head of the accepted record at `at`: these four alone know where it has its objective, the number of its
+// scope's variables, number `k` of them, and whether `v` is one.
 pub fn objective_at(s: &[u8], at: usize) -> usize
     requires { ⌜ Headed (now s) at ⌝ }
     ensures { λ r. ⌜ r ≡ tableObjective (drop at (now (s .entry))) ⌝ }
@@ -59,6 +74,14 @@ pub fn scope_at(s: &[u8], at: usize, k: usize) -> usize
     ensures { λ r. ⌜ r ≡ getD (tableScope (drop at (now (s .entry)))) k 0 ⌝ }
 {
     s[at + 4 + k] as usize
+}
+
+pub fn has_variable(s: &[u8], at: usize, v: usize) -> bool
+    requires { ⌜ Headed (now s) at ⌝ }
+    ensures { λ r. ⌜ r ≡ hasVariable v (tableScope (drop at (now (s .entry)))) ⌝ }
+{
+    let a = arity_at(s, at);
+    is_named(s, at + 4, a, v)
 }
 
 // The mark due at `at`, and the single fields after it: 2, 3, 2, else 0.
@@ -196,23 +219,21 @@ pub fn read_domains(s: &[u8], at: usize, n: usize) -> Domains
     }
 }
 
-// Whether the `arity` variables at `at` are below `n`, each above the one before.
+// Whether the `arity` variables at `at` are below `n`, and none of them is named again after it.
 pub fn scope_ok(s: &[u8], at: usize, arity: usize, n: usize) -> bool
     requires { ⌜ at + arity ≤ length (now s) ⌝ }
     ensures { λ r. ⌜ r ≡ scopeRule n (take arity (drop at (now (s .entry)))) ⌝ }
 {
-    let mut low: usize = 0;
     let mut i: usize = 0;
     while i < arity {
         let v = s[at + i] as usize;
+        i += 1;
         if n <= v {
             return false;
         }
-        if v < low {
+        if is_named(s, at + i, arity - i, v) {
             return false;
         }
-        low = v + 1;
-        i += 1;
     }
     true
 }

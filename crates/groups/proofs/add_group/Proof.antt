@@ -18,7 +18,7 @@ use Rattle.groups.proofs.add_group.Statement.{statement}
 use Rattle.groups.proofs.add_group.Tie as tie
 use Rattle.groups.proofs.add_group.Reads as reads
 use Rattle.groups.proofs.add_group.Lts as lts
-use Rattle.groups.proofs.has_variable.Reads as has-variable-reads
+use Rattle.problem.proofs.has_variable.Reads as has-variable-reads
 
 abbrev Inv-loop : tie.InvT-loop
 Inv-loop s sizes r v from work₀ end₀ i₀ work end i =

@@ -15,7 +15,7 @@ use Rattle.model.specs.Problems.{InRange, scopeRule}
 use Rattle.model.specs.Encoding.{letterC, letterF}
 use Rattle.model.specs.Reading.{startNumber, tableObjective, tableArity, tableScope, tableLength}
 use Rattle.model.proofs.Marks.{Marked, start-marked}
-use Rattle.problem.proofs.Rising.{scope-range}
+use Rattle.problem.proofs.ScopeRule.{scope-range}
 use Rattle.problem.proofs.TableFields.{table-start, table-owner, table-arity, table-cut, table-scope}
 use Rattle.problem.proofs.TableFields.{table-short, table-whole, scan-refused, scan-accepted}
 use Rattle.problem.proofs.WholeRecord.{scope-place, length-place}
@@ -59,15 +59,15 @@ few c = rw getD-drop (small c)
 there : (c : tie.Else4) → 4 + tableArity (left₃ (c .before)) ≤ length (left₃ (c .before))
 there c = rw (getD-drop, length-drop) (c .if4 .left)
 
-rising : (c : tie.Else5)
+distinct : (c : tie.Else5)
     → scopeRule (length (sizes₃ (c .before .before .before))) (tableScope (left₃ (c .before .before .before))) ≡ true
-rising c = rw scope-place (sym (c .before .scope-ok .ensures) ∙ not-false _ (c .if5 .left))
+distinct c = rw scope-place (sym (c .before .scope-ok .ensures) ∙ not-false _ (c .if5 .left))
 
 ranged : (c : tie.Else5)
     → InRange (length (sizes₃ (c .before .before .before))) (tableScope (left₃ (c .before .before .before)))
 ranged c =
     scope-range (length (sizes₃ (c .before .before .before))) (tableScope (left₃ (c .before .before .before)))
-    (rising c)
+    (distinct c)
 
 measured : (c : tie.After-size-of)
     → 4 + (arity₃ (c .before .before .before .before) + 4 * c .size-of .result)
@@ -137,7 +137,7 @@ returns-6 c =
     let e₃ = e₄ .before in
     let e₂ = e₃ .before .before .before in
     scan-refused _ _ _ cutShort refl
-    (table-short _ _ _ (started (e₂ .before .before)) (owned e₂) (few e₃) (there e₄) (rising e₅)
+    (table-short _ _ _ (started (e₂ .before .before)) (owned e₂) (few e₃) (there e₄) (distinct e₅)
     (rw (length-drop, ← measured (c .before)) (c .if6 .taken)))
 
 returns-7 : tie.Need-returns-7
@@ -147,7 +147,7 @@ returns-7 c =
     let e₃ = e₄ .before in
     let e₂ = e₃ .before .before .before in
     scan-accepted _ _ _ _
-    (table-whole _ _ _ (started (e₂ .before .before)) (owned e₂) (few e₃) (there e₄) (rising e₅)
+    (table-whole _ _ _ (started (e₂ .before .before)) (owned e₂) (few e₃) (there e₄) (distinct e₅)
     (rw (length-drop, ← measured (c .before)) (c .if6 .left)))
     (measured (c .before))
 
