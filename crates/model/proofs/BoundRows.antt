@@ -3,7 +3,7 @@ use mathlib.Core.Path.{refl}
 use mathlib.Core.List.{List, [], _∷_}
 use Rattle.model.specs.Basics.{All}
 use Rattle.model.proofs.Computing.{computing}
-use Rattle.model.proofs.ExampleProblems.{three, mixed, turned, objects}
+use Rattle.model.proofs.ExampleProblems.{three, mixed, mixedTurned, objects}
 use Rattle.model.proofs.ExampleRow.{Row, Right}
 use Rattle.model.proofs.RowBuilders.{bounds, noBound, onlyBound}
 
@@ -20,9 +20,9 @@ bound-rows =
     -- a complete prefix over unequal domains
     onlyBound mixed (0 ∷ 1 ∷ 1 ∷ []) (bounds (3 ∷ 5 ∷ 4 ∷ 7 ∷ [])) ∷
     -- a prefix that fixes the second written variable of the scopes (2,0,1) and (1,0), and no first one
-    onlyBound turned (0 ∷ []) (bounds (1 ∷ 1 ∷ 0 ∷ 7 ∷ [])) ∷
+    onlyBound mixedTurned (0 ∷ []) (bounds (1 ∷ 1 ∷ 0 ∷ 7 ∷ [])) ∷
     -- one that fixes the last two of (2,0,1), and the second of (2,1)
-    onlyBound turned (0 ∷ 1 ∷ []) (bounds (3 ∷ 5 ∷ 1 ∷ 7 ∷ [])) ∷
+    onlyBound mixedTurned (0 ∷ 1 ∷ []) (bounds (3 ∷ 5 ∷ 1 ∷ 7 ∷ [])) ∷
     -- a prefix longer than n
     onlyBound (three 3 3) (0 ∷ 0 ∷ []) (noBound 16 0) ∷
     -- a value not in its domain

@@ -30,6 +30,12 @@ pairTables =
 abbrev pub pair : ℕ → ℕ → List ℕ
 pair c e = problem (c ∷ e ∷ []) (2 ∷ 2 ∷ []) pairTables
 
+-- the scopes (1,0) and (0,1)
+abbrev pub turned : List ℕ
+turned =
+    problem (9 ∷ 9 ∷ []) (2 ∷ 3 ∷ []) (
+    table 0 (1 ∷ 0 ∷ []) (4 ∷ 1 ∷ 3 ∷ 5 ∷ 2 ∷ 0 ∷ []) ∷ table 1 (0 ∷ 1 ∷ []) (0 ∷ 3 ∷ 1 ∷ 2 ∷ 6 ∷ 5 ∷ []) ∷ [])
+
 -- Pair with an entry of arity 0 in front: the half that has it loses a point to the first ceiling
 abbrev pub pairAndConstant : List ℕ
 pairAndConstant = problem (2 ∷ 9 ∷ []) (2 ∷ 2 ∷ []) (table 0 [] (1 ∷ []) ∷ pairTables)
@@ -46,8 +52,8 @@ mixed =
     ∷ [])
 
 -- the same problem with scopes that do not rise, and tables to fit
-abbrev pub turned : List ℕ
-turned =
+abbrev pub mixedTurned : List ℕ
+mixedTurned =
     problem (9 ∷ 9 ∷ 9 ∷ 9 ∷ []) (2 ∷ 3 ∷ 2 ∷ []) (
     table 0 (2 ∷ 0 ∷ 1 ∷ []) (9 ∷ 8 ∷ 5 ∷ 0 ∷ 4 ∷ 9 ∷ 5 ∷ 3 ∷ 1 ∷ 3 ∷ 9 ∷ 3 ∷ [])
     ∷ table 1 (1 ∷ 0 ∷ []) (1 ∷ 4 ∷ 5 ∷ 7 ∷ 2 ∷ 0 ∷ [])

@@ -7,7 +7,7 @@ use Rattle.model.specs.Basics.{All}
 use Rattle.model.specs.Frontiers.{Point, point}
 use Rattle.model.proofs.Computing.{computing}
 use Rattle.model.proofs.ExampleBytes.{problem}
-use Rattle.model.proofs.ExampleProblems.{bare, three, mixed, turned, large, ties, stairs, objects}
+use Rattle.model.proofs.ExampleProblems.{bare, three, mixed, mixedTurned, large, ties, stairs, objects}
 use Rattle.model.proofs.ExampleRow.{Row, Right}
 use Rattle.model.proofs.RowBuilders.{held, enough, lent, lentWork, usual, lists, refuses, full, bounds, row}
 use Rattle.model.proofs.RowBuilders.{answered, uncut}
@@ -25,7 +25,7 @@ frontier-rows =
     ∷ point (3 ∷ 0 ∷ 0 ∷ 7 ∷ []) (1 ∷ 2 ∷ 1 ∷ []) ∷ [])
     3 1 (3 ∷ 0 ∷ 0 ∷ 7 ∷ []) ∷
     -- the same over the scopes (2,0,1), (1,0) and (2,1): the variable written last runs fastest
-    answered usual turned (0 ∷ 0 ∷ 0 ∷ []) (1 ∷ 2 ∷ [])
+    answered usual mixedTurned (0 ∷ 0 ∷ 0 ∷ []) (1 ∷ 2 ∷ [])
     (point (0 ∷ 4 ∷ 0 ∷ 7 ∷ []) (1 ∷ 0 ∷ 0 ∷ []) ∷ point (1 ∷ 2 ∷ 0 ∷ 7 ∷ []) (0 ∷ 2 ∷ 1 ∷ [])
     ∷ point (3 ∷ 0 ∷ 0 ∷ 7 ∷ []) (1 ∷ 2 ∷ 1 ∷ []) ∷ [])
     3 1 (3 ∷ 0 ∷ 0 ∷ 7 ∷ []) ∷

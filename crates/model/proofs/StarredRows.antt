@@ -4,9 +4,9 @@ use mathlib.Core.List.{List, [], _∷_}
 use Rattle.model.specs.Basics.{All}
 use Rattle.model.specs.Frontiers.{point}
 use Rattle.model.proofs.Computing.{computing}
-use Rattle.model.proofs.ExampleProblems.{colours, bare, three, pair}
+use Rattle.model.proofs.ExampleProblems.{colours, bare, three, pair, turned}
 use Rattle.model.proofs.ExampleRow.{Row, Right}
-use Rattle.model.proofs.RowBuilders.{lent, usual, answered}
+use Rattle.model.proofs.RowBuilders.{lent, usual, answered, uncut}
 
 abbrev pub starred-rows : List Row
 starred-rows =
@@ -38,6 +38,11 @@ starred-rows =
     (1 ∷ 0 ∷ []) ∷
     -- Pair, ceilings 2 and 2
     answered usual (pair 2 2) (0 ∷ 1 ∷ []) [] (point (1 ∷ 1 ∷ []) (0 ∷ 1 ∷ []) ∷ []) 2 2 (0 ∷ 0 ∷ []) ∷
+    -- Turned; a prefix for the second variable that the scope (1,0) names, and sides that both scopes cross
+    uncut turned (0 ∷ 1 ∷ []) (0 ∷ [])
+    (point (0 ∷ 5 ∷ []) (1 ∷ 2 ∷ []) ∷ point (1 ∷ 2 ∷ []) (1 ∷ 0 ∷ []) ∷ point (2 ∷ 1 ∷ []) (0 ∷ 2 ∷ [])
+    ∷ point (4 ∷ 0 ∷ []) (0 ∷ 0 ∷ []) ∷ [])
+    14 20 (2 ∷ 0 ∷ []) ∷
     []
 
 pub starred-right : All Right starred-rows
@@ -58,7 +63,10 @@ starred-right = (
               (refl, refl, refl, refl),
               (
                 (refl, refl, refl, refl),
-                ((refl, refl, refl, refl), ((refl, refl, refl, refl), ((refl, refl, refl, refl), tt))),
+                (
+                  (refl, refl, refl, refl),
+                  ((refl, refl, refl, refl), ((refl, refl, refl, refl), ((refl, refl, refl, refl), tt))),
+                ),
               ),
             ),
           ),
