@@ -14,9 +14,10 @@
  * One HD, n DO, r CF, and no byte more. There are n variables (modules), numbered from 0; the DO records give the
  * number d of values (variants) of each, in the variables' order, and its values are 0 to d - 1. There are p
  * objectives, numbered from 0. A CF record charges its objective for the values of the variables in its scope, which
- * stand in strictly rising order. Its table has an entry for each combination of their values, so as many as the
- * product of their domain sizes, and one if the scope is empty. The last variable of the scope runs fastest: with scope
- * (u, v) the entry for values a and b has the index a * (domain size of v) + b.
+ * stand in any order, none twice. Its table has an entry for each combination of their values, so as many as the
+ * product of their domain sizes, and one if the scope is empty. The variable that is written last in the scope runs
+ * fastest: with scope (u, v) the entry for values a of u and b of v has the index a * (domain size of v) + b, whether u
+ * is below v or above.
  *
  * The cost of a choice (a value for each variable) in an objective is the sum of the entries that its values select in
  * that objective's records. A choice is allowed if every cost is strictly below its objective's ceiling. An entry of
@@ -68,7 +69,7 @@
 #define FRONTIER_REFUSED_DOMAIN 7     /* d outside 1 to 8 */
 #define FRONTIER_REFUSED_OWNER 8      /* objective number p or more */
 #define FRONTIER_REFUSED_ARITY 9      /* above 3 */
-#define FRONTIER_REFUSED_SCOPE 10     /* a variable n or more, or not above the one before */
+#define FRONTIER_REFUSED_SCOPE 10     /* a variable n or more, or named twice in one scope */
 #define FRONTIER_REFUSED_LEFTOVER 11  /* bytes after the last record */
 #define FRONTIER_REFUSED_WORK 12      /* work buffer under 8,192 numbers */
 #define FRONTIER_REFUSED_SIDES 13     /* side list not n long, or a byte in it other than 0 and 1 */

@@ -38,6 +38,13 @@ impl Rng {
         self.below(times) == 0
     }
 
+    /// The items in a random order.
+    pub fn shuffle<T>(&mut self, items: &mut [T]) {
+        for left in (1..items.len()).rev() {
+            items.swap(left, self.below(left + 1));
+        }
+    }
+
     /// One of the items.
     pub fn pick<T: Copy>(&mut self, items: &[T]) -> T {
         items[self.below(items.len())]

@@ -125,7 +125,14 @@ fn of_records() -> Vec<Case> {
             10,
             "scope",
             45,
-            &["scope is 1, 1", "above 2"],
+            &["scope is 1, 1: a module stands in it twice", "in any order"],
+        ),
+        solve(
+            changed(49, &[3, 1]),
+            10,
+            "scope",
+            45,
+            &["scope is 3, 1: there is no module 3, the last one is 2"],
         ),
         solve(
             longer,

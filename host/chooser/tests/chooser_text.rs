@@ -71,6 +71,23 @@ fn what_a_text_says_stays_in_the_text_that_is_written() {
     );
 }
 
+#[test]
+fn the_modules_of_a_table_stand_in_any_order() {
+    let text = "costs a
+module m: x, y
+module n: u, v, w
+table a over n m:
+       x  y
+    u  4  1
+    v  3  5
+    w  2  0
+";
+    let named = parse(text.as_bytes()).expect("it is a problem");
+    let turned = Table::new(0, &[1, 0], &[4, 1, 3, 5, 2, 0]);
+    assert_eq!(named.problem.tables, [turned]);
+    assert!(write(&named).ends_with(&text[text.find("table").expect("a table")..]));
+}
+
 /// The problem in a text.
 fn problem_in(text: &str) -> Problem {
     parse(text.as_bytes())
@@ -283,8 +300,8 @@ fn faults_of_tables_are_told_with_line_and_column() {
         16,
         "'o' is not the name of a module",
     );
-    assert_fault(&with("over m n", "over n m"), 4, 16, "put 'm' before 'n'");
     assert_fault(&with("over m n", "over m m"), 4, 16, "stands twice");
+    assert_fault(&with("over m n", "over m n m"), 4, 18, "stands twice");
     assert_fault(
         &with("over m n", "over"),
         4,

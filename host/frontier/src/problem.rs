@@ -6,12 +6,13 @@ use crate::refusal::{check, Refusal};
 /// The entry that no ceiling is above, so that it forbids its combination.
 pub const FORBIDDEN: u32 = 4_294_967_295;
 
-/// A cost record: one objective's costs over a scope, the last scope variable running fastest.
+/// A cost record: one objective's costs over a scope. The variable that stands last in the scope runs
+/// fastest.
 #[derive(Clone, Debug, PartialEq, Eq)]
 pub struct Table {
     /// The objective, from 0, that the costs are of.
     pub objective: u8,
-    /// The variables, from 0, that the costs depend on: at most three, in rising order.
+    /// The variables, from 0, that the costs depend on: at most three, each once, in any order.
     pub scope: Vec<u8>,
     /// A cost for each combination of the variables' values.
     pub costs: Vec<u32>,

@@ -15,6 +15,7 @@ use frontier::Problem;
 use testing::brute;
 use testing::mixed::{compare_bound, Mixed};
 use testing::random::random_choice;
+use testing::turned::falling;
 
 /// One measurement takes at least this long.
 const LEAST_TIME: Duration = Duration::from_millis(500);
@@ -40,13 +41,25 @@ const SIDES: [BoundCall; 3] = [lent::bound_prefix, by_loops, in_one_run];
 
 /// A problem's bytes with a prefix to bound.
 struct Work {
-    shape: &'static str,
+    shape: String,
     tables: usize,
     bytes: Vec<u8>,
     prefix: Vec<u8>,
 }
 
-/// Each shape with prefixes of length 0, n / 2 and n.
+impl Work {
+    fn new(shape: String, problem: &Problem, prefix: &[u8]) -> Work {
+        Work {
+            shape,
+            tables: problem.tables.len(),
+            bytes: problem.encode(),
+            prefix: prefix.to_vec(),
+        }
+    }
+}
+
+/// Each shape with prefixes of length 0, n / 2 and n. With n / 2 values it comes again with falling
+/// scopes: variables that are free then stand before those that the prefix fixes.
 fn all_work() -> Vec<Work> {
     let mut rng = Rng::new(1);
     let shapes: [(&str, Problem); 3] = [
@@ -57,14 +70,12 @@ fn all_work() -> Vec<Work> {
     let mut all = Vec::new();
     for (shape, problem) in shapes {
         let choice = random_choice(&mut rng, &problem);
-        for length in [0, choice.len() / 2, choice.len()] {
-            all.push(Work {
-                shape,
-                tables: problem.tables.len(),
-                bytes: problem.encode(),
-                prefix: choice[..length].to_vec(),
-            });
+        let half = choice.len() / 2;
+        for length in [0, half, choice.len()] {
+            all.push(Work::new(shape.into(), &problem, &choice[..length]));
         }
+        let turned = format!("{shape}, falling");
+        all.push(Work::new(turned, &falling(&problem), &choice[..half]));
     }
     all
 }

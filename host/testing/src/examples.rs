@@ -67,6 +67,18 @@ pub fn pair(ceilings: [u32; 2]) -> Problem {
     binary(&ceilings, 2, tables.concat())
 }
 
+/// Turned: two variables with a table over (1, 0) and one over (0, 1).
+pub fn turned() -> Problem {
+    Problem {
+        ceilings: vec![9, 9],
+        domains: vec![2, 3],
+        tables: vec![
+            Table::new(0, &[1, 0], &[4, 1, 3, 5, 2, 0]),
+            Table::new(1, &[0, 1], &[0, 3, 1, 2, 6, 5]),
+        ],
+    }
+}
+
 /// Bent: two variables, each with tables 0,1,3 and 3,1,0. The middle point of both halves beats
 /// the sum of one half's first point and the other's last.
 pub fn bent(ceilings: [u32; 2]) -> Problem {

@@ -25,4 +25,5 @@ pub mod reading;
 pub mod scripts;
 pub mod speed;
 pub mod stored;
+pub mod turned;
 pub mod xml;

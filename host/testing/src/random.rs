@@ -100,12 +100,13 @@ fn random_domains(rng: &mut Rng, shape: &Shape) -> Vec<u8> {
     domains
 }
 
-/// A strictly rising scope of at most `arity` of the given variables.
+/// A scope of at most `arity` of the given variables, in any order.
 fn random_scope(rng: &mut Rng, variables: &[u8], arity: usize) -> Vec<u8> {
     let mut rest = variables.to_vec();
     for _ in rng.mostly_high(arity + 1)..variables.len() {
         rest.remove(rng.below(rest.len()));
     }
+    rng.shuffle(&mut rest);
     rest
 }
 

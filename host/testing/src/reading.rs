@@ -93,7 +93,8 @@ impl<'a> Reader<'a> {
         }
         let scope = self.take(arity)?.to_vec();
         let known = scope.iter().all(|&v| usize::from(v) < domains.len());
-        if !known || !scope.windows(2).all(|pair| pair[0] < pair[1]) {
+        let again = |i: usize| scope[..i].contains(&scope[i]);
+        if !known || (0..arity).any(again) {
             return Err(self.refuse(Refusal::Scope));
         }
         let size = |v: &u8| usize::from(domains[usize::from(*v)]);

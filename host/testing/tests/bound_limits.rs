@@ -96,10 +96,10 @@ fn every_arity_is_asked() {
     }
 }
 
-/// Whether a scope is strictly rising and below n.
+/// Whether the variables of a scope are below n, and none stands in it twice.
 fn is_scope(scope: &[u8], n: usize) -> bool {
-    let rising = scope.windows(2).all(|pair| pair[0] < pair[1]);
-    rising && scope.iter().all(|&v| usize::from(v) < n)
+    let once = |v: &u8| scope.iter().filter(|&w| w == v).count() == 1;
+    scope.iter().all(|v| usize::from(*v) < n && once(v))
 }
 
 #[test]

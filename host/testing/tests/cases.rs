@@ -386,20 +386,33 @@ fn limits_of_owner_and_arity() {
 
 #[test]
 fn limits_of_scope() {
-    let good: [&[u8]; 4] = [&[2], &[0, 2], &[1, 2], &[0, 1, 2]];
+    let good: [&[u8]; 9] = [
+        &[2],
+        &[0, 2],
+        &[1, 2],
+        &[1, 0],
+        &[0, 1, 2],
+        &[0, 2, 1],
+        &[1, 0, 2],
+        &[2, 0, 1],
+        &[2, 1, 0],
+    ];
     for scope in good {
         let problem = with_table(&[1; 3], Table::new(0, scope, &[5]));
         assert_points(&problem, &[(&[5, 3], &[0, 0, 0])]);
     }
-    let bad: [&[u8]; 8] = [
+    let bad: [&[u8]; 11] = [
         &[3],
         &[255],
         &[0, 3],
+        &[3, 0],
         &[0, 0],
-        &[1, 0],
-        &[0, 2, 1],
+        &[0, 0, 1],
+        &[0, 1, 0],
         &[0, 1, 1],
-        &[1, 0, 2],
+        &[1, 0, 0],
+        &[0, 0, 3],
+        &[3, 0, 0],
     ];
     for scope in bad {
         let problem = with_table(&[1; 3], Table::new(0, scope, &[]));

@@ -146,6 +146,8 @@ fn traits_of(case: &mut Case) -> Vec<String> {
             .iter()
             .map(|t| format!("arity {}", t.scope.len())),
     );
+    let scopes = problem.tables.iter().map(|t| &t.scope);
+    traits.extend(scopes.map(|scope| format!("rising {}", scope.is_sorted())));
     traits.extend(problem.domains.iter().map(|d| format!("d {d}")));
     let wrong = wrong_lists(&consistent, &list);
     traits.extend(wrong.into_iter().map(|(name, _)| name.to_string()));
@@ -167,6 +169,7 @@ fn the_random_problems_are_varied() {
     }
     let mut wanted: Vec<String> = WRONG_LISTS.map(String::from).to_vec();
     wanted.extend(["cut", "forbids true", "forbids false"].map(String::from));
+    wanted.extend(["rising true", "rising false"].map(String::from));
     wanted.extend((1..=4).flat_map(|i| [format!("p {i}"), format!("d {i}")]));
     wanted.extend((1..=6).flat_map(|i| [format!("n {i}"), format!("points {i}")]));
     wanted.extend((0..=3).map(|i| format!("arity {i}")));

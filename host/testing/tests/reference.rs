@@ -11,7 +11,7 @@ use frontier::limits::{
 };
 use frontier::refusal::word_of;
 use frontier::Refusal;
-use testing::examples::{colours, lone, pair, three};
+use testing::examples::{colours, lone, pair, three, turned};
 use testing::owned::{cut_by, list_text, list_text_by, listed, Listed};
 use testing::places::root;
 
@@ -122,7 +122,10 @@ fn bytes_of(name: &str) -> Vec<u8> {
 #[test]
 fn examples_are_listed_as_told() {
     let names: Vec<&str> = examples().iter().map(|example| example.name).collect();
-    assert_eq!(names, ["Colours", "Three", "Pair", "Fixed", "One"]);
+    assert_eq!(
+        names,
+        ["Colours", "Three", "Pair", "Fixed", "Turned", "One"]
+    );
     for example in examples() {
         let bytes = example.bytes();
         let library = list_text_by(solve_problem, &mut Buffers::full(), &bytes);
@@ -154,6 +157,7 @@ fn examples_are_the_tests_own() {
     assert_eq!(bytes_of("Colours"), stored);
     assert_eq!(bytes_of("Three"), three([3, 3]).encode());
     assert_eq!(bytes_of("Pair"), pair([9, 9]).encode());
+    assert_eq!(bytes_of("Turned"), turned().encode());
     assert_eq!(bytes_of("One"), lone(1, 1).encode());
 }
 
@@ -183,6 +187,13 @@ fn case_bytes(cell: &str) -> Vec<u8> {
             }
         }
         Some("domain") => *bytes.last_mut().expect("a DO record") = told[0] as u8,
+        Some("scope") => {
+            let (n, p) = (usize::from(bytes[2]), usize::from(bytes[3]));
+            let first = 6 + 4 * p + 3 * n + 4;
+            for (place, variable) in (first..).zip(told) {
+                bytes[place] = variable as u8;
+            }
+        }
         Some("less") => bytes.truncate(bytes.len() - told[0] as usize),
         Some("1") => bytes.push(0),
         _ => panic!("'{change}' is no change of a problem"),

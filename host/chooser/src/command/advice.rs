@@ -96,16 +96,18 @@ impl Question<'_> {
 
     fn scope(&self, record: &Record) -> Advice {
         let arity = record.byte(3).unwrap_or_default();
-        let scope = (4..4 + arity).filter_map(|place| record.byte(place));
-        let scope: Vec<String> = scope.map(|variable| variable.to_string()).collect();
-        let wrong = format!(
-            "the scope is {}, but must rise strictly and have no number above {}",
-            scope.join(", "),
-            self.last_number(2)
-        );
-        let mend =
-            "name each module once, in rising order, from byte 4 of this record on; the table \
-                    has the same order";
+        let scope: Vec<usize> = (4..4 + arity)
+            .filter_map(|place| record.byte(place))
+            .collect();
+        let last = self.last_number(2);
+        let fault = match scope.iter().find(|&&module| module > last) {
+            Some(module) => format!("there is no module {module}, the last one is {last}"),
+            None => "a module stands in it twice".into(),
+        };
+        let words: Vec<String> = scope.iter().map(usize::to_string).collect();
+        let wrong = format!("the scope is {}: {fault}", words.join(", "));
+        let mend = "name each module once, in any order, from byte 4 of this record on; in the \
+                    table the module that is named last runs fastest";
         (wrong, mend.into())
     }
 

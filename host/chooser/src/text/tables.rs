@@ -55,7 +55,7 @@ pub fn take_table<'a>(
     Ok(rest)
 }
 
-/// The modules behind `over`, as numbers in rising order; none without the word.
+/// The modules behind `over`, as numbers in the order in which they stand; none without the word.
 fn take_scope(cursor: &mut Cursor, names: &Names) -> Result<Vec<usize>, Fault> {
     let mut scope: Vec<usize> = Vec::new();
     if !cursor.take_if("over") {
@@ -64,26 +64,23 @@ fn take_scope(cursor: &mut Cursor, names: &Names) -> Result<Vec<usize>, Fault> {
     while scope.is_empty() || cursor.next().is_some_and(|word| word.text != ":") {
         let known = names.modules.iter().map(|module| module.name.as_str());
         let (word, module) = take_known(cursor, "a module", known)?;
-        check_scope(&scope, module, names).map_err(|message| cursor.fault_at(word, message))?;
+        check_scope(&scope, module).map_err(|message| cursor.fault_at(word, message))?;
         scope.push(module);
     }
     Ok(scope)
 }
 
-/// One more module of a scope stands in a later line than those before it.
-fn check_scope(scope: &[usize], module: usize, names: &Names) -> Result<(), String> {
-    match scope.last() {
-        _ if scope.len() == MAX_ARITY => Err(format!(
-            "a table is over at most {MAX_ARITY} modules; leave this one out"
-        )),
-        Some(&before) if before == module => Err("this module stands twice; leave one out".into()),
-        Some(&before) if before > module => Err(format!(
-            "modules stand here in the order of their lines; put {} before {}",
-            quoted(&names.modules[module].name),
-            quoted(&names.modules[before].name)
-        )),
-        _ => Ok(()),
+/// One more module of a scope is none of those before it, which are not too many.
+fn check_scope(scope: &[usize], module: usize) -> Result<(), String> {
+    if scope.contains(&module) {
+        return Err("this module stands twice; leave one out".into());
     }
+    if scope.len() == MAX_ARITY {
+        return Err(format!(
+            "a table is over at most {MAX_ARITY} modules; leave this one out"
+        ));
+    }
+    Ok(())
 }
 
 /// The problem with one more table over these modules must not have too many bytes.

@@ -101,13 +101,12 @@ impl<'a> Cursor<'a> {
             return self.refuse(Refusal::Arity);
         }
         let scope = self.take(arity)?;
-        let (mut least_next, mut entries) = (0, 1);
-        for &v in scope {
+        let mut entries = 1;
+        for (i, &v) in scope.iter().enumerate() {
             let variable = usize::from(v);
-            if variable < least_next || variable >= header.variables {
+            if variable >= header.variables || scope[..i].contains(&v) {
                 return self.refuse(Refusal::Scope);
             }
-            least_next = variable + 1;
             entries *= usize::from(domains[variable]);
         }
         Ok(CostRecord {
@@ -150,8 +149,8 @@ pub fn least_by_loops(record: &CostRecord, domains: &Domains, prefix: &[u8]) -> 
     least
 }
 
-/// The same as one run of entries: a scope rises, so that the prefix gives values to its first
-/// variables and leaves its last ones free, which run fastest.
+/// The same as one run of entries where no free variable is written before one that the prefix
+/// fixes, since the variables written last run fastest; else by loops.
 pub fn least_in_one_run(record: &CostRecord, domains: &Domains, prefix: &[u8]) -> u32 {
     let (mut start, mut length) = (0, 1);
     for &v in record.scope {
@@ -159,7 +158,8 @@ pub fn least_in_one_run(record: &CostRecord, domains: &Domains, prefix: &[u8]) -
         let size = usize::from(domains[variable]);
         start *= size;
         match prefix.get(variable) {
-            Some(&value) => start += usize::from(value),
+            Some(&value) if length == 1 => start += usize::from(value),
+            Some(_) => return least_by_loops(record, domains, prefix),
             None => length *= size,
         }
     }

@@ -7,6 +7,8 @@ pub mod law;
 pub mod mismerged;
 pub mod mutants;
 
+use std::collections::BTreeSet;
+
 use crate::owned::Listed;
 use frontier::limits::{MAX_DOMAIN, MAX_OBJECTIVES, MAX_TABLES, MAX_VARIABLES};
 use frontier::{Problem, Table};
@@ -159,10 +161,10 @@ pub fn check_bounds(
 pub fn is_valid(problem: &Problem) -> bool {
     let (n, p) = (problem.domains.len(), problem.ceilings.len());
     let valid_table = |table: &Table| {
-        let rising = (1..table.scope.len()).all(|i| table.scope[i - 1] < table.scope[i]);
+        let different: BTreeSet<u8> = table.scope.iter().copied().collect();
         let inside = table.scope.iter().all(|&v| usize::from(v) < n);
         let sizes = |v: &u8| usize::from(problem.domains[usize::from(*v)]);
-        rising
+        different.len() == table.scope.len()
             && inside
             && table.scope.len() <= 3
             && usize::from(table.objective) < p

@@ -87,6 +87,19 @@ fn with_higher_ceilings(problem: &[u8]) -> Vec<u8> {
     higher.encode()
 }
 
+/// The bytes with each scope sorted and its table as it was: the written order is ignored. Bytes that
+/// are no problem stay as they are.
+fn with_sorted_scopes(problem: &[u8]) -> Vec<u8> {
+    let Ok(reading) = read_problem(problem) else {
+        return problem.to_vec();
+    };
+    let mut sorted = reading.problem;
+    for table in &mut sorted.tables {
+        table.scope.sort_unstable();
+    }
+    sorted.encode()
+}
+
 /// Solves, and then does something wrong with the buffers or the answer.
 fn after(
     tamper: impl Fn(&mut Buffers, &mut Answer),
@@ -123,6 +136,9 @@ pub fn each_wrong_solver(test: impl Fn(&str, Solver)) {
     test("stops after one point", &after(one_point));
     test("ceiling allowed", &|problem, costs, choices, work| {
         solve_problem(&with_higher_ceilings(problem), costs, choices, work)
+    });
+    test("scopes sorted", &|problem, costs, choices, work| {
+        solve_problem(&with_sorted_scopes(problem), costs, choices, work)
     });
     test("choices not asked", &|problem, costs, choices, work| {
         let mut own = vec![0; MAX_POINTS * MAX_VARIABLES];
@@ -252,6 +268,9 @@ pub fn each_faulty_bounder(test: impl Fn(&str, Bounder)) {
     };
     test("all zero", &|_, _| zero);
     test("prefix ignored", &|problem, _| bound_prefix(problem, &[]));
+    test("scopes sorted", &|problem, prefix| {
+        bound_prefix(&with_sorted_scopes(problem), prefix)
+    });
     test("one value late", &|problem, prefix| {
         bound_prefix(problem, &prefix[..prefix.len().saturating_sub(1)])
     });
