@@ -1,8 +1,9 @@
--- The least of a run of numbers: the least over runs that follow each other is the least of one run.
+-- The least of a run of numbers: the least over runs that follow each other is the least of one run. Rows in even steps:
+-- the next one, and that it lies before the end.
 use mathlib.Core.Path.{_≡_}
-use Prim.Native.Nat.{ℕ, zero, suc, _+_, _-_, _*_, _≤_, min}
+use Prim.Native.Nat.{ℕ, zero, suc, _+_, _-_, _*_, _≤_, _<_, min}
 use native.Mathlib.Omega.{arith}
-use native.Mathlib.Nat.{add-zero, zero-add, zero-mul, suc-mul}
+use native.Mathlib.Nat.{add-zero, zero-add, zero-mul, suc-mul, mul-le-mul-right}
 use Rattle.model.specs.Bounds.{leastTo}
 
 pub least-same : (n : ℕ) (f g : ℕ → ℕ) → ((a : ℕ) → f a ≡ g a) → leastTo n f ≡ leastTo n g
@@ -40,3 +41,15 @@ least-run (suc r) (suc d) f h l =
     let a : suc r - 1 ≡ r = omega arith in
     let b : suc d - 1 ≡ d = omega arith in
     rw (end, a, b) (least-rows r d f)
+
+pub row-next : (first stride i : ℕ) → 1 ≤ i → first + (i - 1) * stride + stride ≡ first + i * stride
+row-next first stride zero h = absurd (omega arith)
+row-next first stride (suc i) h =
+    let e : suc i - 1 ≡ i = omega arith in
+    rw e (omega (arith, suc-mul i stride))
+
+pub row-inside : (first stride count rows i : ℕ) → i < rows
+    → first + i * stride + count ≤ first + (rows - 1) * stride + count
+row-inside first stride count rows i h =
+    let l : i ≤ rows - 1 = omega arith in
+    omega (arith, mul-le-mul-right stride l)

@@ -8,13 +8,18 @@ use lib.ListN.{length, getD}
 use Rattle.model.specs.Bounds.{leastTo, leastFrom}
 
 -- the least of f 0 to f i, from that of those before; for f 0 from itself
-pub least-next : (i : ℕ) (f : ℕ → ℕ) → leastTo (i + 1 - 1) f ≡ min (leastTo (i - 1) f) (f i)
+least-next : (i : ℕ) (f : ℕ → ℕ) → leastTo (i + 1 - 1) f ≡ min (leastTo (i - 1) f) (f i)
 unfolding leastTo
 least-next zero f = omega arith
 least-next (suc i) f =
     let a : suc i + 1 - 1 ≡ suc i = omega arith in
     let b : suc i - 1 ≡ i = omega arith in
     rw (a, b)
+
+-- the same of numbers that are known: the least so far, the next one, and the lesser of both
+pub least-grown : (i : ℕ) (f : ℕ → ℕ) {least next both : ℕ} → least ≡ leastTo (i - 1) f → next ≡ f i
+    → both ≡ min least next → both ≡ leastTo (i + 1 - 1) f
+least-grown i f e n b = rw (least-next i f, b, e, n)
 
 -- where no variable is left, the entry
 pub least-none : (ds pre : List ℕ) (entry : ℕ → ℕ) (i : ℕ) → leastFrom ds pre entry i [] ≡ entry i

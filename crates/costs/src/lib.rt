@@ -5,14 +5,14 @@ ghost use Prim.Native.Nat.{ℕ, _+_, _-_, _*_, _<_, _≤_};
 ghost use lib.ListN.{length, drop};
 ghost use Rattle.model.specs.Basics.{All};
 ghost use Rattle.model.specs.Limits.{maxTables, maxObjectives};
-ghost use Rattle.model.specs.Problems.{DomainSize, sizeOf};
-ghost use Rattle.model.specs.Reading.{tableArity, tableOf, tablesAt};
+ghost use Rattle.model.specs.Problems.{DomainSize};
+ghost use Rattle.model.specs.Reading.{tableOf, tablesAt};
 ghost use Rattle.model.specs.Costs.{totalsFrom};
 ghost use Rattle.model.specs.Core.{entryEnd, entry, plain};
-ghost use Rattle.model.specs.Bounds.{prefixOk, leastTo, leastFrom, leastOf};
+ghost use Rattle.model.specs.Bounds.{prefixOk, leastTo, leastOf};
 ghost use Rattle.problem.specs.Records.{Whole, AllWhole};
-ghost use Rattle.costs.specs.Entries.{tableAt, entryAt, numberAt, scopeAt, entriesAt};
-ghost use Rattle.costs.specs.Runs.{RunSays};
+ghost use Rattle.costs.specs.Entries.{tableAt, entryAt, numberAt, entriesAt};
+ghost use Rattle.costs.specs.Runs.{leastIn, RunsFit, RunsSay};
 
 // What a table's number weighs in the core.
 fn weigh(x: u32) -> u64
@@ -95,74 +95,72 @@ pub fn least_row(s: &[u8], at: usize, first: usize, count: usize, sizes: &[u8]) 
     least
 }
 
-// The least number over the scope variables from number `k` on that agrees with the prefix, after the index `index`.
-pub fn least_from(s: &[u8], at: usize, k: usize, index: usize, sizes: &[u8], prefix: &[u8]) -> u32
-    requires { ⌜ Whole (now sizes) (now s) at × All DomainSize (now sizes) × (prefixOk (now sizes) (now prefix) ≡ true)
-        × (k ≤ tableArity (drop at (now s)))
-        × ((index + 1) * sizeOf (now sizes) (drop k (scopeAt (now s) at)) ≤ entriesAt (now sizes) (now s) at) ⌝ }
-    ensures { λ r. ⌜ r ≡ leastFrom (now (sizes .entry)) (now (prefix .entry))
-        (numberAt (now (sizes .entry)) (now (s .entry)) at) index (drop k (scopeAt (now (s .entry)) at)) ⌝ }
-{
-    let a = problem::arity_at(s, at);
-    if k == a {
-        return number_at(s, at, index, sizes);
-    }
-    let v = problem::scope_at(s, at, k);
-    let d = sizes[v] as usize;
-    if v < prefix.len() {
-        return least_from(
-            s,
-            at,
-            k + 1,
-            index * d + (prefix[v] as usize),
-            sizes,
-            prefix,
-        );
-    }
-    let mut least = least_from(s, at, k + 1, index * d, sizes, prefix);
-    let mut x: usize = 1;
-    while x < d {
-        least = lesser(
-            least,
-            least_from(s, at, k + 1, index * d + x, sizes, prefix),
-        );
-        x += 1;
-    }
-    least
-}
-
-// A run of entries: `count` of them, from entry `first` on.
-pub struct Run {
+// Runs of entries in even steps: `rows` of them, of `count` entries each, `stride` apart, the first from entry `first`
+// on.
+pub struct Runs {
     pub first: usize,
     pub count: usize,
+    pub rows: usize,
+    pub stride: usize,
 }
 
-// The entries of the record at `at` that agree with the prefix, where they stand in a row, else a run of 0.
-// They do where no free variable is written before a fixed one: the variable that is written last runs fastest.
-pub fn run_at(s: &[u8], at: usize, sizes: &[u8], prefix: &[u8]) -> Run
+// The entries of the record at `at` that agree with the prefix. They are one run where no free variable is written
+// before a fixed one, since the variable that is written last runs fastest. A fixed one behind free ones parts them
+// into rows, and with three variables that happens once.
+pub fn runs_at(s: &[u8], at: usize, sizes: &[u8], prefix: &[u8]) -> Runs
     requires { ⌜ Whole (now sizes) (now s) at × All DomainSize (now sizes)
         × (prefixOk (now sizes) (now prefix) ≡ true) ⌝ }
-    ensures { λ r. ⌜ RunSays (now (sizes .entry)) (now (prefix .entry)) (now (s .entry)) at r ⌝ }
+    ensures { λ r. ⌜ RunsSay (now (sizes .entry)) (now (prefix .entry)) (now (s .entry)) at r ⌝ }
 {
     let a = problem::arity_at(s, at);
     let mut first: usize = 0;
     let mut count: usize = 1;
+    let mut rows: usize = 1;
+    let mut stride: usize = 0;
     let mut k: usize = 0;
     while k < a {
         let v = problem::scope_at(s, at, k);
         let d = sizes[v] as usize;
         k += 1;
         first = first * d;
+        stride = stride * d;
         if prefix.len() <= v {
             count = count * d;
             continue;
         }
-        if count != 1 {
-            return Run { first: 0, count: 0 };
-        }
         first = first + (prefix[v] as usize);
+        if count == 1 {
+            continue;
+        }
+        rows = count;
+        stride = d;
+        count = 1;
     }
-    Run { first, count }
+    Runs {
+        first,
+        count,
+        rows,
+        stride,
+    }
+}
+
+// The least of the numbers in runs of entries.
+pub fn least_in(s: &[u8], at: usize, runs: Runs, sizes: &[u8]) -> u32
+    requires { ⌜ Whole (now sizes) (now s) at × RunsFit (now sizes) (now s) at runs ⌝ }
+    ensures { λ r. ⌜ r ≡ leastIn (now (sizes .entry)) (now (s .entry)) at runs ⌝ }
+{
+    let count = runs.count;
+    let rows = runs.rows;
+    let stride = runs.stride;
+    let mut here = runs.first;
+    let mut least = least_row(s, at, here, count, sizes);
+    let mut i: usize = 1;
+    while i < rows {
+        here += stride;
+        least = lesser(least, least_row(s, at, here, count, sizes));
+        i += 1;
+    }
+    least
 }
 
 // The least number in the table of the record at `at` that agrees with the prefix.
@@ -172,11 +170,8 @@ fn least_number(s: &[u8], at: usize, sizes: &[u8], prefix: &[u8]) -> u32
     ensures { λ r. ⌜ r ≡ leastOf (now (sizes .entry)) (now (prefix .entry))
         (tableOf (now (sizes .entry)) (drop at (now (s .entry)))) ⌝ }
 {
-    let t = run_at(s, at, sizes, prefix);
-    if t.count == 0 {
-        return least_from(s, at, 0, 0, sizes, prefix);
-    }
-    least_row(s, at, t.first, t.count, sizes)
+    let runs = runs_at(s, at, sizes, prefix);
+    least_in(s, at, runs, sizes)
 }
 
 // The least entry of the record at `at` that agrees with the prefix: what the least number weighs.

@@ -1,6 +1,5 @@
--- `costs::least_number` meets its contract: the least of one run, or by recursion.
+-- `costs::least_number` meets its contract: the least of the runs that agree.
 use mathlib.Core.Path.{_∙_}
-use native.Mathlib.Omega.{arith}
 use Rattle.model.specs.Reading.{tableOf}
 use Rattle.model.specs.Bounds.{leastOf}
 use borrow.Author.Needs.{needs}
@@ -9,19 +8,12 @@ use Rattle.costs.proofs.least_number.Tie as tie
 
 returns : tie.Need-returns
 unfolding leastOf tableOf
-returns c = c .least-from .ensures
-
-returns-2 : tie.Need-returns-2
-unfolding leastOf tableOf
-returns-2 c =
-    c .least-row .ensures ∙ c .before .before .before .run-at .ensures .least (omega (arith, c .before .if1 .left))
+returns c = c .least-in .ensures ∙ c .before .runs-at .ensures .least
 
 pub least-number-spec : {M : Type 1} → statement M
 least-number-spec =
     tie.close
     (tie.spec
-    (λ c κs. search needs)  -- run-at-requires
-    (λ c κs. search needs)  -- least-from-requires
-    returns
-    (λ c κs. search needs)  -- least-row-requires
-    returns-2)
+    (λ c κs. search needs)  -- runs-at-requires
+    (λ c κs. search needs)  -- least-in-requires
+    returns)

@@ -1,14 +1,14 @@
 -- `costs::least_row` meets its contract. The invariant: the least so far is the least of the first i numbers, and the
 -- first's for none.
 use mathlib.Core.Path.{_≡_}
-use Prim.Native.Nat.{_+_, _-_, _≤_}
+use Prim.Native.Nat.{ℕ, _+_, _-_, _≤_}
 use native.Mathlib.Omega.{arith}
 use native.Mathlib.Nat.{add-zero}
 use denote.Ref.{now}
 use Rattle.model.specs.Bounds.{leastTo}
 use Rattle.problem.proofs.Scopes.{whole-ends}
 use Rattle.costs.specs.Entries.{numberAt}
-use Rattle.costs.proofs.LeastSteps.{least-next}
+use Rattle.costs.proofs.LeastSteps.{least-grown}
 use Rattle.costs.proofs.least_row.Statement.{statement}
 use Rattle.costs.proofs.least_row.Tie as tie
 
@@ -43,8 +43,8 @@ loop-again : tie.Need-loop-again Inv-loop μ-loop
 loop-again c =
     let a = c .before .before .before .before .before .before .before .args in
     let w = c .before .before .before .loop in
-    let step = least-next (w .i) (λ j. numberAt (now (a .sizes)) (now (a .s)) (a .at) (a .first + j)) in
-    (omega arith, rw (step, c .lesser .ensures, w .inv .1, c .before .number-at2 .ensures))
+    let f : ℕ → ℕ = λ j. numberAt (now (a .sizes)) (now (a .s)) (a .at) (a .first + j) in
+    (omega arith, least-grown (w .i) f (w .inv .1) (c .before .number-at2 .ensures) (c .lesser .ensures))
 
 returns : tie.Need-returns Inv-loop μ-loop
 returns c =
