@@ -1,5 +1,5 @@
--- The least of a run of numbers: the least over runs that follow each other is the least of one run. Rows in even steps:
--- the next one, and that it lies before the end.
+-- The least of a run of numbers: the least over runs that follow each other is the least of one run. And rows in even
+-- steps: where the next one starts, and that it ends with the last one or before.
 use mathlib.Core.Path.{_≡_}
 use Prim.Native.Nat.{ℕ, zero, suc, _+_, _-_, _*_, _≤_, _<_, min}
 use native.Mathlib.Omega.{arith}

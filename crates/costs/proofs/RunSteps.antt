@@ -86,11 +86,16 @@ module _ (ds pre s : List ℕ) (at : ℕ) (w : Whole ds s at) (sizes : All Domai
     one : 1 ≤ domain
     one = variable-size ds s at w k more sizes .0
 
-    -- index number a of row i with value x of the variable, and the end of the last row
+    -- index number a of row i, with value x of the variable
     at-value : (i a x : ℕ)
         → (first + i * stride + a) * domain + x ≡ first * domain + i * (stride * domain) + a * domain + x
     at-value i a x =
-        omega (arith, add-mul (first + i * stride) a domain, add-mul first (i * stride) domain, mul-assoc i stride domain)
+        omega (
+          arith,
+          add-mul (first + i * stride) a domain,
+          add-mul first (i * stride) domain,
+          mul-assoc i stride domain,
+        )
 
     wider :
         (first * domain + (rows - 1) * (stride * domain) + count * domain) * left ≤ entriesAt ds s at

@@ -19,13 +19,13 @@ use Rattle.model.specs.Calls.{workVerdict, roomVerdict, solveVerdict, so
 use Rattle.model.specs.Calls.{cutRoomVerdict, cutVerdict, cutOutcome, boundVerdict, boundOutcome}
 
 unfoldable pub computing : Unit {0}
-unfolding firstOf sizeOf hasVariable scopeRule twoBytes fourBytes wordBytes headBytes domainBytes tableBytes tablesBytes encode word2
-    word4 wordsIn startNumber headNumber domainNumber tableScope tableLength tableNumber tableOf domainsVerdict
-    domainsAt tablesVerdict tablesAt placesAt bodyVerdict verdictOf problemOf placesOf under atMost same earlier added
-    isChoice entryFrom costOf total totalsFrom totals costsOf consistent someBeats unbeaten put sorted best withFirst
-    firstsFrom choices pointsBy frontierBy rising prefixOk agrees leastTo leastFrom leastOf boundOf allSides sidesOk
-    hasSide crosses linkedVerdict uncrossed onSide newNumber renumbered inHalf halfTables half merged pairsWith allPairs
-    cutList otherSide exchanged over padded divided roomOf flatCosts flatChoices pointRecords workAfter workVerdict
-    roomVerdict solveVerdict solveOutcome listOutcome sidesVerdict cutRoomVerdict cutVerdict cutOutcome boundVerdict
-    boundOutcome
+unfolding firstOf sizeOf hasVariable scopeRule twoBytes fourBytes wordBytes headBytes domainBytes tableBytes
+    tablesBytes encode word2 word4 wordsIn startNumber headNumber domainNumber tableScope tableLength tableNumber
+    tableOf domainsVerdict domainsAt tablesVerdict tablesAt placesAt bodyVerdict verdictOf problemOf placesOf under
+    atMost same earlier added isChoice entryFrom costOf total totalsFrom totals costsOf consistent someBeats
+    unbeaten put sorted best withFirst firstsFrom choices pointsBy frontierBy rising prefixOk agrees leastTo
+    leastFrom leastOf boundOf allSides sidesOk hasSide crosses linkedVerdict uncrossed onSide newNumber renumbered
+    inHalf halfTables half merged pairsWith allPairs cutList otherSide exchanged over padded divided roomOf
+    flatCosts flatChoices pointRecords workAfter workVerdict roomVerdict solveVerdict solveOutcome listOutcome
+    sidesVerdict cutRoomVerdict cutVerdict cutOutcome boundVerdict boundOutcome
 computing = tt

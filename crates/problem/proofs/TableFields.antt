@@ -53,7 +53,8 @@ module _ (p : ℕ) (ds s : List ℕ) where
 
           module _ (distinct : scopeRule (length ds) (tableScope s) ≡ true) where
             table-last : tableNumber p ds s ≡ when (ltb (length s) (tableLength ds s)) cutShort
-            table-last = fields-passed ∙ pass-test cutShort _ (le-ltb _ _ there) ∙ pass-test badScope _ (ap not distinct)
+            table-last =
+                fields-passed ∙ pass-test cutShort _ (le-ltb _ _ there) ∙ pass-test badScope _ (ap not distinct)
 
             pub table-short : length s < tableLength ds s → tableNumber p ds s ≡ cutShort
             table-short h = table-last ∙ when-on cutShort (lt-ltb _ _ h)
