@@ -101,12 +101,14 @@ impl<'a> Cursor<'a> {
             return self.refuse(Refusal::Arity);
         }
         let scope = self.take(arity)?;
-        let mut entries = 1;
-        for (i, &v) in scope.iter().enumerate() {
+        // A bit for each variable that was named.
+        let (mut named, mut entries) = (0_u32, 1);
+        for &v in scope {
             let variable = usize::from(v);
-            if variable >= header.variables || scope[..i].contains(&v) {
+            if variable >= header.variables || named >> variable & 1 == 1 {
                 return self.refuse(Refusal::Scope);
             }
+            named |= 1 << variable;
             entries *= usize::from(domains[variable]);
         }
         Ok(CostRecord {
