@@ -75,7 +75,7 @@ pub enum Refusal {
     Owner(u32),
     /// Number 9: the arity of a cost record is above its limit.
     Arity(u32),
-    /// Number 10: a scope variable is n or more, or not above the one before.
+    /// Number 10: a scope variable is n or more, or is named twice in the scope.
     Scope(u32),
     /// Number 11: bytes follow the last record; the place is the first of them.
     Leftover(u32),
@@ -222,7 +222,7 @@ impl Refusal {
             Refusal::Owner(_) => "the cost record is for an objective that there is not".into(),
             Refusal::Arity(_) => format!("the cost record is over more than {MAX_ARITY} variables"),
             Refusal::Scope(_) => {
-                "the scope does not rise, or has a variable that there is not".into()
+                "the scope has a variable that there is not, or names one twice".into()
             }
             Refusal::Leftover(_) => "bytes follow the last record".into(),
             Refusal::Work => format!("the work buffer has fewer than {LEAST_WORK} numbers"),

@@ -129,6 +129,11 @@ fn every_number_is_a_refusal_of_its_own() {
     }
     let scope = Refusal::new(10, 85).expect("a refusal");
     assert_eq!((scope, scope.place()), (Refusal::Scope(85), 85));
+    let text = scope.to_string();
+    assert!(
+        text.ends_with(": the scope has a variable that there is not, or names one twice"),
+        "{text}"
+    );
 }
 
 #[test]
