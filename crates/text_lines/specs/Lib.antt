@@ -1,0 +1,2 @@
+-- What writing a form to a place of a buffer leaves there.
+pub mod Written
