@@ -29,7 +29,7 @@ fn unweighed(w: u64) -> u64
 }
 
 // The number that stands as entry `i` in the table of the record at `at`: the one place that knows where tables stand.
-fn number_at(s: &[u8], at: usize, i: usize, sizes: &[u8]) -> u32
+pub fn number_at(s: &[u8], at: usize, i: usize, sizes: &[u8]) -> u32
     requires { ⌜ Whole (now sizes) (now s) at × (i < entriesAt (now sizes) (now s) at) ⌝ }
     ensures { λ r. ⌜ r ≡ numberAt (now (sizes .entry)) (now (s .entry)) at i ⌝ }
 {

@@ -53,8 +53,8 @@ pub fn is_named(s: &[u8], at: usize, count: usize, v: usize) -> bool
     false
 }
 
-// The head of the accepted record at `at`: these four alone know where it has its objective, the number of its
-// scope's variables, number `k` of them, and whether `v` is one.
+// The head of the accepted record at `at`: these five alone know where it has its objective, the number of its
+// scope's variables, number `k` of them, all of them, and whether `v` is one.
 pub fn objective_at(s: &[u8], at: usize) -> usize
     requires { ⌜ Headed (now s) at ⌝ }
     ensures { λ r. ⌜ r ≡ tableObjective (drop at (now (s .entry))) ⌝ }
@@ -74,6 +74,16 @@ pub fn scope_at(s: &[u8], at: usize, k: usize) -> usize
     ensures { λ r. ⌜ r ≡ getD (tableScope (drop at (now (s .entry)))) k 0 ⌝ }
 {
     s[at + 4 + k] as usize
+}
+
+pub fn scope_of(s: &[u8], at: usize) -> &[u8]
+    requires { ⌜ Headed (now s) at ⌝ }
+    ensures { λ r. ⌜ now r ≡ tableScope (drop at (now (s .entry))) ⌝ }
+{
+    let a = arity_at(s, at);
+    let start = at + 4;
+    let end = start + a;
+    &s[start..end]
 }
 
 pub fn has_variable(s: &[u8], at: usize, v: usize) -> bool
