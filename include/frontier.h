@@ -1,8 +1,8 @@
 /* The variant chooser's version, limits, numbers of refusal and calls, for C99, C++11 and later. Link libfrontier.a; it
- * needs nothing but the C library. There are four calls: frontier_solve lists the frontier of a problem; frontier_cut
+ * needs nothing but the C library. There are five calls: frontier_solve lists the frontier of a problem; frontier_cut
  * lists it by way of two halves of the problem; frontier_bound bounds what a partial choice leads to; frontier_points
- * lists the frontier into point records. What a later version may change is in docs/INTERFACE.md; calls for
- * measurements are in frontier_measure.h.
+ * lists the frontier into point records; frontier_to_text writes a problem as WCSP text, which other solvers read. What
+ * a later version may change is in docs/INTERFACE.md; calls for measurements are in frontier_measure.h.
  *
  * A problem is a string of bytes. Numbers in it are unsigned and little-endian, at any address, with nothing between
  * them. It is made of records, each of which starts with a mark of two letters:
@@ -36,7 +36,7 @@
 
 /* The version of this header, and in one number: 1002003 is 1.2.3. frontier_version gives that of the library. */
 #define FRONTIER_VERSION_MAJOR 2
-#define FRONTIER_VERSION_MINOR 0
+#define FRONTIER_VERSION_MINOR 1
 #define FRONTIER_VERSION_PATCH 0
 #define FRONTIER_VERSION (FRONTIER_VERSION_MAJOR * 1000000 + FRONTIER_VERSION_MINOR * 1000 + FRONTIER_VERSION_PATCH)
 
@@ -57,6 +57,7 @@
 #define FRONTIER_CHOICES_LEN (FRONTIER_MAX_POINTS * FRONTIER_MAX_VARIABLES)
 #define FRONTIER_POINTS_LEN FRONTIER_MAX_POINTS
 #define FRONTIER_WORK_LEN FRONTIER_LEAST_WORK
+#define FRONTIER_TEXT_LEN 255000 /* a text has at most 17 bytes for 4 of the problem's */
 
 /* what a call returns: 0, or the number of a refusal */
 #define FRONTIER_ACCEPTED 0
@@ -76,13 +77,16 @@
 #define FRONTIER_REFUSED_LINKED 14    /* a record's scope has both sides */
 #define FRONTIER_REFUSED_FULL 15      /* more points than room; in the cut call also a half's frontier above 64 */
 #define FRONTIER_REFUSED_PREFIX 16    /* prefix longer than n, or a value not in its domain */
+#define FRONTIER_REFUSED_TEXT 17      /* not WCSP text; no call of this version returns it */
+#define FRONTIER_REFUSED_DIALECT 18   /* WCSP text cannot say it: p above 1 */
+#define FRONTIER_REFUSED_OUTPUT 19    /* text buffer shorter than the text */
 
-/* The word for what a call returned, in letters and spaces; "unknown" for a number that no call of this version
- * returns. The string is constant and not null. */
+/* The word for what a call returned, in letters and spaces; "unknown" for a number that this version does not name. The
+ * string is constant and not null. */
 static inline const char *frontier_word(uint8_t number) {
     static const char *const words[] = {
         "accepted", "oversize", "cut short", "stray mark", "variables", "objectives", "tables", "domain", "owner",
-        "arity", "scope", "leftover", "work", "sides", "linked", "full", "prefix",
+        "arity", "scope", "leftover", "work", "sides", "linked", "full", "prefix", "text", "dialect", "output",
     };
     return number < sizeof words / sizeof words[0] ? words[number] : "unknown";
 }
@@ -248,6 +252,36 @@ struct frontier_point {
  * It takes as long as frontier_solve, and cannot be interrupted either. */
 uint8_t frontier_points(const uint8_t *problem, size_t problem_len, struct frontier_point *points, size_t points_len,
                         uint32_t *work, size_t work_len, uint32_t *place, uint32_t *count);
+
+/* Writes a problem with one objective as WCSP text, the format of toulbar2, into the buffer that it is lent.
+ *
+ *   pointer  valid for                         null  may overlap
+ *   problem  problem_len bytes, read           no    nothing
+ *   text     text_len bytes, written           no    nothing
+ *   place    one number, written               no    nothing
+ *   count    one number, written               no    nothing
+ *
+ * The first line of the text is P, n, the largest domain size, r and the ceiling; the second is the domain sizes. Then
+ * each cost record follows, in their order. Its head is a line with the arity, the scope as the record names it, the
+ * default cost 0, and how many entries of the table are not 0; each of these has a line in the table's order: the value
+ * of each variable of the scope, and the entry. A record of arity 0 is one line: 0, its entry, 0. Numbers are decimal
+ * without leading zeros, one space stands between two of a line, a line feed (10) ends each line, and there is no other
+ * byte, so none of value 0 at the end. Every choice costs by the text what it costs by the problem, and the upper bound
+ * of the text is the ceiling: what costs as much or more is not allowed.
+ *
+ * A text has at most FRONTIER_TEXT_LEN bytes, which so do for every problem. Nothing in the answer depends on what the
+ * buffer held before.
+ *
+ * The number of refusal is the result: 0 for none, 1 to 11 for the problem, then FRONTIER_REFUSED_DIALECT if p is above
+ * 1, then FRONTIER_REFUSED_OUTPUT if text_len is less than the text has bytes. *place becomes the place of the refusal,
+ * 0 with the last two and without one; *count becomes how many bytes the text has, and 0 after a refusal. Both are
+ * always written, whatever they held. What the buffer holds afterwards:
+ *
+ *   result                 text
+ *   FRONTIER_ACCEPTED      the first *count bytes are the text, the rest is unchanged
+ *   another number         unchanged */
+uint8_t frontier_to_text(const uint8_t *problem, size_t problem_len, uint8_t *text, size_t text_len, uint32_t *place,
+                         uint32_t *count);
 
 #ifdef __cplusplus
 }

@@ -84,6 +84,15 @@ extern "C" {
         place: *mut u32,
         count: *mut u32,
     ) -> u8;
+
+    pub fn frontier_to_text(
+        problem: *const u8,
+        problem_len: usize,
+        text: *mut u8,
+        text_len: usize,
+        place: *mut u32,
+        count: *mut u32,
+    ) -> u8;
 }
 
 /// What the plain call is to the linker, by either form of the search.

@@ -2,25 +2,27 @@
 //! `include/frontier.h` declares, with the same meaning. Numbers of refusal are those of
 //! [`refusal`](crate::refusal), 0 is none.
 
-use crate::ffi::{frontier_bound, frontier_cut, frontier_points, frontier_solve, Solve};
+use crate::ffi::{frontier_bound, frontier_cut, frontier_points, frontier_solve};
+use crate::ffi::{frontier_to_text, Solve};
 use crate::limits::{MAX_OBJECTIVES, MAX_VARIABLES};
 use crate::refusal::Refusal;
 
 pub use crate::buffers::{Buffers, CutCall, SolveCall};
 
-/// What a call answers: number 0 and the count of points, or a refusal with count 0.
+/// What a call answers: number 0 and the count of points (of bytes, from the call that writes text),
+/// or a refusal with count 0.
 #[derive(Clone, Copy, Debug, PartialEq, Eq)]
 pub struct Answer {
     /// The number of refusal, or 0.
     pub number: u8,
     /// The place of the refusal; 0 where it has none.
     pub place: u32,
-    /// How many points are listed.
+    /// How many points are listed, or how many bytes of text are written.
     pub count: u32,
 }
 
 impl Answer {
-    /// An accepted problem with this many points.
+    /// An accepted problem with this many points, or bytes of text.
     pub fn accepted(count: usize) -> Answer {
         Answer {
             number: 0,
@@ -307,6 +309,34 @@ pub fn write_points(
 pub fn list_points(problem: &[u8], points: &mut [PointRecord], work: &mut [u32]) -> Answer {
     let (mut place, mut count) = (0, 0);
     let number = write_points(problem, points, work, &mut place, &mut count);
+    Answer {
+        number,
+        place,
+        count,
+    }
+}
+
+/// The call that writes WCSP text as C has it: the number of refusal is the result, and `place` and
+/// `count` are written whatever they held. Callers that only want the answer use [`to_text`].
+pub fn write_text(problem: &[u8], text: &mut [u8], place: &mut u32, count: &mut u32) -> u8 {
+    // SAFETY: as in `write_bound`; the three that are written are exclusive.
+    unsafe {
+        frontier_to_text(
+            problem.as_ptr(),
+            problem.len(),
+            text.as_mut_ptr(),
+            text.len(),
+            place,
+            count,
+        )
+    }
+}
+
+/// Writes a problem with one objective as WCSP text. [`TEXT_LEN`](crate::limits::TEXT_LEN) bytes do
+/// for every problem.
+pub fn to_text(problem: &[u8], text: &mut [u8]) -> Answer {
+    let (mut place, mut count) = (0, 0);
+    let number = write_text(problem, text, &mut place, &mut count);
     Answer {
         number,
         place,

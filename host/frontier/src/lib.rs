@@ -26,8 +26,9 @@
 //! # Ok::<(), frontier::Refusal>(())
 //! ```
 //!
-//! [`Chooser`] owns one set of buffers and is used again for problem after problem. Those who bring
-//! their own buffers, as C programs do, find the calls in [`lent`].
+//! [`Chooser`] owns one set of buffers and is used again for problem after problem. [`to_text`] writes
+//! a problem with one objective as text for other solvers. Those who bring their own buffers, as C
+//! programs do, find the calls in [`lent`].
 
 #![warn(missing_docs)]
 
@@ -41,9 +42,11 @@ pub mod measure;
 mod problem;
 pub mod refusal;
 mod version;
+mod wcsp;
 
 pub use chooser::{Bound, Chooser, Cut};
 pub use list::{Frontier, Point, Points};
 pub use problem::{Problem, Table, FORBIDDEN};
 pub use refusal::Refusal;
 pub use version::version;
+pub use wcsp::to_text;

@@ -24,3 +24,6 @@ pub const MAX_BYTES: usize = 60_000;
 
 /// The work buffer has at least this many numbers.
 pub const LEAST_WORK: usize = 8_192;
+
+/// A problem as WCSP text has at most this many bytes: 17 for 4 of the problem's.
+pub const TEXT_LEN: usize = 255_000;

@@ -39,6 +39,12 @@ pub const LINKED: u8 = 14;
 pub const FULL: u8 = 15;
 /// [`Refusal::Prefix`].
 pub const PREFIX: u8 = 16;
+/// [`Refusal::Text`].
+pub const TEXT: u8 = 17;
+/// [`Refusal::Dialect`].
+pub const DIALECT: u8 = 18;
+/// [`Refusal::Output`].
+pub const OUTPUT: u8 = 19;
 
 /// Why there is no answer. Where a record of the problem is at fault, its place is beside it: the
 /// record's first byte, counted from 0.
@@ -89,6 +95,12 @@ pub enum Refusal {
     Full,
     /// Number 16: the prefix is longer than n, or has a value not in its domain.
     Prefix,
+    /// Number 17: a text is not in the WCSP format. No call of this version refuses so.
+    Text,
+    /// Number 18: WCSP text cannot say it, since p is above 1.
+    Dialect,
+    /// Number 19: the text buffer is shorter than the text.
+    Output,
 }
 
 /// What there is to say of a refusal: its number and word, and how to make it with a place.
@@ -99,7 +111,7 @@ struct Row {
 }
 
 /// A row for each number, from 1 on.
-const ROWS: [Row; 16] = [
+const ROWS: [Row; 19] = [
     row(OVERSIZE, "oversize", |_| Refusal::Oversize),
     row(CUT_SHORT, "cut short", Refusal::CutShort),
     row(STRAY_MARK, "stray mark", Refusal::StrayMark),
@@ -116,6 +128,9 @@ const ROWS: [Row; 16] = [
     row(LINKED, "linked", Refusal::Linked),
     row(FULL, "full", |_| Refusal::Full),
     row(PREFIX, "prefix", |_| Refusal::Prefix),
+    row(TEXT, "text", |_| Refusal::Text),
+    row(DIALECT, "dialect", |_| Refusal::Dialect),
+    row(OUTPUT, "output", |_| Refusal::Output),
 ];
 
 const fn row(number: u8, word: &'static str, make: fn(u32) -> Refusal) -> Row {
@@ -174,6 +189,9 @@ impl Refusal {
             Refusal::Linked(_) => LINKED,
             Refusal::Full => FULL,
             Refusal::Prefix => PREFIX,
+            Refusal::Text => TEXT,
+            Refusal::Dialect => DIALECT,
+            Refusal::Output => OUTPUT,
         }
     }
 
@@ -200,7 +218,10 @@ impl Refusal {
             | Refusal::Work
             | Refusal::Sides
             | Refusal::Full
-            | Refusal::Prefix => None,
+            | Refusal::Prefix
+            | Refusal::Text
+            | Refusal::Dialect
+            | Refusal::Output => None,
         }
     }
 
@@ -236,6 +257,9 @@ impl Refusal {
                 "the prefix has more values than there are variables, or one outside its domain"
                     .into()
             }
+            Refusal::Text => "the text is not in the WCSP format".into(),
+            Refusal::Dialect => "there is more than one objective, and WCSP text has one".into(),
+            Refusal::Output => "the text buffer is shorter than the text".into(),
         }
     }
 }

@@ -4,10 +4,11 @@
 use std::fs;
 
 use chooser::hex::from_hex;
-use frontier::lent::{bound_prefix, list_points, solve_cut, solve_problem, Buffers, PointRecord};
+use frontier::lent::{bound_prefix, list_points, solve_cut, solve_problem, to_text};
+use frontier::lent::{Buffers, PointRecord};
 use frontier::limits::{
     LEAST_WORK, MAX_ARITY, MAX_BYTES, MAX_DOMAIN, MAX_OBJECTIVES, MAX_POINTS, MAX_TABLES,
-    MAX_VARIABLES,
+    MAX_VARIABLES, TEXT_LEN,
 };
 use frontier::refusal::word_of;
 use frontier::Refusal;
@@ -67,7 +68,7 @@ fn the_limits_are_those_of_the_library() {
 fn refusals_have_the_words_of_the_library() {
     let rows = rows("| Number | Word |");
     let told: Vec<(&str, &str)> = rows.iter().map(|row| (row[0], row[1])).collect();
-    let numbers: Vec<String> = (1..=16).map(|number: u8| number.to_string()).collect();
+    let numbers: Vec<String> = (1..=19).map(|number: u8| number.to_string()).collect();
     let due: Vec<(&str, &str)> = (1..)
         .zip(&numbers)
         .map(|(n, text)| (&text[..], word_of(n)))
@@ -269,6 +270,19 @@ fn bound(bytes: &[u8], prefix: &[u8]) -> String {
     }
 }
 
+/// The text call with so many bytes lent.
+fn text(bytes: &[u8], lent: usize) -> String {
+    let mut written = vec![7; lent];
+    let answer = to_text(bytes, &mut written);
+    if let Some(refusal) = Refusal::new(answer.number, answer.place) {
+        return refused(refusal);
+    }
+    written.truncate(answer.count as usize);
+    let written = String::from_utf8(written).expect("a text");
+    let lines = written.strip_suffix('\n').expect("a last line");
+    lines.replace('\n', "; ")
+}
+
 /// What a call of the table gives for a problem.
 fn outcome(call: &str, bytes: &[u8]) -> String {
     let full = MAX_POINTS * MAX_OBJECTIVES;
@@ -277,12 +291,12 @@ fn outcome(call: &str, bytes: &[u8]) -> String {
         ("plain", lent) => plain(bytes, numbers(lent)[0]),
         ("cut", sides) => cut(bytes, &numbers(sides)),
         ("bound", prefix) => bound(bytes, &numbers(prefix)),
+        ("text", "") => text(bytes, TEXT_LEN),
+        ("text", lent) => text(bytes, numbers(lent)[0]),
         ("any", "") => {
             let told = plain(bytes, full);
-            assert_eq!(
-                (cut(bytes, &[]), bound(bytes, &[])),
-                (told.clone(), told.clone())
-            );
+            let others = [cut(bytes, &[]), bound(bytes, &[]), text(bytes, 0)];
+            assert_eq!(others, [&told; 3].map(String::clone));
             told
         }
         _ => panic!("'{call}' is no call"),
@@ -292,7 +306,7 @@ fn outcome(call: &str, bytes: &[u8]) -> String {
 #[test]
 fn cases_end_as_told() {
     let rows = rows("| Problem | Call |");
-    assert!(rows.len() > 25, "{} cases", rows.len());
+    assert!(rows.len() > 30, "{} cases", rows.len());
     for row in rows {
         let told = outcome(row[1], &case_bytes(row[0]));
         assert_eq!(told, row[2], "{}, {}", row[0], row[1]);

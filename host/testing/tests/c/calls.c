@@ -93,6 +93,18 @@ static void print_points(size_t problem_len, size_t points_len, size_t work_len)
     printf("\n");
 }
 
+/* Prints number, place and count, how many bytes past the text have changed, and the text. */
+static void print_text(const uint8_t *bytes, size_t bytes_len, size_t text_len) {
+    static uint8_t text[FRONTIER_TEXT_LEN];
+    uint32_t place = 9, count = 9, changed = 0;
+    memset(text, 9, sizeof text);
+    uint8_t number = frontier_to_text(bytes, bytes_len, text, text_len, &place, &count);
+    for (size_t i = count; i < sizeof text; i++)
+        changed += text[i] != 9;
+    printf("%u %" PRIu32 " %" PRIu32 " %" PRIu32 "\n%.*s", (unsigned)number, place, count, changed, (int)count,
+           (const char *)text);
+}
+
 int main(void) {
     print_list(sizeof pair, FRONTIER_MAX_POINTS, FRONTIER_LEAST_WORK);
     print_list(sizeof pair, 2, FRONTIER_LEAST_WORK);
@@ -115,5 +127,10 @@ int main(void) {
     print_points(sizeof pair, 2, FRONTIER_LEAST_WORK);
     print_points(sizeof pair, 3, FRONTIER_LEAST_WORK - 1);
     print_points(sizeof pair - 1, 3, FRONTIER_LEAST_WORK);
+    print_text(problem, sizeof problem, FRONTIER_TEXT_LEN);
+    print_text(problem, sizeof problem, 50);
+    print_text(problem, sizeof problem, 49);
+    print_text(problem, sizeof problem - 1, FRONTIER_TEXT_LEN);
+    print_text(pair, sizeof pair, 0);
     return 0;
 }

@@ -9,9 +9,10 @@
 
 #define PAGE 4096
 #define PLACES 2048
+#define NUMBERS 20
 
 /* A counter for each number with each place (by 8 bytes), and for each count. */
-__attribute__((used, section("__libfuzzer_extra_counters"))) static uint8_t reached[17 * PLACES + 65];
+__attribute__((used, section("__libfuzzer_extra_counters"))) static uint8_t reached[NUMBERS * PLACES + 65];
 
 /* Memory that ends at a page which may not be touched. */
 static uint8_t *end_of(size_t most) {
@@ -22,7 +23,7 @@ static uint8_t *end_of(size_t most) {
     return start + length;
 }
 
-static uint8_t *problem_end, *costs_end, *choices_end, *work_end;
+static uint8_t *problem_end, *costs_end, *choices_end, *work_end, *text_end;
 
 /* Whether an accepted problem has so few complete choices that it may be searched. */
 static int is_small(const uint8_t *problem) {
@@ -33,10 +34,10 @@ static int is_small(const uint8_t *problem) {
 }
 
 static void note(uint8_t number, uint32_t place, uint32_t count) {
-    if (number > 16 || count > 64)
+    if (number >= NUMBERS || count > 64)
         abort();
     reached[number * PLACES + place / 8 % PLACES] = 1;
-    reached[17 * PLACES + count] = 1;
+    reached[NUMBERS * PLACES + count] = 1;
 }
 
 /* A call must clear the work buffer after 0 and 15, and leave it alone after any other number. */
@@ -85,6 +86,29 @@ static void list_all(const struct lent *lent) {
         abort();
 }
 
+/* The text call with so many bytes and no byte more; the count. */
+static uint32_t text(const struct lent *lent, size_t text_len) {
+    uint8_t *text = text_end - text_len;
+    uint32_t place, count;
+    memset(text, 0xa5, text_len);
+    uint8_t number = frontier_to_text(lent->problem, lent->size, text, text_len, &place, &count);
+    note(number, place, 0);
+    if (count > text_len || (number && count))
+        abort();
+    for (size_t i = count; i < text_len; i++)
+        if (text[i] != 0xa5)
+            abort();
+    return count;
+}
+
+/* The text call with as many bytes as a text of this problem can have, with as many as it has, and with one less. */
+static void text_all(const struct lent *lent) {
+    size_t most = lent->size * FRONTIER_TEXT_LEN / FRONTIER_MAX_BYTES;
+    uint32_t count = text(lent, most < FRONTIER_TEXT_LEN ? most : FRONTIER_TEXT_LEN);
+    if (text(lent, count) != count || (count && text(lent, count - 1)))
+        abort();
+}
+
 int LLVMFuzzerTestOneInput(const uint8_t *data, size_t size) {
     if (size > FRONTIER_MAX_BYTES + 8)
         return 0;
@@ -93,6 +117,7 @@ int LLVMFuzzerTestOneInput(const uint8_t *data, size_t size) {
         costs_end = end_of(4 * FRONTIER_MAX_POINTS * FRONTIER_MAX_OBJECTIVES);
         choices_end = end_of(FRONTIER_MAX_POINTS * FRONTIER_MAX_VARIABLES);
         work_end = end_of(4 * FRONTIER_LEAST_WORK);
+        text_end = end_of(FRONTIER_TEXT_LEN);
     }
     uint8_t *problem = problem_end - size;
     memcpy(problem, data, size);
@@ -107,6 +132,7 @@ int LLVMFuzzerTestOneInput(const uint8_t *data, size_t size) {
         lent.work_len -= !is_small(problem); /* too short, so that a large problem is not searched */
     }
     list_all(&lent);
+    text_all(&lent);
     if (memcmp(problem, data, size))
         abort();
     return 0;

@@ -21,8 +21,9 @@ const CALLS: &str = include_str!("../../../../crates/frontier/src/lib.rt");
 const KINDS: &str = include_str!("../../../../crates/model/src/lib.rt");
 const ANSWERS: &str = include_str!("../../../../crates/answers/src/lib.rt");
 
-/// The specifications of the numbers of refusal and of the version.
+/// The specifications of the numbers of refusal (those of texts stand apart) and of the version.
 const REFUSALS: &str = include_str!("../../../../crates/model/specs/Refusals.antt");
+const TEXT_REFUSALS: &str = include_str!("../../../../crates/text_networks/specs/Conversions.antt");
 const VERSION: &str = include_str!("../../../../crates/frontier/specs/Version.antt");
 
 #[test]
@@ -55,6 +56,14 @@ fn limits_agree() {
     assert_eq!(limits.count() + 1, expected.len(), "each limit has a row");
 }
 
+/// An entry of three variables and ten digits has 17 bytes of text for its 4, and nothing has more.
+#[test]
+fn a_text_of_the_greatest_length_fits_exactly() {
+    assert_eq!(defined(HEADER)["TEXT_LEN"], limit::TEXT_LEN);
+    assert_eq!(4 * limit::TEXT_LEN, 17 * limit::MAX_BYTES);
+    assert_eq!("7 7 7 4294967295\n".len(), 17);
+}
+
 /// The numbers of refusal that the header defines, by name without the prefix.
 fn refusals() -> BTreeMap<&'static str, usize> {
     let named =
@@ -81,6 +90,9 @@ fn numbers_of_refusal_agree() {
         ("LINKED", number::LINKED),
         ("FULL", number::FULL),
         ("PREFIX", number::PREFIX),
+        ("TEXT", number::TEXT),
+        ("DIALECT", number::DIALECT),
+        ("OUTPUT", number::OUTPUT),
     ];
     let refusals = refusals();
     for (name, value) in expected {
@@ -90,7 +102,8 @@ fn numbers_of_refusal_agree() {
 
 #[test]
 fn numbers_of_refusal_are_those_of_the_specification() {
-    let (refusals, specified) = (refusals(), numbers(REFUSALS));
+    let (refusals, mut specified) = (refusals(), numbers(REFUSALS));
+    specified.extend(numbers(TEXT_REFUSALS));
     assert_eq!(refusals.len(), specified.len());
     for (name, number) in refusals {
         // The specification has `cutShort`, `badScope`, `workShort`.

@@ -5,7 +5,7 @@ use std::fs;
 use std::path::{Path, PathBuf};
 use std::process::Command;
 
-use frontier::limits::{LEAST_WORK, MAX_OBJECTIVES, MAX_POINTS, MAX_VARIABLES};
+use frontier::limits::{LEAST_WORK, MAX_OBJECTIVES, MAX_POINTS, MAX_VARIABLES, TEXT_LEN};
 use frontier::refusal::word_of;
 use testing::c_compiler::{write_later_header, Compiler, C11, C99, CXX11, CXX17};
 use testing::chooser_run::folder;
@@ -15,7 +15,8 @@ use testing::places::root;
 /// memory is not zero, and the points; of each cut call the same with both half sizes after the
 /// count; of each bound call number, place and the four numbers; of a point record its size and
 /// where the choice starts; of each call for point records the same as of the plain call, with the
-/// bytes changed past the points before these.
+/// bytes changed past the points before these; of each text call number, place, count, the bytes
+/// changed past the text, and the text.
 const C_ANSWERS: &str = "\
 0 0 3 0 0 2:00 1 1:01 2 0:11
 15 0 0 0
@@ -38,6 +39,25 @@ const C_ANSWERS: &str = "\
 15 0 0 0 0
 12 0 0 8192 0
 2 59 0 8192 0
+0 0 50 0
+P 2 2 1 9
+2 2
+2 0 1 0 4
+0 0 7
+0 1 5
+1 0 259
+1 1 4
+0 0 50 0
+P 2 2 1 9
+2 2
+2 0 1 0 4
+0 0 7
+0 1 5
+1 0 259
+1 1 4
+19 0 0 0
+2 16 0 0
+18 0 0 0
 ";
 
 /// A source in `tests/c`.
@@ -66,6 +86,7 @@ fn names() -> String {
         MAX_POINTS * MAX_VARIABLES,
         MAX_POINTS,
         LEAST_WORK,
+        TEXT_LEN,
     ];
     let lengths = lengths.map(|length| length.to_string()).join(" ");
     let mut text = format!("{version} {version}\n{lengths}\n4\n0 accepted\n");

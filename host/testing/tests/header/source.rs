@@ -174,11 +174,12 @@ pub fn constants(source: &str) -> BTreeMap<String, usize> {
     found
 }
 
-/// The numbers that a specification defines by name.
+/// The numbers that a specification defines by name, without those that functions give.
 pub fn numbers(specification: &str) -> BTreeMap<&str, usize> {
     let lines = specification.lines();
     lines
         .filter_map(|line| line.split_once(" = "))
+        .filter(|(name, _)| !name.contains(' '))
         .filter_map(|(name, value)| Some((name, value.parse().ok()?)))
         .collect()
 }
