@@ -26,4 +26,5 @@ pub mod scripts;
 pub mod speed;
 pub mod stored;
 pub mod turned;
+pub mod wcsp;
 pub mod xml;
