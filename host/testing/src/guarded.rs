@@ -5,10 +5,12 @@ use std::io;
 
 use crate::guard::{End, Pages, Plain};
 use frontier::lent::{
-    write_bound, write_cut, write_points, write_solve, Answer, CutNumbers, Halves, Least,
-    PointRecord,
+    write_bound, write_cut, write_points, write_solve, write_text, Answer, CutNumbers, Halves,
+    Least, PointRecord,
 };
-use frontier::limits::{LEAST_WORK, MAX_BYTES, MAX_OBJECTIVES, MAX_POINTS, MAX_VARIABLES};
+use frontier::limits::{
+    LEAST_WORK, MAX_BYTES, MAX_OBJECTIVES, MAX_POINTS, MAX_VARIABLES, TEXT_LEN,
+};
 
 /// Lent buffers may be longer than is of use by so much.
 const OVER: usize = 1_000;
@@ -27,6 +29,7 @@ pub struct Guarded {
     choices: Pages,
     work: Pages,
     points: Pages,
+    text: Pages,
     least: Pages,
     numbers: [Pages; 4],
     /// The first buffer that a call has misused.
@@ -43,6 +46,7 @@ impl Guarded {
             choices: Pages::new(MAX_VARIABLES * MAX_POINTS + OVER)?,
             work: Pages::new(size_of::<u32>() * (LEAST_WORK + OVER))?,
             points: Pages::new(size_of::<PointRecord>() * MAX_POINTS + OVER)?,
+            text: Pages::new(TEXT_LEN + OVER)?,
             least: Pages::new(size_of::<u64>() * MAX_OBJECTIVES)?,
             numbers: [number()?, number()?, number()?, number()?],
             fault: None,
@@ -155,6 +159,26 @@ impl Guarded {
         self.check_problem(problem);
         take(&mut self.fault, "point list", &mut self.points, points);
         take(&mut self.fault, "work", &mut self.work, work);
+        let [place, count] = self.take_numbers();
+        Answer {
+            number,
+            place,
+            count,
+        }
+    }
+
+    /// The text call.
+    pub fn text(&mut self, problem: &[u8], text: &mut [u8]) -> Answer {
+        let end = self.end;
+        let [place, count, _, _] = &mut self.numbers;
+        let number = write_text(
+            self.problem.lend(problem, end),
+            self.text.lend(text, end),
+            &mut place.lend(&[JUNK], end)[0],
+            &mut count.lend(&[JUNK], end)[0],
+        );
+        self.check_problem(problem);
+        take(&mut self.fault, "text", &mut self.text, text);
         let [place, count] = self.take_numbers();
         Answer {
             number,

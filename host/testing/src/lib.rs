@@ -25,6 +25,7 @@ pub mod reading;
 pub mod scripts;
 pub mod speed;
 pub mod stored;
+pub mod texts;
 pub mod turned;
 pub mod wcsp;
 pub mod xml;

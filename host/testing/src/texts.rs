@@ -1,0 +1,92 @@
+//! Texts that a call writes: which bytes it is asked for, buffers of every length that matters, and the
+//! comparison with the independent converter.
+
+use crate::mixed::Mixed;
+use crate::random::damage;
+use crate::reading::read_problem;
+use crate::wcsp::{from_text, in_one_objective, to_text};
+use chooser::hex::to_hex;
+use chooser::junk::Rng;
+use frontier::lent::Answer;
+use frontier::limits::{MAX_BYTES, TEXT_LEN};
+
+/// A buffer of this length with random contents.
+fn junk_text(rng: &mut Rng, length: usize) -> Vec<u8> {
+    (0..length).map(|_| rng.bits() as u8).collect()
+}
+
+/// How many bytes the text of a problem has; 0 where there is none.
+pub fn need(problem: &[u8]) -> usize {
+    to_text(problem, &mut vec![0; TEXT_LEN]).count as usize
+}
+
+/// Lengths of a text buffer: none, one, and around as many bytes as are needed.
+pub fn lengths(rng: &mut Rng, need: usize) -> [usize; 6] {
+    let less = need.saturating_sub(1);
+    [0, 1, less, need, need + 1, need + 2 + rng.below(200)]
+}
+
+/// Compares a call that writes text with the independent converter on one problem, each lent a copy of
+/// the buffer, and has the converter read back what was written. A difference is told with the bytes
+/// in hex.
+pub fn compare_text(
+    problem: &[u8],
+    lent: &[u8],
+    call: impl Fn(&[u8], &mut [u8]) -> Answer,
+) -> Result<(), String> {
+    let (mut left, mut right) = (lent.to_vec(), lent.to_vec());
+    let answer = call(problem, &mut left);
+    let expected = to_text(problem, &mut right);
+    let difference = if answer != expected {
+        format!("the call answers {answer:?}, the converter {expected:?}")
+    } else if let Some(i) = (0..lent.len()).find(|&i| left[i] != right[i]) {
+        let (left, right) = (left[i], right[i]);
+        format!("after {answer:?} byte {i} is {left}, with the converter {right}")
+    } else if answer.number == 0 && !says(&left[..answer.count as usize], problem) {
+        "the text does not give the problem back".into()
+    } else {
+        return Ok(());
+    };
+    let (length, bytes) = (lent.len(), to_hex(problem));
+    Err(format!("{difference}, length {length}, bytes {bytes}"))
+}
+
+/// Whether a text says exactly the records of a problem.
+fn says(text: &[u8], problem: &[u8]) -> bool {
+    let mut read = vec![0; MAX_BYTES];
+    let answer = from_text(text, &mut read);
+    answer.number == 0 && read[..answer.count as usize] == *problem
+}
+
+impl Mixed {
+    /// What a text call is asked for: the case's bytes, and those of an accepted problem also with all
+    /// tables in one objective, good and damaged.
+    pub fn text_inputs(&self) -> Vec<Vec<u8>> {
+        let mut inputs = vec![self.bytes.clone()];
+        if let Ok(reading) = read_problem(&self.bytes) {
+            let good = in_one_objective(&reading.problem).encode();
+            let mut damaged = good.clone();
+            damage(&mut self.text_rng(), &mut damaged);
+            inputs.extend([good, damaged]);
+        }
+        inputs
+    }
+
+    /// A generator of its own, so that the case is the same for the other calls.
+    pub fn text_rng(&self) -> Rng {
+        Rng::new(self.seed ^ 0x7e87)
+    }
+
+    /// Compares a call that writes text with the independent converter, lent a buffer with junk of one
+    /// of the lengths that matter. A difference is told with the seed and the bytes.
+    pub fn compare_texts(&self, call: impl Fn(&[u8], &mut [u8]) -> Answer) -> Result<(), String> {
+        let mut rng = self.text_rng();
+        for problem in self.text_inputs() {
+            let length = lengths(&mut rng, need(&problem))[rng.below(6)];
+            let lent = junk_text(&mut rng, length);
+            let compared = compare_text(&problem, &lent, &call);
+            compared.map_err(|difference| format!("seed {}: {difference}", self.seed))?;
+        }
+        Ok(())
+    }
+}
