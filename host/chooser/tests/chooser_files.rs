@@ -26,6 +26,7 @@ fn reading(file: &str) -> Vec<Vec<&str>> {
         vec!["bound", file, "-"],
         vec!["pack", file],
         vec!["unpack", file],
+        vec!["wcsp", file],
     ]
 }
 

@@ -20,7 +20,7 @@ fn helps() -> Vec<String> {
 fn all_subcommands_are_listed() {
     let listed = subcommands();
     for name in [
-        "solve", "cut", "bound", "pack", "unpack", "plot", "batch", "help",
+        "solve", "cut", "bound", "pack", "unpack", "wcsp", "plot", "batch", "help",
     ] {
         assert!(
             listed.iter().any(|listed| listed == name),
@@ -125,6 +125,8 @@ fn wrong_words_are_misuse_and_the_nearest_known_one_is_told() {
         (&["bound", "examples/firmware.txt"], "PREFIX is missing"),
         (&["pack"], "TEXT is missing"),
         (&["unpack"], "FILE is missing"),
+        (&["wcsp"], "FILE is missing"),
+        (&["wcsp", "a", "-o"], "behind -o its OUT is due"),
         (&["solve", "a", "b"], "'b' is one word too many"),
         (
             &["solve", "a", "--jsn"],

@@ -27,7 +27,8 @@ impl Question<'_> {
             | Refusal::Sides
             | Refusal::Linked(_)
             | Refusal::Full
-            | Refusal::Prefix => self.advice_of_call(refusal),
+            | Refusal::Prefix
+            | Refusal::Dialect => self.advice_of_call(refusal),
             _ => record.map_or_else(|| unknown(refusal), |record| self.field(refusal, &record)),
         }
     }
@@ -125,6 +126,7 @@ impl Question<'_> {
                 _ => self.linked(&problem, sides, refusal),
             },
             (Call::Bound { prefix }, Ok(problem)) => self.prefix(&problem, prefix),
+            (Call::Wcsp, Ok(problem)) => self.dialect(&problem),
             _ => unknown(refusal),
         }
     }
@@ -178,6 +180,18 @@ impl Question<'_> {
             module_list(&names)
         );
         (wrong, mend)
+    }
+
+    fn dialect(&self, problem: &Problem) -> Advice {
+        let costs = self.source.names(problem).costs;
+        let wrong = format!(
+            "WCSP text has one cost, and this problem has {}: {}",
+            costs.len(),
+            costs.join(", ")
+        );
+        let mend = "leave one cost in the problem, and of the tables those that charge it; \
+                    'chooser solve' takes all costs together";
+        (wrong, mend.into())
     }
 }
 

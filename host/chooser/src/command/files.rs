@@ -7,7 +7,7 @@ use std::io::{self, ErrorKind, Read, Write};
 use std::path::{Path, PathBuf};
 use std::process;
 
-use super::Failure;
+use super::{Failure, Outcome};
 
 /// The word for standard input, or standard output, in place of a file.
 pub const STANDARD_STREAM: &str = "-";
@@ -77,6 +77,12 @@ pub fn write_file(word: &OsStr, bytes: &[u8]) -> Result<(), Failure> {
             path.display()
         ))
     })
+}
+
+/// Writes what a run has made to the file that `-o` names, or prints it where there is none.
+pub fn write_or_print(output: Option<&OsStr>, bytes: &[u8]) -> Result<Outcome, Failure> {
+    write_file(output.unwrap_or(OsStr::new(STANDARD_STREAM)), bytes)?;
+    Ok(Outcome::Answered)
 }
 
 /// Asks, before a run that may take long, that a file can be written after it.

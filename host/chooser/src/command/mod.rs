@@ -18,10 +18,11 @@ mod solve;
 mod source;
 mod unpack;
 mod waiting;
+mod wcsp;
 mod words;
 
 pub use files::STANDARD_STREAM;
-pub use files::{check_target, print_bytes, print_error, print_out, read_file, write_file};
+pub use files::{check_target, print_error, print_out, read_file, write_file, write_or_print};
 pub use source::Source;
 pub use words::{sort_words, Asked, Known};
 
@@ -95,6 +96,12 @@ const SUBCOMMANDS: &[Subcommand] = &[
         summary: "make a text problem of a binary problem",
         help: unpack::HELP,
         run: unpack::run,
+    },
+    Subcommand {
+        name: "wcsp",
+        summary: "write a problem with one cost as text for other solvers",
+        help: wcsp::HELP,
+        run: wcsp::run,
     },
     Subcommand {
         name: "plot",

@@ -4,7 +4,7 @@ use std::ffi::{OsStr, OsString};
 use std::io::{self, IsTerminal};
 
 use super::source::{label_of, limit_of, parse_file, BINARY};
-use super::{print_bytes, read_file, sort_words, write_file, Failure, Outcome};
+use super::{read_file, sort_words, write_or_print, Failure, Outcome};
 
 pub const HELP: &str = "\
 usage: chooser pack TEXT [-o FILE]
@@ -31,12 +31,7 @@ pub fn run(words: &[OsString]) -> Result<Outcome, Failure> {
         let complaint = "a binary problem is not for the terminal; add '> FILE' or '-o FILE'";
         return Err(Failure::misuse(complaint));
     }
-    let bytes = packed(file)?;
-    match output {
-        Some(output) => write_file(output, &bytes)?,
-        None => print_bytes(&bytes)?,
-    }
-    Ok(Outcome::Answered)
+    write_or_print(output, &packed(file)?)
 }
 
 /// The record bytes of a text file.

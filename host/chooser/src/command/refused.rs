@@ -22,6 +22,8 @@ pub enum Call<'a> {
     Bound {
         prefix: &'a [u8],
     },
+    /// To be written as WCSP text.
+    Wcsp,
 }
 
 /// A problem and what was asked of it.

@@ -4,7 +4,7 @@ use std::ffi::OsString;
 
 use super::refused::{Call, Question};
 use super::source::{label_of, Source};
-use super::{print_out, read_file, sort_words, write_file, Failure, Outcome};
+use super::{read_file, sort_words, write_or_print, Failure, Outcome};
 use crate::text::{write, Named, Names};
 use frontier::limits::MAX_BYTES;
 use frontier::Problem;
@@ -46,9 +46,5 @@ pub fn run(words: &[OsString]) -> Result<Outcome, Failure> {
     };
     let names = Names::invented(&problem);
     let text = write(&Named { problem, names });
-    match asked.value("-o") {
-        Some(output) => write_file(output, text.as_bytes())?,
-        None => print_out(&text)?,
-    }
-    Ok(Outcome::Answered)
+    write_or_print(asked.value("-o"), text.as_bytes())
 }
