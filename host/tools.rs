@@ -4,7 +4,7 @@ use std::process::Command;
 
 /// Tools that a test needs and that may be missing: the cfg that the test asks for, and
 /// commands of which one ends well where the tool is installed.
-const TOOLS: [(&str, &[&[&str]]); 6] = [
+const TOOLS: [(&str, &[&[&str]]); 7] = [
     ("has_cxx", &[&["c++", "--version"]]),
     (
         "has_git_and_make",
@@ -24,6 +24,7 @@ const TOOLS: [(&str, &[&[&str]]); 6] = [
             &["magick", "--version"],
         ],
     ),
+    ("has_toulbar2", &[&["toulbar2", "-help"]]),
 ];
 
 /// Whether a command can be started, in this folder, and ends well.

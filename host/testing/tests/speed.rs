@@ -1,4 +1,4 @@
-//! The program `speed` and its parts: cases, hex, the table, toulbar2's text, the program's ends.
+//! The program `speed` and its parts: cases, hex, the table, what toulbar2 prints, the program's ends.
 
 use std::env;
 use std::fs;
@@ -8,15 +8,14 @@ use std::time::Duration;
 
 use chooser::hex::{from_hex, to_hex};
 use frontier::limits::MAX_VARIABLES;
-use frontier::{Problem, Table};
-use testing::examples::lone;
+use frontier::Problem;
 use testing::reading::read_problem;
 use testing::speed::cases::family_of;
 use testing::speed::growth::growth_cases;
 use testing::speed::nights::night_cases;
 use testing::speed::table::table_text;
 use testing::speed::toulbar2::{
-    least_cost_listed, least_cost_printed, own_time_printed, wcsp_text,
+    choice_printed, least_cost_listed, least_cost_printed, own_time_printed,
 };
 
 fn speed(arguments: &[&str]) -> Output {
@@ -80,28 +79,15 @@ fn generated_problems_are_valid_and_always_the_same() {
 }
 
 #[test]
-fn a_problem_becomes_a_wcsp_text() {
-    let problem = Problem {
-        ceilings: vec![9],
-        domains: vec![2, 3],
-        tables: vec![
-            Table::new(0, &[], &[4]),
-            Table::new(0, &[0, 1], &[0, 1, 2, 3, 4, 5]),
-        ],
-    };
-    let expected = "problem 2 3 2 9\n2 3\n0 4 0\n2 0 1 0 6\n\
-                    0 0 0\n0 1 1\n0 2 2\n1 0 3\n1 1 4\n1 2 5\n";
-    assert_eq!(wcsp_text(&problem), expected);
-    assert_eq!(wcsp_text(&lone(8, 1)), "problem 1 8 0 1\n8\n");
-}
-
-#[test]
 fn least_costs_are_found_in_texts() {
     let printed = "Read 3 variables\nOptimum: 27 in 3 backtracks and 5 nodes\nend.\n";
     assert_eq!(least_cost_printed(printed).as_deref(), Some("27"));
     let none = least_cost_printed("No solution in 0 backtracks\n");
     assert_eq!(none.as_deref(), Some("none"));
     assert_eq!(least_cost_printed("Time limit expired\n"), None);
+    let solutions = "New solution: 30 (0 backtracks)\n 0 0\nNew solution: 27 (1)\n 1 12\nOptimum\n";
+    assert_eq!(choice_printed(solutions), Some(vec![1, 12]));
+    assert_eq!(choice_printed(printed), None);
     let own = own_time_printed("Read 3 variables\nPreprocessing time: 0.000395 seconds.\n");
     assert_eq!(own, Some(Duration::from_micros(395)));
     assert_eq!(own_time_printed("Preprocessing time: never\n"), None);

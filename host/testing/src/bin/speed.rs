@@ -176,7 +176,7 @@ impl Sides {
     fn run_toulbar2(&self, case: &Case) -> Option<Result<(Run, Option<Duration>), String>> {
         let problem = read_problem(&case.bytes).ok()?.problem;
         let asked = self.toulbar2 && problem.objectives() == 1;
-        asked.then(|| toulbar2::run(&problem, self.limit))
+        asked.then(|| toulbar2::run(&case.bytes, self.limit))
     }
 }
 
