@@ -1,12 +1,10 @@
 //! Reading and bounding problems of 60,000 bytes: the proved chooser against plain Rust, in the
 //! same run. Command: `cargo bench --offline --bench bound`; see `docs/PERFORMANCE.md`.
 
-mod plain;
+mod measuring;
 mod shapes;
 
-use std::env;
 use std::hint::black_box;
-use std::time::{Duration, Instant};
 
 use chooser::junk::Rng;
 use frontier::lent;
@@ -14,30 +12,14 @@ use frontier::lent::Least;
 use frontier::Problem;
 use testing::brute;
 use testing::mixed::{compare_bound, Mixed};
+use testing::plain_calls::bound::{bound_by_loops, bound_in_one_run};
 use testing::random::random_choice;
 use testing::turned::falling;
 
-/// One measurement takes at least this long.
-const LEAST_TIME: Duration = Duration::from_millis(500);
-
-/// Each side is measured this often, in turns; the fastest counts, as the least disturbed.
-const ROUNDS: usize = 5;
-
-/// So many calls go between two looks at the clock.
-const BATCH: u32 = 16;
-
 type BoundCall = fn(&[u8], &[u8]) -> Least;
 
-fn by_loops(problem: &[u8], prefix: &[u8]) -> Least {
-    plain::bound_prefix(problem, prefix, plain::least_by_loops)
-}
-
-fn in_one_run(problem: &[u8], prefix: &[u8]) -> Least {
-    plain::bound_prefix(problem, prefix, plain::least_in_one_run)
-}
-
 /// The chooser first, then the two sides in plain Rust.
-const SIDES: [BoundCall; 3] = [lent::bound_prefix, by_loops, in_one_run];
+const SIDES: [BoundCall; 3] = [lent::bound_prefix, bound_by_loops, bound_in_one_run];
 
 /// A problem's bytes with a prefix to bound.
 struct Work {
@@ -94,33 +76,19 @@ fn assert_sides_agree(all: &[Work]) {
     }
 }
 
-/// How many million bytes of problems a side goes through in a second.
-fn speed(side: BoundCall, work: &Work) -> f64 {
-    let (start, mut calls) = (Instant::now(), 0);
-    while start.elapsed() < LEAST_TIME {
-        for _ in 0..BATCH {
+/// How many million bytes of problems each side goes through in a second.
+fn speeds(work: &Work) -> [f64; SIDES.len()] {
+    let call = |side: BoundCall| {
+        move || {
             black_box(side(black_box(&work.bytes), black_box(&work.prefix)));
         }
-        calls += BATCH;
-    }
-    let bytes = work.bytes.len() as f64 * f64::from(calls);
-    bytes / start.elapsed().as_secs_f64() / 1e6
-}
-
-/// The best speed of each side. They take turns, so that a disturbance does not hit one side only.
-fn best_speeds(work: &Work) -> [f64; SIDES.len()] {
-    let mut best = [0.0; SIDES.len()];
-    for _ in 0..ROUNDS {
-        for (best, side) in best.iter_mut().zip(SIDES) {
-            *best = speed(side, work).max(*best);
-        }
-    }
-    best
+    };
+    measuring::best_speeds(SIDES.map(call), work.bytes.len())
 }
 
 /// A row of the table in `docs/PERFORMANCE.md`.
 fn print_row(work: &Work) {
-    let [chooser, loops, run] = best_speeds(work);
+    let [chooser, loops, run] = speeds(work);
     println!(
         "| {} | {} | {} | {} | {chooser:.0} | {loops:.0} | {:.2} | {run:.0} | {:.2} |",
         work.shape,
@@ -136,8 +104,7 @@ fn main() {
     let all = all_work();
     assert_sides_agree(&all);
     println!("The chooser and both sides in plain Rust answer alike.");
-    // cargo says so when it is to be measured; otherwise the program is run as a test.
-    if !env::args().any(|argument| argument == "--bench") {
+    if !measuring::is_asked() {
         return;
     }
     println!(

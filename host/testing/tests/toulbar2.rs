@@ -6,7 +6,7 @@
 //! over the same variables, functions without a tuple and texts of 255,000 bytes. What it is not asked is
 //! which of several choices comes first: it may find any.
 
-use std::path::PathBuf;
+use std::path::{Path, PathBuf};
 use std::thread;
 
 use chooser::junk::Rng;
@@ -30,7 +30,7 @@ fn generated(seed: u64) -> Problem {
 }
 
 /// Asserts that toulbar2 finds the least cost of the problem in its text; whether there is one.
-fn assert_same(chooser: &mut Chooser, problem: &Problem, file: &PathBuf) -> bool {
+fn assert_same(chooser: &mut Chooser, problem: &Problem, file: &Path) -> bool {
     let bytes = problem.encode();
     let text = to_text(&bytes).expect("it has one objective");
     let (output, _) = printed(&text, file, &["-s"]).expect("toulbar2 runs");
