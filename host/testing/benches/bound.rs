@@ -2,6 +2,10 @@
 //! same run. Command: `cargo bench --offline --bench bound`; see `docs/PERFORMANCE.md`.
 
 mod measuring;
+#[path = "plain/bound.rs"]
+mod plain;
+#[path = "plain/reader.rs"]
+mod reader;
 mod shapes;
 
 use std::hint::black_box;
@@ -12,14 +16,17 @@ use frontier::lent::Least;
 use frontier::Problem;
 use testing::brute;
 use testing::mixed::{compare_bound, Mixed};
-use testing::plain_calls::bound::{bound_by_loops, bound_in_one_run};
 use testing::random::random_choice;
 use testing::turned::falling;
 
 type BoundCall = fn(&[u8], &[u8]) -> Least;
 
 /// The chooser first, then the two sides in plain Rust.
-const SIDES: [BoundCall; 3] = [lent::bound_prefix, bound_by_loops, bound_in_one_run];
+const SIDES: [BoundCall; 3] = [
+    lent::bound_prefix,
+    plain::bound_by_loops,
+    plain::bound_in_one_run,
+];
 
 /// A problem's bytes with a prefix to bound.
 struct Work {

@@ -2,6 +2,10 @@
 //! `cargo bench --offline --bench text`; see `docs/PERFORMANCE.md`.
 
 mod measuring;
+#[path = "plain/text.rs"]
+mod plain;
+#[path = "plain/reader.rs"]
+mod reader;
 mod shapes;
 
 use std::hint::black_box;
@@ -11,7 +15,6 @@ use frontier::lent::{self, Answer};
 use frontier::limits::TEXT_LEN;
 use frontier::Problem;
 use testing::mixed::Mixed;
-use testing::plain_calls::text as plain;
 use testing::stored::nightly;
 use testing::texts::{compare_text, need};
 use testing::wcsp::in_one_objective;

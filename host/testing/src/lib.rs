@@ -1,6 +1,5 @@
 //! What the chooser is tried and measured with: an independent brute force, written from the rules'
-//! prose, generators of problems, guarded memory, the search and two calls in plain Rust, and what
-//! tests share.
+//! prose, generators of problems, guarded memory, the search in plain Rust, and what tests share.
 //!
 //! The brute force finds every answer by going through all complete choices, so nothing in it is
 //! fast and nothing is clever. Feed it only problems whose choices can be counted through.
@@ -20,7 +19,6 @@ pub mod night;
 pub mod owned;
 pub mod places;
 pub mod plain;
-pub mod plain_calls;
 pub mod point_records;
 pub mod random;
 pub mod reading;

@@ -128,7 +128,6 @@ int main(void) {
     print_points(sizeof pair, 3, FRONTIER_LEAST_WORK - 1);
     print_points(sizeof pair - 1, 3, FRONTIER_LEAST_WORK);
     print_text(problem, sizeof problem, FRONTIER_TEXT_LEN);
-    print_text(problem, sizeof problem, 50);
     print_text(problem, sizeof problem, 49);
     print_text(problem, sizeof problem - 1, FRONTIER_TEXT_LEN);
     print_text(pair, sizeof pair, 0);

@@ -1,6 +1,6 @@
-//! The bound call, with nothing copied and nothing allocated.
+//! The bound call in plain Rust, with nothing copied and nothing allocated.
 
-use super::{number, CostRecord, Cursor, Domains};
+use crate::reader::{number, CostRecord, Cursor, Domains};
 use frontier::lent::Least;
 use frontier::limits::{MAX_ARITY, MAX_OBJECTIVES};
 use frontier::Refusal;
@@ -58,7 +58,9 @@ fn try_bound(
     prefix: &[u8],
     least_entry: impl Fn(&CostRecord, &Domains, &[u8]) -> u32,
 ) -> Result<[u64; MAX_OBJECTIVES], Refusal> {
-    let (mut cursor, header, domains) = Cursor::open(problem)?;
+    let mut cursor = Cursor::new(problem)?;
+    let header = cursor.header()?;
+    let domains = cursor.domains(header.variables)?;
     // Told last, but asked here, because no entry can be looked up for a bad prefix.
     let in_domain = prefix.iter().zip(&domains).all(|(value, d)| value < d);
     let good_prefix = prefix.len() <= header.variables && in_domain;
@@ -69,7 +71,7 @@ fn try_bound(
             least[record.objective] += u64::from(least_entry(&record, &domains, prefix));
         }
     }
-    cursor.close()?;
+    cursor.end()?;
     if !good_prefix {
         return Err(Refusal::Prefix);
     }

@@ -1,7 +1,7 @@
-//! The text call: every record is written as soon as it is read, to a list that grows, and the whole is
+//! The text call in plain Rust: every record is written as soon as it is read, to a list that grows, and the whole is
 //! copied where it fits.
 
-use super::{number, CostRecord, Cursor, Domains};
+use crate::reader::{number, CostRecord, Cursor, Domains};
 use frontier::lent::Answer;
 use frontier::limits::{MAX_ARITY, MAX_BYTES, TEXT_LEN};
 use frontier::Refusal;
@@ -55,7 +55,9 @@ fn push_function(text: &mut Vec<u8>, record: &CostRecord, domains: &Domains) {
 }
 
 fn try_text(problem: &[u8]) -> Result<Vec<u8>, Refusal> {
-    let (mut cursor, header, domains) = Cursor::open(problem)?;
+    let mut cursor = Cursor::new(problem)?;
+    let header = cursor.header()?;
+    let domains = cursor.domains(header.variables)?;
     let mut text = Vec::with_capacity(problem.len() * TEXT_LEN / MAX_BYTES);
     let sizes = &domains[..header.variables];
     text.extend_from_slice(b"P ");
@@ -66,7 +68,8 @@ fn try_text(problem: &[u8]) -> Result<Vec<u8>, Refusal> {
         b' ',
     );
     push(&mut text, header.tables as u32, b' ');
-    push(&mut text, number(header.ceilings), b'\n');
+    // The ceiling stands behind the mark and four bytes of fields.
+    push(&mut text, number(&problem[6..]), b'\n');
     for &size in sizes {
         text.extend_from_slice(&[b'0' + size, b' ']);
     }
@@ -81,8 +84,8 @@ fn try_text(problem: &[u8]) -> Result<Vec<u8>, Refusal> {
             push_function(&mut text, &record, &domains);
         }
     }
-    cursor.close()?;
-    match header.objectives() {
+    cursor.end()?;
+    match header.objectives {
         1 => Ok(text),
         _ => Err(Refusal::Dialect),
     }

@@ -1,8 +1,8 @@
-//! Calls in plain Rust, as a careful programmer writes them, which benchmarks measure the library
-//! against: one pass over the bytes, which are checked where they stand.
-
-pub mod bound;
-pub mod text;
+//! Reading a problem in plain Rust, as a careful programmer writes it: one pass over the bytes, which are
+//! checked where they stand, with nothing copied and nothing allocated.
+//!
+//! Every function is marked for inlining, as if it stood in the module that reads: as a module of its own
+//! without that it took the bound call a third of its speed.
 
 use frontier::limits::{
     MAX_ARITY, MAX_BYTES, MAX_DOMAIN, MAX_OBJECTIVES, MAX_TABLES, MAX_VARIABLES,
@@ -10,52 +10,46 @@ use frontier::limits::{
 use frontier::Refusal;
 
 /// The domain sizes of the variables; those from n on are 0.
-type Domains = [u8; MAX_VARIABLES];
+pub type Domains = [u8; MAX_VARIABLES];
 
 /// A cost record where it stands in the problem's bytes.
-struct CostRecord<'a> {
-    objective: usize,
-    scope: &'a [u8],
-    table: &'a [u8],
+pub struct CostRecord<'a> {
+    #[allow(dead_code, reason = "the text call does not ask for it")]
+    pub objective: usize,
+    pub scope: &'a [u8],
+    pub table: &'a [u8],
 }
 
-struct Header<'a> {
-    variables: usize,
-    tables: usize,
-    ceilings: &'a [u8],
-}
-
-impl Header<'_> {
-    fn objectives(&self) -> usize {
-        self.ceilings.len() / 4
-    }
+pub struct Header {
+    pub variables: usize,
+    pub objectives: usize,
+    pub tables: usize,
 }
 
 /// The bytes not yet read, where they start, and where the record being read starts.
-struct Cursor<'a> {
+pub struct Cursor<'a> {
     rest: &'a [u8],
     place: usize,
     record: usize,
 }
 
 impl<'a> Cursor<'a> {
-    /// Reads what stands before the cost records.
-    fn open(problem: &'a [u8]) -> Result<(Cursor<'a>, Header<'a>, Domains), Refusal> {
+    /// At the start of a problem that is not too long.
+    #[inline]
+    pub fn new(problem: &'a [u8]) -> Result<Cursor<'a>, Refusal> {
         if problem.len() > MAX_BYTES {
             return Err(Refusal::Oversize);
         }
-        let mut cursor = Cursor {
+        Ok(Cursor {
             rest: problem,
             place: 0,
             record: 0,
-        };
-        let header = cursor.header()?;
-        let domains = cursor.domains(header.variables)?;
-        Ok((cursor, header, domains))
+        })
     }
 
     /// Asks that nothing follows the last record.
-    fn close(mut self) -> Result<(), Refusal> {
+    #[inline]
+    pub fn end(&mut self) -> Result<(), Refusal> {
         if self.rest.is_empty() {
             return Ok(());
         }
@@ -63,10 +57,12 @@ impl<'a> Cursor<'a> {
         self.refuse(Refusal::Leftover)
     }
 
+    #[inline]
     fn refuse<T>(&self, at: fn(u32) -> Refusal) -> Result<T, Refusal> {
         Err(at(self.record as u32))
     }
 
+    #[inline]
     fn take(&mut self, count: usize) -> Result<&'a [u8], Refusal> {
         if self.rest.len() < count {
             return self.refuse(Refusal::CutShort);
@@ -77,6 +73,7 @@ impl<'a> Cursor<'a> {
         Ok(taken)
     }
 
+    #[inline]
     fn begin(&mut self, mark: [u8; 2]) -> Result<(), Refusal> {
         self.record = self.place;
         if self.take(2)? != mark {
@@ -85,29 +82,30 @@ impl<'a> Cursor<'a> {
         Ok(())
     }
 
-    fn header(&mut self) -> Result<Header<'a>, Refusal> {
+    #[inline]
+    pub fn header(&mut self) -> Result<Header, Refusal> {
         self.begin(*b"HD")?;
         let fields = self.take(4)?;
-        let [variables, objectives] = [fields[0], fields[1]].map(usize::from);
-        let tables = usize::from(u16::from_le_bytes([fields[2], fields[3]]));
-        if variables == 0 || variables > MAX_VARIABLES {
+        let header = Header {
+            variables: usize::from(fields[0]),
+            objectives: usize::from(fields[1]),
+            tables: usize::from(u16::from_le_bytes([fields[2], fields[3]])),
+        };
+        if header.variables == 0 || header.variables > MAX_VARIABLES {
             return self.refuse(Refusal::Variables);
         }
-        if objectives == 0 || objectives > MAX_OBJECTIVES {
+        if header.objectives == 0 || header.objectives > MAX_OBJECTIVES {
             return self.refuse(Refusal::Objectives);
         }
-        if tables > MAX_TABLES {
+        if header.tables > MAX_TABLES {
             return self.refuse(Refusal::Tables);
         }
-        let ceilings = self.take(4 * objectives)?;
-        Ok(Header {
-            variables,
-            tables,
-            ceilings,
-        })
+        self.take(4 * header.objectives)?;
+        Ok(header)
     }
 
-    fn domains(&mut self, variables: usize) -> Result<Domains, Refusal> {
+    #[inline]
+    pub fn domains(&mut self, variables: usize) -> Result<Domains, Refusal> {
         let mut domains = [0; MAX_VARIABLES];
         for size in &mut domains[..variables] {
             self.begin(*b"DO")?;
@@ -119,7 +117,8 @@ impl<'a> Cursor<'a> {
         Ok(domains)
     }
 
-    fn cost_record(
+    #[inline]
+    pub fn cost_record(
         &mut self,
         header: &Header,
         domains: &Domains,
@@ -127,7 +126,7 @@ impl<'a> Cursor<'a> {
         self.begin(*b"CF")?;
         let fields = self.take(2)?;
         let (objective, arity) = (usize::from(fields[0]), usize::from(fields[1]));
-        if objective >= header.objectives() {
+        if objective >= header.objectives {
             return self.refuse(Refusal::Owner);
         }
         if arity > MAX_ARITY {
@@ -153,6 +152,7 @@ impl<'a> Cursor<'a> {
 }
 
 /// A number of four bytes.
-fn number(bytes: &[u8]) -> u32 {
+#[inline]
+pub fn number(bytes: &[u8]) -> u32 {
     u32::from_le_bytes([bytes[0], bytes[1], bytes[2], bytes[3]])
 }
