@@ -1,7 +1,9 @@
 //! What a WCSP text says, read whole, and its records where it is within the limits.
 //!
-//!     text     := name variables largest functions bound size* function*
-//!     function := arity variable* default tuples (value* cost)*
+//! ```text
+//! text     := name variables largest functions bound size* function*
+//! function := arity variable* default tuples (value* cost)*
+//! ```
 
 use super::numbers::{words, Natural, Term};
 use frontier::limits::{MAX_ARITY, MAX_BYTES, MAX_DOMAIN, MAX_TABLES, MAX_VARIABLES};
