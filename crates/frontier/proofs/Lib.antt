@@ -7,5 +7,6 @@ pub mod Demand1
 pub mod Demand2
 pub mod Demand3
 pub mod BoundLaws
+pub mod TextBack
 -- walks by hand
 pub mod Lent

@@ -14,7 +14,10 @@ use Rattle.answers.specs.declared.Halves as DH
 use Rattle.answers.specs.Cuts.{CutSays}
 use Rattle.bound_call.specs.declared.Least as DL
 use Rattle.bound_call.specs.Says.{BoundSays}
-use Rattle.frontier.specs.Says.{SolveExports, CutExports, BoundExports}
+use Rattle.text_networks.specs.declared.Converted as DC
+use Rattle.text_networks.specs.Conversions.{ConvertOutcome}
+use Rattle.text_networks.specs.Says.{ConvertSays}
+use Rattle.frontier.specs.Says.{SolveExports, CutExports, BoundExports, ConvertExports}
 
 module _ (s : List ℕ) (bytes : (i : ℕ) → getD s i 0 < byteEnd) where
   pub solve-promise : (o : SolveOutcome) {c x w : List ℕ} (r : DA.Answer) → SolveSays o c x w r
@@ -52,6 +55,16 @@ module _ (s : List ℕ) (bytes : (i : ℕ) → getD s i 0 < byteEnd) where
     least = says .least;
   }
 
+  pub convert-promise : (o : ConvertOutcome) {out : List ℕ} (r : DC.Converted) → ConvertSays o out r
+      → ConvertExports s o out (r .number) (r .place) (r .count)
+  convert-promise o r says = record {
+    bytes = all-each Byte 0 s bytes;
+    number = says .number;
+    place = says .place;
+    count = says .count;
+    output = says .output;
+  }
+
 -- the cut call's answer as it is handed to C
 pub cut-export : {s : List ℕ} {o : CutOutcome} {c x w : List ℕ} (r : DH.Halves)
     → CutExports s o c x w (r .number) (r .place) (r .count) (r .first) (r .second) → (n at k i j : ℕ)
@@ -78,4 +91,16 @@ bound-export r says n at bounds e = record {
   number = e .0 ∙ says .number;
   place = e .2 ∙ says .place;
   least = e .1 ∙ says .least;
+}
+
+-- and those of the calls that convert
+pub convert-export : {s : List ℕ} {o : ConvertOutcome} {out : List ℕ} (r : DC.Converted)
+    → ConvertExports s o out (r .number) (r .place) (r .count) → (n at k : ℕ)
+    → (n ≡ r .number) × (at ≡ r .place) × (k ≡ r .count) → ConvertExports s o out n at k
+convert-export r says n at k e = record {
+  bytes = says .bytes;
+  number = e .0 ∙ says .number;
+  place = e .1 ∙ says .place;
+  count = e .2 ∙ says .count;
+  output = says .output;
 }

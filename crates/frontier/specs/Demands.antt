@@ -1,5 +1,6 @@
 -- What a caller of the public calls has by their promises alone: the demands, call by call. proofs/Demand1.antt,
--- Demand2.antt, Demand3.antt and BoundLaws.antt prove each statement from the call's promise in Says.antt.
+-- Demand2.antt, Demand3.antt, BoundLaws.antt and TextBack.antt prove each statement from the calls' promises in
+-- Says.antt.
 use mathlib.Core.Path.{_≡_}
 use mathlib.Core.Bool.{true}
 use mathlib.Core.List.{List, List·Memᴰ as In}
@@ -98,3 +99,12 @@ pub record Bound-answer (s prefix least : List ℕ) : Type 0 where
 pub record Bounds (s prefix : List ℕ) (number place : ℕ) : Type 0 where
   pub answered : verdictOf s .number ≡ 0 → prefixOk (problemOf s .domains) prefix ≡ true → (number ≡ 0) × (place ≡ 0)
   pub nothing-else : number ≡ 0 → (verdictOf s .number ≡ 0) × (prefixOk (problemOf s .domains) prefix ≡ true)
+
+-- ## The calls that convert
+
+-- reading a text gave the records s, over the start of the buffer
+pub record Same-bytes (s old new : List ℕ) (n at k : ℕ) : Type 0 where
+  pub number : n ≡ 0
+  pub place : at ≡ 0
+  pub count : k ≡ length s
+  pub records : new ≡ over s old

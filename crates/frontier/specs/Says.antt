@@ -9,6 +9,7 @@ use Rattle.model.specs.Encoding.{Byte}
 use Rattle.model.specs.Frontiers.{Point, point}
 use Rattle.model.specs.Calls.{SolveOutcome, ListOutcome, CutOutcome, BoundOutcome}
 use Rattle.model.specs.declared.Point as DP
+use Rattle.text_networks.specs.Conversions.{ConvertOutcome}
 
 -- the plain call
 pub record SolveExports (s : List ℕ) (o : SolveOutcome) (costs′ choices′ work′ : List ℕ) (result at points : ℕ)
@@ -58,3 +59,11 @@ pub record CutExports (s : List ℕ) (o : CutOutcome) (costs′ choices′ work�
   pub costs : costs′ ≡ o .costs
   pub choices : choices′ ≡ o .choices
   pub work : work′ ≡ o .work
+
+-- the two calls that convert between records and WCSP text: s is what is read
+pub record ConvertExports (s : List ℕ) (o : ConvertOutcome) (output′ : List ℕ) (result at written : ℕ) : Type 0 where
+  pub bytes : All Byte s
+  pub number : result ≡ o .verdict .number
+  pub place : at ≡ o .verdict .place
+  pub count : written ≡ o .count
+  pub output : output′ ≡ o .output

@@ -1,13 +1,15 @@
 // The public calls, and their exports for C; the version.
 ghost use mathlib.Core.Path.{_≡_};
 ghost use Rattle.model.specs.Calls.{solveOutcome, listOutcome, cutOutcome, boundOutcome};
+ghost use Rattle.text_networks.specs.Conversions.{toTextOutcome};
 ghost use Rattle.frontier.specs.Says.{asPoints, SolveExports, ListExports, CutExports, BoundExports};
+ghost use Rattle.frontier.specs.Says.{ConvertExports};
 ghost use Rattle.frontier.specs.Version.{version};
 
 // The version of the interface; include/frontier.h has the same three numbers.
 const VERSION_MAJOR: u32 = 2;
 
-const VERSION_MINOR: u32 = 0;
+const VERSION_MINOR: u32 = 1;
 
 const VERSION_PATCH: u32 = 0;
 
@@ -207,4 +209,26 @@ pub extern "C" fn frontier_cut(
 {
     let halves = solve_cut(problem, sides, costs, choices, work);
     answers::tell_halves(halves, place, count, first, second)
+}
+
+// A problem with one objective as WCSP text.
+pub fn problem_to_text(problem: &[u8], text: &mut [u8]) -> text_networks::Converted
+    ensures { λ r. ⌜ ConvertExports (now (problem .entry)) (toTextOutcome (now (problem .entry)) (now (text .entry)))
+        (now (text .exit)) (r .number) (r .place) (r .count) ⌝ }
+{
+    text_writing::to_text(problem, text)
+}
+
+#[no_mangle]
+pub extern "C" fn frontier_to_text(
+    problem: &[u8],
+    text: &mut [u8],
+    place: &mut u32,
+    count: &mut u32,
+) -> u8
+    ensures { λ r. ⌜ ConvertExports (now (problem .entry)) (toTextOutcome (now (problem .entry)) (now (text .entry)))
+        (now (text .exit)) r (now (place .exit)) (now (count .exit)) ⌝ }
+{
+    let converted = problem_to_text(problem, text);
+    text_networks::tell(converted, place, count)
 }

@@ -12,6 +12,18 @@ use Rattle.model.specs.Refusals.{Verdict, verdict, accepted}
 use Rattle.model.specs.Calls.{over}
 use Rattle.model.proofs.Verdicts.{first-accepts, test-accepts}
 use Rattle.text_networks.specs.Conversions.{outputShort, ConvertOutcome, converted}
+use Rattle.text_networks.specs.Says.{answer, ConvertSays}
+
+-- an answer that tells an outcome
+pub tells : {o : ConvertOutcome} {output′ : List ℕ} {n at k : ℕ}
+    → o ≡ record { verdict = verdict n at; count = k; output = output′ } → ConvertSays o output′ (answer n at k)
+tells e =
+    record {
+      number = rw e refl;
+      place = rw e refl;
+      count = rw e refl;
+      output = rw e refl;
+    }
 
 abbrev pub refusal : Verdict → List ℕ → ConvertOutcome
 refusal v output = record { verdict = v; count = 0; output = output }

@@ -24,4 +24,6 @@ pub mod Unread
 pub mod TextRows
 -- the promises
 pub mod Converting
+pub mod TextVerdicts
 pub mod Statements
+pub mod ReadBack

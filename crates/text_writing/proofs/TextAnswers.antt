@@ -14,26 +14,11 @@ use Rattle.text_lines.specs.Written.{Written}
 use Rattle.text_networks.specs.NetworkTexts.{networkText}
 use Rattle.text_networks.specs.Conversions.{badDialect, outputShort, ConvertOutcome, converted, toTextVerdict}
 use Rattle.text_networks.specs.Conversions.{toTextOutcome}
-use Rattle.text_networks.specs.declared.Converted as DC
-use Rattle.text_networks.specs.Says.{ConvertSays}
-use Rattle.text_networks.proofs.Converting.{convert-refused, convert-short, convert-written}
-
-abbrev pub answer : ℕ → ℕ → ℕ → DC.Converted
-answer number place count = record { number = number; place = place; count = count }
+use Rattle.text_networks.specs.Says.{answer, ConvertSays}
+use Rattle.text_networks.proofs.Converting.{tells, convert-refused, convert-short, convert-written}
 
 abbrev outcome : Verdict → ℕ → List ℕ → ConvertOutcome
 outcome v count output = record { verdict = v; count = count; output = output }
-
--- an answer that tells the outcome
-tells : {o : ConvertOutcome} {text′ : List ℕ} {n at k : ℕ} → o ≡ outcome (verdict n at) k text′
-    → ConvertSays o text′ (answer n at k)
-tells e =
-    record {
-      number = rw e refl;
-      place = rw e refl;
-      count = rw e refl;
-      output = rw e refl;
-    }
 
 -- a form that is written at the start of a buffer stands over it
 written-over : {form text text′ : List ℕ} {behind : ℕ} → Written 0 form text text′ behind → behind ≤ length text

@@ -1,13 +1,30 @@
-//! The map is true: each name that the table of demands in `docs/ARCHITECTURE.md` gives is declared
-//! in the file that it gives. So no statement and no theorem of a demand can go unnoticed.
+//! The map is true: each name that the tables of demands and requests in `docs/ARCHITECTURE.md` give is
+//! declared in the file that they give. So no statement and no theorem of a demand can go unnoticed.
 
 use std::fs;
 use std::path::PathBuf;
 
 use testing::places::root;
 
-/// The crate whose files a column names: definitions, theorems, what a caller has.
-const COLUMNS: [(usize, &str); 3] = [(2, "model"), (3, "model"), (4, "frontier")];
+/// A table of the map: the head of its first column, how many rows it has, and the folder below
+/// `crates/` from which each column names files (definitions, theorems, what a caller has).
+struct Table {
+    head: &'static str,
+    rows: usize,
+    columns: [(usize, &'static str); 3],
+}
+
+const DEMANDS: Table = Table {
+    head: "| Demand |",
+    rows: 6,
+    columns: [(2, "model"), (3, "model"), (4, "frontier")],
+};
+
+const REQUESTS: Table = Table {
+    head: "| Request |",
+    rows: 1,
+    columns: [(2, ""), (3, ""), (4, "")],
+};
 
 /// A name that the map gives, and the file in which it looks for it.
 struct Entry {
@@ -15,9 +32,9 @@ struct Entry {
     name: String,
 }
 
-/// The rows of the table of demands, without its head.
-fn rows(map: &str) -> Vec<Vec<&str>> {
-    let (_, rest) = map.split_once("| Demand |").expect("the table of demands");
+/// The rows of a table, without its head.
+fn rows<'a>(map: &'a str, head: &str) -> Vec<Vec<&'a str>> {
+    let (_, rest) = map.split_once(head).expect("the table");
     let table = rest.lines().skip(2);
     let rows = table.take_while(|line| line.starts_with('|'));
     rows.map(|line| line.split('|').collect()).collect()
@@ -29,12 +46,12 @@ fn quoted(cell: &str) -> impl Iterator<Item = &str> {
 }
 
 /// The entries of a cell: a file, and the names after it.
-fn entries(cell: &str, in_crate: &str) -> Vec<Entry> {
+fn entries(cell: &str, folder: &str) -> Vec<Entry> {
     let mut file = None;
     let mut found = Vec::new();
     for word in quoted(cell) {
         if word.ends_with(".antt") {
-            file = Some(root().join("crates").join(in_crate).join(word));
+            file = Some(root().join("crates").join(folder).join(word));
         } else {
             let file = file.clone().expect("a file stands before its names");
             found.push(Entry {
@@ -56,14 +73,14 @@ fn declares(line: &str, name: &str) -> bool {
             .any(|pair| pair[0] == name && starts(pair[1]))
 }
 
-#[test]
-fn names_of_the_demands_are_declared_where_the_map_says() {
+/// Each name of a table is declared where the table says.
+fn check(table: &Table) {
     let map = fs::read_to_string(root().join("docs/ARCHITECTURE.md")).unwrap();
-    let rows = rows(&map);
-    assert_eq!(rows.len(), 6, "rows of the table of demands");
+    let rows = rows(&map, table.head);
+    assert_eq!(rows.len(), table.rows, "rows of {}", table.head);
     for row in &rows {
-        for (column, in_crate) in COLUMNS {
-            let entries = entries(row[column], in_crate);
+        for (column, folder) in table.columns {
+            let entries = entries(row[column], folder);
             assert!(!entries.is_empty(), "nothing named in: {}", row[column]);
             for Entry { file, name } in entries {
                 let text = fs::read_to_string(&file).unwrap_or_else(|_| panic!("no {file:?}"));
@@ -72,4 +89,14 @@ fn names_of_the_demands_are_declared_where_the_map_says() {
             }
         }
     }
+}
+
+#[test]
+fn names_of_the_demands_are_declared_where_the_map_says() {
+    check(&DEMANDS);
+}
+
+#[test]
+fn names_of_the_requests_are_declared_where_the_map_says() {
+    check(&REQUESTS);
 }

@@ -1,0 +1,2 @@
+-- Tuples of a WCSP text.
+pub mod Entries
