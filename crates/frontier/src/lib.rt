@@ -1,7 +1,7 @@
 // The public calls, and their exports for C; the version.
 ghost use mathlib.Core.Path.{_≡_};
 ghost use Rattle.model.specs.Calls.{solveOutcome, listOutcome, cutOutcome, boundOutcome};
-ghost use Rattle.text_networks.specs.Conversions.{toTextOutcome};
+ghost use Rattle.text_networks.specs.Conversions.{toTextOutcome, fromTextOutcome};
 ghost use Rattle.frontier.specs.Says.{asPoints, SolveExports, ListExports, CutExports, BoundExports};
 ghost use Rattle.frontier.specs.Says.{ConvertExports};
 ghost use Rattle.frontier.specs.Version.{version};
@@ -230,5 +230,27 @@ pub extern "C" fn frontier_to_text(
         (now (text .exit)) r (now (place .exit)) (now (count .exit)) ⌝ }
 {
     let converted = problem_to_text(problem, text);
+    text_networks::tell(converted, place, count)
+}
+
+// The records of a WCSP text.
+pub fn problem_from_text(text: &[u8], problem: &mut [u8]) -> text_networks::Converted
+    ensures { λ r. ⌜ ConvertExports (now (text .entry)) (fromTextOutcome (now (text .entry)) (now (problem .entry)))
+        (now (problem .exit)) (r .number) (r .place) (r .count) ⌝ }
+{
+    text_reading::from_text(text, problem)
+}
+
+#[no_mangle]
+pub extern "C" fn frontier_from_text(
+    text: &[u8],
+    problem: &mut [u8],
+    place: &mut u32,
+    count: &mut u32,
+) -> u8
+    ensures { λ r. ⌜ ConvertExports (now (text .entry)) (fromTextOutcome (now (text .entry)) (now (problem .entry)))
+        (now (problem .exit)) r (now (place .exit)) (now (count .exit)) ⌝ }
+{
+    let converted = problem_from_text(text, problem);
     text_networks::tell(converted, place, count)
 }

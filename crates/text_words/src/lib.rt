@@ -194,7 +194,7 @@ pub fn read_number(s: &[u8], at: usize) -> Number
 }
 
 // The first place from `from` on that is no zero, or `end`.
-fn skip_zeros(s: &[u8], from: usize, end: usize) -> usize
+pub fn skip_zeros(s: &[u8], from: usize, end: usize) -> usize
     requires { ⌜ (from ≤ end) × (end ≤ length (now s)) × (allDigits (part (now s) from end) ≡ true) ⌝ }
     ensures { λ r. ⌜ ZerosSkipped (now (s .entry)) from end r ⌝ }
 {

@@ -1,0 +1,103 @@
+-- The first line of a text in which nothing is refused.
+use mathlib.Core.Path.{_≡_, ap, sym}
+use mathlib.Core.Logic.{⊎-elim}
+use mathlib.Core.List.{List, [], _∷_}
+use Prim.Native.Nat.{ℕ, _≤_, _<_}
+use native.Mathlib.Omega.{arith}
+use native.Mathlib.Nat.{eq-or-lt-of-le}
+use lib.ListN.{drop}
+use Rattle.model.specs.Basics.{All}
+use Rattle.model.specs.Limits.{maxVariables, maxTables, wordEnd}
+use Rattle.model.specs.Problems.{Word, DomainSize}
+use Rattle.text_words.specs.Texts.{wordsOf}
+use Rattle.text_words.specs.Reads.{WordSays, NumberSays}
+use Rattle.text_words.specs.declared.Word as DW
+use Rattle.text_words.specs.declared.Number as DN
+use Rattle.text_networks.specs.Findings.{Words, fine, fault, valueAt}
+use Rattle.text_networks.specs.Networks.{functionsFinding, domainsIn, functionsIn, networkFinding, networkProblem}
+use Rattle.text_networks.proofs.FineWords.{found-fine, both-fine}
+use Rattle.text_networks.proofs.FineTables.{values-count, tables-count}
+use Rattle.text_networks.proofs.TextCosts.{text-rules}
+use Rattle.text_reading.specs.Heads.{HeadSays}
+use Rattle.text_reading.proofs.Numbers.{Passed, one-passed, passed-value}
+
+-- ## what is so of it
+
+pub functions-fine : (ws : Words) → networkFinding ws ≡ fine
+    → functionsFinding (valueAt 3 ws) (domainsIn ws) (functionsIn ws) ≡ fine
+unfolding networkFinding
+functions-fine [] h = absurd (found-fine fault tt h)
+functions-fine (name ∷ rest) h =
+    let h₁ = both-fine _ _ h .1 in
+    let h₂ = both-fine _ _ h₁ .1 in
+    let h₃ = both-fine _ _ h₂ .1 in
+    let h₄ = both-fine _ _ h₃ .1 in
+    let h₅ = both-fine _ _ h₄ .1 in
+    both-fine _ _ h₅ .1
+
+pub record FineHead (ws : Words) : Type 0 where
+  pub variables : valueAt 1 ws ≤ maxVariables
+  pub functions : valueAt 3 ws ≤ maxTables
+  pub bound : Word (valueAt 4 ws)
+  pub sizes : All DomainSize (domainsIn ws)
+
+pub head-fine : (ws : Words) → networkFinding ws ≡ fine → FineHead ws
+unfolding networkProblem
+head-fine ws h =
+    let rules = text-rules ws h in
+    record {
+      variables = rw values-count at (rules .few-variables);
+      functions = rw tables-count at (rules .few-tables);
+      bound = rules .ceiling-words .0;
+      sizes = rules .domain-sizes;
+    }
+
+-- ## as it is read
+
+pub name-passed : (s : List ℕ) → networkFinding (wordsOf s) ≡ fine → (r : DW.Word) → WordSays s 0 r
+    → Passed s 0 1 (r .end)
+unfolding networkFinding
+name-passed s h r says =
+    record {
+      within = says .within;
+      words = ⊎-elim
+          (λ (e : r .start ≡ r .end). absurd (found-fine fault tt (rw (says .none e) at h)))
+          (λ (l : r .start < r .end). sym (ap (drop 1) (says .some l))) (eq-or-lt-of-le (says .ordered));
+    }
+
+pub record FirstLine (s : List ℕ) (name : DW.Word) (n d r b : DN.Number) : Type 0 where
+  pub right : networkFinding (wordsOf s) ≡ fine
+  pub named : WordSays s 0 name
+  pub variables : NumberSays s (name .end) n
+  pub largest : NumberSays s (n .end) d
+  pub functions : NumberSays s (d .end) r
+  pub bound : NumberSays s (r .end) b
+
+module _ {s : List ℕ} {name : DW.Word} {n d r b : DN.Number} (l : FirstLine s name n d r b) where
+  first : Passed s 0 1 (name .end)
+  first = name-passed s (l .right) name (l .named)
+
+  third : Passed s 0 3 (d .end)
+  third = one-passed (one-passed first n (l .variables)) d (l .largest)
+
+  fourth : Passed s 0 4 (r .end)
+  fourth = one-passed third r (l .functions)
+
+  line-fine : FineHead (wordsOf s)
+  line-fine = head-fine (wordsOf s) (l .right)
+
+  bound-read : b .value ≡ valueAt 4 (wordsOf s)
+  bound-read = passed-value fourth b (l .bound) (omega (arith, line-fine .bound))
+
+  pub bound-fits : b .value < wordEnd
+  bound-fits = rw bound-read (line-fine .bound)
+
+  pub head-says : HeadSays s (record { variables = n .value; functions = r .value; bound = b .value; end = b .end })
+  head-says =
+      record {
+        variables = passed-value first n (l .variables) (omega (arith, line-fine .variables));
+        functions = passed-value third r (l .functions) (omega (arith, line-fine .functions));
+        bound = bound-read;
+        within = l .bound .within;
+        rest = one-passed fourth b (l .bound) .words;
+      }
