@@ -1,33 +1,30 @@
 -- The whole behind the name: the head, the domain sizes, whether the largest is met, and the functions.
-use mathlib.Core.Path.{_≡_, refl, sym, ap, subst, _∙_}
-use mathlib.Core.Logic.{⊎-elim}
-use mathlib.Core.Bool.{Bool, true, false, not}
+use mathlib.Core.Path.{_≡_, sym, ap, subst, _∙_}
+use mathlib.Core.Bool.{true, false, not}
 use mathlib.Core.List.{List, [], _∷_, _++_}
 use Prim.Native.Nat.{ℕ, zero, suc, _+_, _*_, _≤_, _<_, min}
 use native.Mathlib.Omega.{arith}
-use lib.Dec.{eqb, ltb}
-use lib.ListN.{length, getD, drop, length-append}
+use lib.Dec.{eqb}
+use lib.ListN.{length, drop, length-append}
 use lib.Seq.{drop-drop}
 use borrow.Author.Tests.{ltb-false}
-use Rattle.model.specs.Basics.{All, pick}
+use Rattle.model.specs.Basics.{All}
 use Rattle.model.specs.Limits.{maxVariables, maxTables, maxDomain}
 use Rattle.model.specs.Problems.{DomainSize}
 use Rattle.model.specs.Encoding.{twoBytes, wordBytes, headBytes, domainBytes, tablesBytes, encode}
 use Rattle.model.proofs.Words.{length-wordBytes}
 use Rattle.model.proofs.DomainRecords.{length-domainBytes}
-use Rattle.text_words.specs.Texts.{valueOf}
 use Rattle.text_words.specs.Reads.{wordsAt, capEnd}
-use Rattle.text_networks.specs.Findings.{Words, Finding, fine, dialect, stop, fault, andThen, findIf, field, termAt}
+use Rattle.text_networks.specs.Findings.{Words, Finding, fine, dialect, stop, fault, andThen, findIf, termAt}
 use Rattle.text_networks.specs.Findings.{valueAt, valuesIn, runs}
 use Rattle.text_networks.specs.Networks.{variablesFinding, largestFinding, functionsNumber, costFinding, sizeFinding}
-use Rattle.text_networks.specs.Networks.{largestOf, domainsIn, functionsIn, functionsFinding, functionTables}
+use Rattle.text_networks.specs.Networks.{largestOf, functionsIn, functionsFinding, functionTables}
 use Rattle.text_networks.specs.Networks.{networkFinding, networkProblem}
 use Rattle.text_networks.proofs.FineWords.{both-fine, test-fine, field-fine, inside-fine}
 use Rattle.text_networks.proofs.FineTables.{values-count}
 use Rattle.text_checking.specs.Codes.{codeOf, both}
-use Rattle.text_checking.specs.Sizes.{sizeHeld, domainsAt, Indexed}
-use Rattle.text_checking.specs.Steps.{Holds, HeadSays, SizesSays, FunctionsSays, BodySays, headFinding}
-use Rattle.text_checking.specs.declared.Step as DS
+use Rattle.text_checking.specs.Sizes.{domainsAt, Indexed}
+use Rattle.text_checking.specs.Steps.{HeadSays, SizesSays, FunctionsSays, BodySays, headFinding}
 use Rattle.text_checking.specs.declared.Declared as DD
 use Rattle.text_checking.specs.declared.Sizes as DM
 use Rattle.text_checking.specs.declared.Head as DH
@@ -255,7 +252,8 @@ module _ {s : List ℕ} {at : ℕ} {head : DH.Head} (says : HeadSays s at head) 
         (words-short s (sized .next) short) in
         let here : r .finding ≡ both total (codeOf (functionsFinding tables domains us)) =
         found .finding
-        ∙ rw (domains-same, behind, says .functions) (ap (both total) (functions-capped domains tables us short-rest)) in
+        ∙ rw (domains-same, behind, says .functions)
+        (ap (both total) (functions-capped domains tables us short-rest)) in
         record {
           finding = λ name. here ∙ sym (all-code name ∙ rw right (ap (both total) (both-none _)));
           bytes = λ z name.

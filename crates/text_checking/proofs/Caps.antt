@@ -1,18 +1,17 @@
 -- Counts above the number of words: a run of so many items ends where the words end.
-use mathlib.Core.Path.{_≡_, refl, sym, ap, _∙_}
+use mathlib.Core.Path.{_≡_, sym, ap, _∙_}
 use mathlib.Core.Logic.{⊎-elim}
 use mathlib.Core.List.{List, [], _∷_}
-use Prim.Native.Nat.{ℕ, zero, suc, _+_, _≤_, _<_, min}
+use Prim.Native.Nat.{ℕ, zero, suc, _≤_, _<_, min}
 use native.Mathlib.Omega.{arith}
 use lib.ListN.{length, drop, length-drop}
-use Rattle.text_words.specs.Texts.{termOf, wordsOf}
+use Rattle.text_words.specs.Texts.{termOf}
 use Rattle.text_words.specs.Reads.{wordsAt, capEnd}
 use Rattle.text_words.proofs.Words.{words-few}
-use Rattle.text_networks.specs.Findings.{Words, Finding, field, andThen, runs, termAt, valuesIn}
-use Rattle.text_networks.specs.Networks.{declaredFinding, sizeFinding, valuesFinding, tupleFinding, functionFinding}
-use Rattle.text_networks.specs.Networks.{functionWidth, functionsFinding}
+use Rattle.text_networks.specs.Findings.{Words, Finding, field, andThen, runs, termAt}
+use Rattle.text_networks.specs.Networks.{declaredFinding, sizeFinding, valuesFinding, tupleFinding}
 use Rattle.text_checking.specs.Codes.{codeOf, both}
-use Rattle.text_checking.specs.Steps.{tuplesFinding, frontFinding, overFinding}
+use Rattle.text_checking.specs.Steps.{tuplesFinding}
 use Rattle.text_checking.proofs.Codes.{lt-or-ge, both-heavy, both-later, code-both}
 
 -- there are fewer words than the cap

@@ -1,15 +1,15 @@
 -- What an entry holds: the size that it was made of, and whether a number is less.
-use mathlib.Core.Path.{_≡_, refl, sym, ap, _∙_}
+use mathlib.Core.Path.{_≡_, refl, sym, _∙_}
 use mathlib.Core.Logic.{⊎-elim}
-use mathlib.Core.Bool.{Bool, true, false}
-use mathlib.Core.List.{List, []}
+use mathlib.Core.Bool.{true, false}
+use mathlib.Core.List.{List}
 use Prim.Native.Nat.{ℕ, _+_, _-_, _≤_, _<_, min, max}
 use native.Mathlib.Omega.{arith}
 use lib.Dec.{ltb}
-use lib.ListN.{length, getD, drop, drop-of-length-le, List·getD-map}
+use lib.ListN.{length, getD, drop-of-length-le, List·getD-map}
 use borrow.Author.Tests.{ltb-true, ltb-false, lt-ltb, le-ltb}
 use Rattle.text_words.specs.Texts.{Term, number, negative, other, wordsOf, termOf, valueOf}
-use Rattle.text_words.specs.Reads.{termAt, wordsAt, kindOf, capEnd, NumberSays}
+use Rattle.text_words.specs.Reads.{termAt, kindOf, capEnd, NumberSays}
 use Rattle.text_words.specs.declared.Number as DN
 use Rattle.text_checking.specs.Sizes.{half, entryOf, sizeHeld, sizesHeld}
 use Rattle.text_checking.proofs.Codes.{lt-or-ge}
@@ -35,7 +35,8 @@ module _ (s : List ℕ) where
   unfolding entryOf
   entry-held at r says =
       let x = valueOf (termAt s at) in
-      ⊎-elim (λ (h : r .value < half). rw (lt-ltb (r .value) half h) (held-small (r .value) h ∙ omega (arith, says .value)))
+      ⊎-elim (λ (h : r .value < half).
+      rw (lt-ltb (r .value) half h) (held-small (r .value) h ∙ omega (arith, says .value)))
       (λ (h : half ≤ r .value).
       let place : half + at - half ≡ at = omega arith in
       rw (le-ltb (r .value) half h)

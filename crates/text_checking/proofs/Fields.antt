@@ -1,20 +1,18 @@
 -- What is found in a field, by the number that was read.
 use mathlib.Core.Path.{_≡_, refl, sym, ap, _∙_}
-use mathlib.Core.Logic.{⊎-elim}
 use mathlib.Core.Bool.{Bool, true, false, not, _||_, _&&_}
 use mathlib.Core.List.{List}
 use Prim.Native.Nat.{ℕ, _≤_, _<_, min}
 use native.Mathlib.Omega.{arith}
 use lib.Dec.{eqb, ltb}
-use lib.ListN.{length}
-use borrow.Author.Tests.{ltb-true, ltb-false, lt-ltb, le-ltb, eqb-true, eqb-false, eq-eqb, ne-eqb}
+use borrow.Author.Tests.{ltb-true, ltb-false, lt-ltb, le-ltb, eq-eqb, ne-eqb}
 use Rattle.model.specs.Basics.{pick}
 use Rattle.model.specs.Limits.{maxVariables, maxTables, maxDomain, maxArity, wordEnd}
 use Rattle.model.specs.Reading.{outside}
 use Rattle.text_words.specs.Texts.{Term, number, negative, other, valueOf}
 use Rattle.text_words.specs.Reads.{termAt, kindOf, capEnd, NumberSays}
 use Rattle.text_words.specs.declared.Number as DN
-use Rattle.text_networks.specs.Findings.{Finding, fine, dialect, stop, fault, andThen, field, findIf}
+use Rattle.text_networks.specs.Findings.{Finding, dialect, stop, fault, andThen, field, findIf}
 use Rattle.text_networks.specs.Networks.{variablesFinding, largestFinding, functionsNumber, costFinding, arityFinding}
 use Rattle.text_networks.specs.Networks.{sizeFinding, declaredFinding, countFinding}
 use Rattle.text_checking.specs.Codes.{codeOf, limitedCode, countCode}

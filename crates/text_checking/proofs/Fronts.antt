@@ -1,18 +1,17 @@
 -- A function up to the number of its tuples: the scope, a variable twice, the default cost, the number of tuples.
-use mathlib.Core.Path.{_≡_, refl, sym, ap, _∙_}
+use mathlib.Core.Path.{_≡_, sym, ap, _∙_}
 use mathlib.Core.Logic.{⊎-elim}
-use mathlib.Core.Bool.{Bool}
-use mathlib.Core.List.{List, [], _∷_}
-use Prim.Native.Nat.{ℕ, suc, _+_, _≤_, _<_, min}
+use mathlib.Core.List.{List, []}
+use Prim.Native.Nat.{ℕ, _+_, _≤_, _<_, min}
 use native.Mathlib.Omega.{arith}
 use lib.ListN.{length, getD, take, drop}
 use lib.Seq.{drop-drop, getD-drop}
 use Rattle.text_words.specs.Texts.{termOf, valueOf}
 use Rattle.text_words.specs.Reads.{wordsAt, capEnd}
-use Rattle.text_networks.specs.Findings.{Words, Finding, dialect, andThen, findIf, termAt, valueAt, valuesIn, runs}
-use Rattle.text_networks.specs.Networks.{repeated, costFinding, countFinding, declaredFinding}
+use Rattle.text_networks.specs.Findings.{Words, dialect, andThen, findIf, termAt, valuesIn}
+use Rattle.text_networks.specs.Networks.{repeated, costFinding, countFinding}
 use Rattle.text_checking.specs.Codes.{codeOf, both}
-use Rattle.text_checking.specs.Steps.{Checked, ScopeSays, CountsSays, FrontSays, frontFinding}
+use Rattle.text_checking.specs.Steps.{ScopeSays, CountsSays, FrontSays, frontFinding}
 use Rattle.text_checking.specs.declared.Step as DS
 use Rattle.text_checking.specs.declared.Counted as DC
 use Rattle.text_checking.proofs.Codes.{lt-or-ge, both-heavy, both-assoc, both-first, both-second, both-either}
@@ -91,7 +90,8 @@ module _ (s : List ℕ) (start : DS.Step) (arity n : ℕ) (scope : List ℕ) (ro
         let one = both-first _ (counts .finding) h in
         (both-second (start .finding) _ (both-first _ twice one), both-second _ (counts .finding) h)
 
-  pub front-says : FrontSays s start arity n scope (record { finding = total; next = counts .next; count = counts .count })
+  pub front-says : FrontSays s start arity n scope
+      (record { finding = total; next = counts .next; count = counts .count })
   front-says =
       record {
         finding = total-code;

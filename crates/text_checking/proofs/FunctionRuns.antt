@@ -1,24 +1,23 @@
 -- The functions one after another: what is found of those that are left, and the bytes of their records.
-use mathlib.Core.Path.{_≡_, refl, sym, ap, _∙_}
+use mathlib.Core.Path.{_≡_, sym, ap, _∙_}
 use mathlib.Core.Logic.{⊎-elim}
-use mathlib.Core.List.{List, [], _∷_, _++_}
+use mathlib.Core.List.{List, [], _∷_}
 use Prim.Native.Nat.{ℕ, zero, suc, _+_, _-_, _*_, _≤_, _<_, min}
 use native.Mathlib.Omega.{arith}
 use lib.ListN.{length, drop, length-append, length-drop}
 use Rattle.model.specs.Encoding.{tableBytes, tablesBytes}
 use Rattle.text_words.specs.Texts.{termOf}
 use Rattle.text_words.specs.Reads.{wordsAt, capEnd}
-use Rattle.text_networks.specs.Findings.{Words, Finding, field, andThen, termAt}
-use Rattle.text_networks.specs.Networks.{functionWidth, functionFinding, functionsFinding, functionTable, functionTables}
+use Rattle.text_networks.specs.Findings.{Words, field, andThen}
+use Rattle.text_networks.specs.Networks.{functionWidth, functionFinding, functionsFinding, functionTable}
+use Rattle.text_networks.specs.Networks.{functionTables}
 use Rattle.text_checking.specs.Codes.{codeOf, both}
 use Rattle.text_checking.specs.Sizes.{domainsAt}
 use Rattle.text_checking.specs.Steps.{FunctionSays, FunctionsSays}
-use Rattle.text_checking.specs.declared.Step as DS
 use Rattle.text_checking.specs.declared.Declared as DD
 use Rattle.text_checking.specs.declared.Function as DU
-use Rattle.text_checking.specs.declared.Body as DB
-use Rattle.text_checking.proofs.Codes.{lt-or-ge, both-light, both-heavy, both-last, both-none, both-assoc}
-use Rattle.text_checking.proofs.Codes.{both-zero, both-later, both-second, code-both}
+use Rattle.text_checking.proofs.Codes.{lt-or-ge, both-light, both-heavy, both-last, both-assoc}
+use Rattle.text_checking.proofs.Codes.{both-zero, both-later, code-both}
 
 -- ## one function more
 

@@ -1,34 +1,34 @@
 -- A function as its arity and what is behind it, and the bytes of its record.
 use mathlib.Core.Path.{_≡_, refl, sym, ap, subst, _∙_}
 use mathlib.Core.Logic.{⊎-elim}
-use mathlib.Core.List.{List, [], _∷_, _++_, map}
+use mathlib.Core.List.{List, []}
 use Prim.Native.Nat.{ℕ, zero, suc, _+_, _*_, _≤_, _<_, min}
 use native.Mathlib.Omega.{arith}
-use lib.Dec.{ltb}
-use lib.ListN.{length, getD, drop, set, replicate, length-map, length-set, length-replicate, length-append}
+use lib.ListN.{length, getD, drop, replicate, length-map, length-set, length-replicate, length-append}
 use lib.Seq.{drop-drop, getD-drop}
 use borrow.Author.Tests.{ltb-false}
 use Rattle.model.specs.Limits.{maxArity}
 use Rattle.model.specs.Problems.{sizeOf}
 use Rattle.model.specs.Encoding.{tableBytes, wordBytes}
 use Rattle.model.proofs.Words.{length-wordBytes}
-use Rattle.text_words.specs.Texts.{termOf, valueOf}
 use Rattle.text_words.specs.Reads.{wordsAt, capEnd, NumberSays}
 use Rattle.text_words.specs.declared.Number as DN
 use Rattle.text_networks.specs.Findings.{Words, Finding, fine, dialect, stop, fault, andThen, findIf, termAt, valueAt}
 use Rattle.text_networks.specs.Findings.{valuesIn, runs}
-use Rattle.text_networks.specs.Networks.{repeated, repeatedTuple, arityFinding, declaredFinding, costFinding, countFinding}
+use Rattle.text_networks.specs.Networks.{repeated, repeatedTuple, arityFinding, declaredFinding, costFinding}
+use Rattle.text_networks.specs.Networks.{countFinding}
 use Rattle.text_networks.specs.Networks.{arityIn, scopeIn, defaultIn, countIn, tuplesIn, functionWidth, sizesOver}
 use Rattle.text_networks.specs.Networks.{tupleFinding, tuplesOf, functionFinding, withTuples, functionTable}
 use Rattle.text_networks.proofs.Entries.{product, size-product}
 use Rattle.text_networks.proofs.FineWords.{test-fine, field-fine}
 use Rattle.text_checking.specs.Codes.{codeOf, both}
 use Rattle.text_checking.specs.Sizes.{domainsAt}
-use Rattle.text_checking.specs.Steps.{frontFinding, tuplesFinding, overFinding, recordBytes, OverSays, FunctionSays}
-use Rattle.text_checking.specs.declared.Step as DS
+use Rattle.text_checking.specs.Steps.{frontFinding, tuplesFinding, overFinding, recordBytes, OverSays}
+use Rattle.text_checking.specs.Steps.{FunctionSays}
 use Rattle.text_checking.specs.declared.Declared as DD
 use Rattle.text_checking.specs.declared.Function as DU
-use Rattle.text_checking.proofs.Codes.{lt-or-ge, both-heavy, both-assoc, both-second, both-zero, code-both, code-fine}
+use Rattle.text_checking.proofs.Codes.{lt-or-ge, both-heavy, both-assoc, both-second, both-zero, code-both}
+use Rattle.text_checking.proofs.Codes.{code-fine}
 use Rattle.text_checking.proofs.Caps.{words-short, runs-heavy, runs-capped, declared-end}
 
 -- ## the findings in order
@@ -166,7 +166,8 @@ module _ {s : List ℕ} {at : ℕ} {x : DN.Number} (says : NumberSays s at x) (f
       let after : Words = drop 1 here in
       let few : length after < capEnd = subst (λ (l : Words). length l < capEnd) (says .rest)
       (words-short s (x .end) short) in
-      let behind : codeOf (overFinding ds (x .value) (wordsAt s (x .end))) ≡ codeOf (overFinding ds (min n capEnd) after) =
+      let behind : codeOf (overFinding ds (x .value) (wordsAt s (x .end)))
+      ≡ codeOf (overFinding ds (min n capEnd) after) =
       rw (says .rest, says .value) in
       let exact : r .finding < 2 → x .value ≡ n =
       λ l.

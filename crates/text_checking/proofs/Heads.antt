@@ -1,21 +1,18 @@
 -- What stands between the name and the domain sizes: four numbers in a row.
 use mathlib.Core.Path.{_≡_, refl, sym, ap, _∙_}
-use mathlib.Core.Logic.{⊎-elim}
 use mathlib.Core.List.{List, []}
-use Prim.Native.Nat.{ℕ, _+_, _≤_, _<_, min}
+use Prim.Native.Nat.{ℕ, _<_, min}
 use native.Mathlib.Omega.{arith}
-use lib.ListN.{length, getD, drop}
+use lib.ListN.{getD, drop}
 use lib.Seq.{drop-drop}
 use Rattle.model.proofs.Lists.{getD-first}
-use Rattle.model.proofs.Numbers.{equal-or}
 use Rattle.text_words.specs.Texts.{Term, number, negative, other, termOf, valueOf}
 use Rattle.text_words.specs.Reads.{wordsAt, capEnd, kindOf, NumberSays}
 use Rattle.text_words.specs.declared.Number as DN
-use Rattle.text_networks.specs.Findings.{Words, Finding, fault, fine, field, termAt, valueAt}
+use Rattle.text_networks.specs.Findings.{Words, field, termAt}
 use Rattle.text_networks.specs.Networks.{variablesFinding, largestFinding, functionsNumber, costFinding}
 use Rattle.text_checking.specs.Codes.{codeOf, both}
 use Rattle.text_checking.specs.Steps.{HeadSays, headFinding}
-use Rattle.text_checking.specs.declared.Head as DH
 use Rattle.text_checking.proofs.Codes.{both-first, both-second, code-both}
 
 -- a largest size that does not decide is a number

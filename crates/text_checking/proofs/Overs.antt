@@ -1,18 +1,17 @@
 -- A function behind its arity: what is found up to the number of tuples, and then in the tuples.
-use mathlib.Core.Path.{_≡_, refl, sym, ap, subst, _∙_}
-use mathlib.Core.Bool.{Bool, true, false, not, _&&_}
-use mathlib.Core.List.{List, [], _∷_, _++_, map}
+use mathlib.Core.Path.{_≡_, sym, ap, subst, _∙_}
+use mathlib.Core.List.{List, [], _∷_, _++_}
 use Prim.Native.Nat.{ℕ, zero, suc, _+_, _-_, _*_, _≤_, _<_, min}
 use native.Mathlib.Omega.{arith}
-use lib.Dec.{eqb, ltb}
+use lib.Dec.{ltb}
 use lib.ListN.{length, getD, take, drop, length-map, length-take}
 use lib.Seq.{drop-drop, ext-getD, getD-take}
 use borrow.Author.Tests.{ltb-true, ltb-false, not-false}
 use Rattle.model.specs.Basics.{All}
 use Rattle.model.specs.Problems.{DomainSize, InRange}
-use Rattle.text_words.specs.Texts.{Term, number, negative, other, valueOf}
+use Rattle.text_words.specs.Texts.{Term, valueOf}
 use Rattle.text_words.specs.Reads.{wordsAt, capEnd}
-use Rattle.text_networks.specs.Findings.{Words, Finding, fine, stop, fault, andThen, field, termAt, valueAt, valuesIn, runs}
+use Rattle.text_networks.specs.Findings.{Words, fine, stop, fault, termAt, valueAt, valuesIn, runs}
 use Rattle.text_networks.specs.Networks.{declaredFinding, countFinding, sizesOver}
 use Rattle.text_networks.proofs.Lists.{map-append}
 use Rattle.text_networks.proofs.Entries.{sizes-over}
@@ -133,8 +132,9 @@ module _ (s : List ℕ) (start : DS.Step) (arity : ℕ) (d : DD.Declared) (front
       }
 
   -- where nothing is found
-  pub over-plain : (start .finding ≡ 0 → (arity ≤ 3) × All DomainSize (domainsAt s d)) → (entries : List ℕ) (far : DF.Far)
-      → length entries ≡ min arity (length front) → 3 ≤ length front → far .count ≡ arity - length entries
+  pub over-plain : (start .finding ≡ 0 → (arity ≤ 3) × All DomainSize (domainsAt s d))
+      → (entries : List ℕ) (far : DF.Far) → length entries ≡ min arity (length front)
+      → 3 ≤ length front → far .count ≡ arity - length entries
       → scopeSizes s entries far d ≡ sizes → counted .finding ≡ 0 → Plain s counted entries far
   over-plain plain entries far long room rest all none =
       let (before, here) = both-zero _ _ (sym (says .finding) ∙ none) in
@@ -156,8 +156,8 @@ module _ (s : List ℕ) (start : DS.Step) (arity : ℕ) (d : DD.Declared) (front
       front-all [] ys h = tt
       front-all (x ∷ xs) ys h = (h .0, front-all xs ys (h .1))
 
-  pub over-says : length s < 18446744073709551616 → counted .finding < 2 → (es : List ℕ) → es ≡ sizes → (r : DU.Function)
-      → TableSays s counted es r → OverSays s start arity d r
+  pub over-says : length s < 18446744073709551616 → counted .finding < 2 → (es : List ℕ) → es ≡ sizes
+      → (r : DU.Function) → TableSays s counted es r → OverSays s start arity d r
   over-says short light es same r table =
       let k : ℕ = valueAt (1 + arity) vs in
       let ws : Words = wordsAt s (counted .next) in

@@ -1,21 +1,20 @@
 -- Items one after another: what is found of those that are left, behind what was found before.
-use mathlib.Core.Path.{_≡_, refl, sym, ap, _∙_}
-use mathlib.Core.Logic.{⊎-elim}
-use mathlib.Core.List.{List, [], _∷_}
-use Prim.Native.Nat.{ℕ, zero, suc, _+_, _-_, _*_, _≤_, _<_, min}
+use mathlib.Core.Path.{_≡_, sym, ap, _∙_}
+use mathlib.Core.List.{List, []}
+use Prim.Native.Nat.{ℕ, suc, _+_, _-_, _*_, _≤_, _<_}
 use native.Mathlib.Omega.{arith}
 use native.Mathlib.Nat.{zero-mul, suc-mul, mul-one}
 use native.Mathlib.Numerals.{add-one}
-use lib.ListN.{length, drop, length-drop}
+use lib.ListN.{length, drop}
 use lib.Seq.{drop-drop}
 use Rattle.model.proofs.Lists.{getD-first}
 use Rattle.text_words.specs.Texts.{termOf, valueOf}
-use Rattle.text_words.specs.Reads.{wordsAt, capEnd}
-use Rattle.text_networks.specs.Findings.{Words, Finding, andThen, runs, valueAt}
+use Rattle.text_words.specs.Reads.{wordsAt}
+use Rattle.text_networks.specs.Findings.{Words, Finding, runs, valueAt}
 use Rattle.text_checking.specs.Codes.{codeOf, both}
 use Rattle.text_checking.specs.Steps.{Checked}
 use Rattle.text_checking.specs.declared.Step as DS
-use Rattle.text_checking.proofs.Codes.{lt-or-ge, both-none, both-last, both-heavy, both-assoc, both-second}
+use Rattle.text_checking.proofs.Codes.{both-none, both-last, both-heavy, both-assoc, both-second}
 use Rattle.text_checking.proofs.Codes.{code-both}
 
 pub runs-next : (f : Words → Finding) (w n i : ℕ) (ws : Words) → i < n
@@ -58,7 +57,8 @@ module _ (s : List ℕ) (f : Words → Finding) (w n at : ℕ) where
       }
 
   module _ (i finding next : ℕ) (h : i < n) (r : RunRead s f w n at i finding next) (step : DS.Step)
-      (one : Checked s (codeOf (f (wordsAt s next))) w next step) (total : ℕ) (sum : total ≡ both finding (step .finding))
+      (one : Checked s (codeOf (f (wordsAt s next))) w next step) (total : ℕ)
+      (sum : total ≡ both finding (step .finding))
     where
       all-left : codeOf (runs n f w (wordsAt s at))
           ≡ both total (codeOf (runs (n - (i + 1)) f w (drop w (wordsAt s next))))

@@ -1,7 +1,7 @@
 -- Scopes: a variable twice among at most three, and the sizes of variables by their words.
 use mathlib.Core.Path.{_≡_, refl, sym, ap, _∙_}
 use mathlib.Core.Bool.{Bool, true, false, _||_}
-use mathlib.Core.List.{List, [], _∷_, map}
+use mathlib.Core.List.{List, [], _∷_}
 use Prim.Native.Nat.{ℕ, zero, suc, _≤_, _<_}
 use native.Mathlib.Omega.{arith}
 use lib.Dec.{eqb}
@@ -12,7 +12,7 @@ use Rattle.model.proofs.Lists.{getD-first}
 use Rattle.text_words.specs.Texts.{termOf, valueOf}
 use Rattle.text_words.specs.Reads.{wordsAt, capEnd, NumberSays}
 use Rattle.text_words.specs.declared.Number as DN
-use Rattle.text_networks.specs.Findings.{Words, valueAt, valuesIn}
+use Rattle.text_networks.specs.Findings.{Words, valuesIn}
 use Rattle.text_networks.specs.Networks.{repeated, sizesOver}
 use Rattle.text_networks.proofs.FineTables.{values-count}
 use Rattle.text_checking.specs.Sizes.{domainsAt, scopeSizes}

@@ -2,14 +2,14 @@
 use mathlib.Core.Path.{_≡_, refl, sym, ap, _∙_}
 use mathlib.Core.Logic.{⊎-elim}
 use mathlib.Core.Bool.{Bool, true, false, not, _||_}
-use mathlib.Core.List.{List, [], _∷_}
+use mathlib.Core.List.{List}
 use Prim.Native.Nat.{ℕ, suc, _+_, _-_, _≤_, _<_, min, max}
 use native.Mathlib.Omega.{arith}
 use lib.Dec.{eqb, ltb}
-use lib.ListN.{length, drop}
+use lib.ListN.{drop}
 use borrow.Author.Tests.{lt-ltb, le-ltb, eqb-true, eqb-false, eq-eqb, ne-eqb}
 use Rattle.text_words.specs.Reads.{wordsAt, capEnd}
-use Rattle.text_networks.specs.Findings.{Words, valueAt, valuesIn}
+use Rattle.text_networks.specs.Findings.{valueAt, valuesIn}
 use Rattle.text_networks.specs.Networks.{largestOf}
 use Rattle.text_checking.proofs.Codes.{lt-or-ge}
 use Rattle.text_checking.proofs.Fields.{same-test}

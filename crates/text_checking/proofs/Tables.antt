@@ -1,19 +1,19 @@
 -- The tuples of a function: something is found, or nothing and there are three small sizes at most.
 use mathlib.Core.Path.{_≡_, refl, sym, ap, subst, _∙_}
-use mathlib.Core.Bool.{Bool, true, false}
-use mathlib.Core.List.{List, [], _∷_, _++_, append-nil}
+use mathlib.Core.Bool.{Bool}
+use mathlib.Core.List.{List, [], _∷_, append-nil}
 use Prim.Native.Nat.{ℕ, zero, suc, _+_, _*_, _≤_, _<_}
 use native.Mathlib.Omega.{arith}
-use lib.ListN.{length, getD, take, drop, length-append, length-map}
+use lib.ListN.{length, getD, take, length-append, length-map}
 use Rattle.model.specs.Basics.{All, pick}
 use Rattle.model.specs.Problems.{DomainSize}
 use Rattle.model.proofs.Numbers.{product-small}
 use Rattle.text_words.specs.Reads.{wordsAt}
-use Rattle.text_networks.specs.Findings.{Words, Finding, fine, dialect, findIf, runs, valuesIn}
-use Rattle.text_networks.specs.Networks.{repeatedTuple, tuplesOf, tupleFinding, sizesOver}
+use Rattle.text_networks.specs.Findings.{Words, fine, dialect, findIf, runs, valuesIn}
+use Rattle.text_networks.specs.Networks.{repeatedTuple, tuplesOf, tupleFinding}
 use Rattle.text_networks.proofs.Entries.{product}
 use Rattle.text_checking.specs.Codes.{codeOf, both}
-use Rattle.text_checking.specs.Sizes.{sizeHeld, sizesHeld, domainsAt, scopeSizes}
+use Rattle.text_checking.specs.Sizes.{sizeHeld, sizesHeld, scopeSizes}
 use Rattle.text_checking.specs.Steps.{Checked, Plain, TableSays, tuplesFinding, recordBytes}
 use Rattle.text_checking.specs.declared.Step as DS
 use Rattle.text_checking.specs.declared.Declared as DD
@@ -71,7 +71,8 @@ pub tuples-code : (es : List ℕ) (a k : ℕ) (ws : Words)
     → codeOf (tuplesFinding es a k ws)
     ≡ both (codeOf (runs k (tupleFinding es) (suc a) ws)) (codeOf (findIf (repeatedTuple (tuplesOf k a ws)) dialect))
 unfolding tuplesFinding
-tuples-code es a k ws = code-both (runs k (tupleFinding es) (suc a) ws) (findIf (repeatedTuple (tuplesOf k a ws)) dialect)
+tuples-code es a k ws =
+    code-both (runs k (tupleFinding es) (suc a) ws) (findIf (repeatedTuple (tuplesOf k a ws)) dialect)
 
 module _ (s : List ℕ) (start : DC.Counted) (entries : List ℕ) (far : DF.Far) (d : DD.Declared) where
   abbrev es : List ℕ

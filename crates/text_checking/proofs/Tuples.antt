@@ -2,13 +2,12 @@
 use mathlib.Core.Path.{_≡_, refl, sym, ap, _∙_}
 use mathlib.Core.Logic.{_⊎_, inl, inr, ⊎-elim}
 use mathlib.Core.List.{List, [], _∷_, _++_}
-use Prim.Native.Nat.{ℕ, zero, suc, _+_, _≤_, _<_}
+use Prim.Native.Nat.{ℕ, _+_, _≤_}
 use native.Mathlib.Omega.{arith}
 use lib.ListN.{length, getD, drop, length-append}
 use lib.Seq.{drop-drop}
 use Rattle.model.proofs.Lists.{getD-first}
-use Rattle.text_words.specs.Texts.{termOf}
-use Rattle.text_networks.specs.Findings.{Words, Finding, fine, andThen, termAt}
+use Rattle.text_networks.specs.Findings.{Words, termAt}
 use Rattle.text_networks.specs.Networks.{declaredFinding, valuesFinding, tupleFinding, costFinding}
 use Rattle.text_networks.proofs.Lists.{drop-one}
 use Rattle.text_checking.specs.Codes.{codeOf, both}

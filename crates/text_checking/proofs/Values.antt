@@ -1,8 +1,8 @@
 -- The values of a tuple, one after another: what is found of those that are left is what is found of all.
-use mathlib.Core.Path.{_≡_, refl, sym, ap, _∙_}
+use mathlib.Core.Path.{_≡_, refl, sym, _∙_}
 use mathlib.Core.Logic.{_⊎_, inl, inr, ⊎-elim}
 use mathlib.Core.Bool.{Bool, true, false, not}
-use mathlib.Core.List.{List, [], _∷_}
+use mathlib.Core.List.{List}
 use Prim.Native.Nat.{ℕ, suc, _+_, _≤_, _<_}
 use native.Mathlib.Omega.{arith}
 use native.Mathlib.Numerals.{add-one}
@@ -11,7 +11,7 @@ use lib.ListN.{length, getD, drop, drop-of-length-le}
 use lib.Seq.{drop-cons, drop-drop}
 use Rattle.text_words.specs.Texts.{Term, number, negative, other}
 use Rattle.text_words.specs.Reads.{wordsAt}
-use Rattle.text_networks.specs.Findings.{Words, Finding, fine, fault, field, findIf, termAt}
+use Rattle.text_networks.specs.Findings.{Words, fault, field, findIf, termAt}
 use Rattle.text_networks.specs.Networks.{declaredFinding, valuesFinding}
 use Rattle.text_checking.specs.Codes.{codeOf, both}
 use Rattle.text_checking.specs.Steps.{Checked}

@@ -1,22 +1,23 @@
 // What is refused of a WCSP text, and how long its records are.
 ghost use mathlib.Core.Path.{_≡_};
 ghost use mathlib.Core.Bool.{_||_};
-ghost use mathlib.Core.List.{[], _++_};
+ghost use mathlib.Core.List.{[]};
 ghost use Prim.Native.Nat.{ℕ, suc, _+_, _-_, _*_, _≤_, _<_, min};
 ghost use lib.Dec.{ltb};
-ghost use lib.ListN.{length, getD, take, drop, set};
+ghost use lib.ListN.{length, getD, take, set};
 ghost use Rattle.model.specs.Basics.{All};
 ghost use Rattle.model.specs.Limits.{maxDomain};
 ghost use Rattle.model.specs.Problems.{DomainSize};
 ghost use Rattle.text_words.specs.Texts.{valueFrom};
 ghost use Rattle.text_words.specs.Reads.{wordsAt, capEnd, numeral, DigitsAt};
-ghost use Rattle.text_networks.specs.Findings.{dialect, findIf, termAt, valueAt, valuesIn, runs};
-ghost use Rattle.text_networks.specs.Networks.{costFinding, declaredFinding, valuesFinding, tupleFinding, sizesOver};
+ghost use Rattle.text_networks.specs.Findings.{dialect, findIf, termAt, runs};
+ghost use Rattle.text_networks.specs.Networks.{costFinding, declaredFinding, valuesFinding, tupleFinding};
 ghost use Rattle.text_networks.specs.Networks.{repeated};
 ghost use Rattle.text_checking.specs.Codes.{codeOf, both, limitedCode, countCode, numberCode};
 ghost use Rattle.text_checking.specs.Sizes.{half, entryOf, sizeHeld, sizesHeld, domainsAt, Indexed, scopeSizes};
 ghost use Rattle.text_checking.specs.Steps.{Checked, WordsSkipped, ScopeSays, CountsSays, TableSays, OverSays};
-ghost use Rattle.text_checking.specs.Steps.{FunctionSays, FunctionsSays, SizeSays, SizesSays, HeadSays, NetworkSays};
+ghost use Rattle.text_checking.specs.Steps.{FunctionSays, FunctionsSays, SizeSays, SizesSays, HeadSays};
+ghost use Rattle.text_checking.specs.Steps.{NetworkSays};
 ghost use Rattle.text_checking.specs.Steps.{recordBytes, Plain, FarSays, FrontSays, BodySays};
 
 // Entries of at least this number stand for sizes that are too large for an entry.
@@ -498,7 +499,8 @@ fn check_table(
 // What is found of a variable that a scope has twice; of more than three variables, which are refused, nothing.
 fn twice_code(scope: &[u64], arity: u64) -> u8
     requires { ⌜ 3 ≤ length (now scope) ⌝ }
-    ensures { λ r. ⌜ (r ≤ 1) × (arity ≤ 3 → r ≡ codeOf (findIf (repeated (take arity (now (scope .entry)))) dialect)) ⌝ }
+    ensures { λ r. ⌜ (r ≤ 1)
+        × (arity ≤ 3 → r ≡ codeOf (findIf (repeated (take arity (now (scope .entry)))) dialect)) ⌝ }
 {
     if 3 < arity {
         return 0;

@@ -54,7 +54,7 @@ head-fine ws h =
 
 -- ## as it is read
 
-pub name-passed : (s : List ℕ) → networkFinding (wordsOf s) ≡ fine → (r : DW.Word) → WordSays s 0 r
+name-passed : (s : List ℕ) → networkFinding (wordsOf s) ≡ fine → (r : DW.Word) → WordSays s 0 r
     → Passed s 0 1 (r .end)
 unfolding networkFinding
 name-passed s h r says =

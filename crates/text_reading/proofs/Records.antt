@@ -24,7 +24,7 @@ use Rattle.text_reading.specs.declared.Domains as DD
 use Rattle.text_reading.proofs.Heads.{functions-fine, head-fine}
 
 -- what is written from the start fills the buffer's front
-pub written-over : {form out out′ : List ℕ} {m : ℕ} → Written 0 form out out′ m → length form ≤ length out
+written-over : {form out out′ : List ℕ} {m : ℕ} → Written 0 form out out′ m → length form ≤ length out
     → out′ ≡ over form out
 unfolding over
 written-over {form} {out} {out′} {m} w h =

@@ -53,7 +53,7 @@ module _ {s : List ℕ} {at : ℕ} {ds : List ℕ} {f : DF.Function} {to : ℕ} 
   unfolding functionTable
   costs-same = rw (says .count, says .sizes, says .rest, says .size, says .default)
 
-  pub table-bytes : tableBytes (functionTable ds ws)
+  table-bytes : tableBytes (functionTable ds ws)
       ≡ tableHead (f .scope) ++ wordBytes (withTuples (f .count) es (wordsAt s (f .end)) defaults)
   unfolding tableBytes functionTable
   table-bytes =

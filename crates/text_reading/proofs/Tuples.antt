@@ -34,7 +34,7 @@ one-behind k w ws =
 none-behind : (w : ℕ) (ws : Words) → ws ≡ drop (0 * w) ws
 none-behind w ws = ap (λ (n : ℕ). drop n ws) (sym (zero-mul w))
 
-pub item-fine : (n k : ℕ) (f : Words → Finding) (w : ℕ) (ws : Words) → runs n f w ws ≡ fine → k < n
+item-fine : (n k : ℕ) (f : Words → Finding) (w : ℕ) (ws : Words) → runs n f w ws ≡ fine → k < n
     → f (drop (k * w) ws) ≡ fine
 unfolding runs
 item-fine zero k f w ws h l = absurd (omega arith)

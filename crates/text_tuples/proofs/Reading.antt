@@ -11,11 +11,12 @@ use Rattle.model.specs.Basics.{All}
 use Rattle.model.specs.Problems.{DomainSize}
 use Rattle.text_words.specs.Reads.{wordsAt, NumberSays, capEnd}
 use Rattle.text_words.specs.declared.Number as DN
-use Rattle.text_networks.specs.Findings.{Words, fine, valueAt, valuesIn}
-use Rattle.text_networks.specs.Networks.{tupleFinding, indexFrom}
+use Rattle.text_networks.specs.Findings.{Words, valueAt, valuesIn}
+use Rattle.text_networks.specs.Networks.{indexFrom}
 use Rattle.text_networks.proofs.Lists.{drop-one}
 use Rattle.text_networks.proofs.Entries.{product, Values, index-below}
 use Rattle.text_networks.proofs.FineWords.{tuple-fine}
+use Rattle.text_tuples.specs.Entries.{TupleAt, EntrySays}
 
 -- ## sizes
 
@@ -55,24 +56,23 @@ pub record Left (s ds : List ℕ) (index end whole : ℕ) (behind : Words) : Typ
   pub room : whole < 512
   pub rest : drop (length ds) (wordsAt s end) ≡ behind
 
-pub left-all : (s : List ℕ) (at arity : ℕ) (sizes : List ℕ) → length sizes ≡ 3 → at ≤ length s → arity ≤ 3
-    → All DomainSize (take arity sizes) → tupleFinding (take arity sizes) (wordsAt s at) ≡ fine
+pub left-all : (s : List ℕ) (at arity : ℕ) (sizes : List ℕ) → length sizes ≡ 3 → TupleAt s at arity sizes
     → let ws = wordsAt s at in
     Left s (take arity sizes) 0 at (indexFrom 0 (take arity sizes) (valuesIn arity ws)) (drop arity ws)
-left-all s at arity sizes e h few small right =
+left-all s at arity sizes e h =
     let ds = take arity sizes in
     let ws = wordsAt s at in
-    let long : length ds ≡ arity = length-take-le arity sizes (omega arith) in
-    let values = tuple-fine ds ws right .0 in
+    let long : length ds ≡ arity = length-take-le arity sizes (omega (arith, h .few)) in
+    let values = tuple-fine ds ws (h .right) .0 in
     record {
-      within = h;
-      small = small;
+      within = h .within;
+      small = h .small;
       values = values;
       sum = rw long;
       room = omega (
         arith,
         index-below ds (valuesIn (length ds) ws) values,
-        product-few ds small (omega arith),
+        product-few ds (h .small) (omega (arith, h .few)),
         ap (λ (n : ℕ). indexFrom 0 ds (valuesIn n ws)) long,
       );
       rest = rw long;
@@ -91,16 +91,21 @@ left-due {s} {index} {end} {whole} {behind} arity i sizes e few h l =
     subst (λ (es : List ℕ). Left s es index end whole behind) first l
 
 -- none is left
-pub left-none : {s : List ℕ} {index end whole : ℕ} {behind : Words} (arity i : ℕ) (sizes : List ℕ) → length sizes ≡ 3
-    → arity ≤ 3 → arity ≤ i → Left s (drop i (take arity sizes)) index end whole behind
-    → (index ≡ whole) × (index < 512) × (end ≤ length s) × (wordsAt s end ≡ behind)
+pub left-none : (s : List ℕ) (at index end arity i : ℕ) (sizes : List ℕ) → length sizes ≡ 3 → arity ≤ 3 → arity ≤ i
+    → let ws = wordsAt s at in
+    let whole = indexFrom 0 (take arity sizes) (valuesIn arity ws) in
+    Left s (drop i (take arity sizes)) index end whole (drop arity ws)
+    → EntrySays s at arity sizes (record { index = index; end = end })
 unfolding indexFrom
-left-none {s} {index} {end} {whole} {behind} arity i sizes e few h l =
+left-none s at index end arity i sizes e few h l =
     let ds = take arity sizes in
     let long : length ds ≡ arity = length-take-le arity sizes (omega arith) in
     let none : drop i ds ≡ [] = drop-of-length-le ds {i = i} (omega arith) in
-    let m : Left s [] index end whole behind = subst (λ (es : List ℕ). Left s es index end whole behind) none l in
-    (m .sum, omega (arith, m .sum, m .room), m .within, m .rest)
+    let ws = wordsAt s at in
+    let whole = indexFrom 0 ds (valuesIn arity ws) in
+    let m : Left s [] index end whole (drop arity ws) =
+    subst (λ (es : List ℕ). Left s es index end whole (drop arity ws)) none l in
+    record { index = m .sum; below = omega (arith, m .sum, m .room); within = m .within; rest = m .rest }
 
 module _ {s : List ℕ} {d : ℕ} {ds : List ℕ} {index end whole : ℕ} {behind : Words}
     (l : Left s (d ∷ ds) index end whole behind) where
@@ -111,7 +116,7 @@ module _ {s : List ℕ} {d : ℕ} {ds : List ℕ} {index end whole : ℕ} {behin
   fits = omega (arith, low, l .room, mul-le-mul-left index (l .small .0 .1))
 
   module _ (r : DN.Number) (says : NumberSays s end r) where
-    pub value-small : r .value ≡ valueAt 0 (wordsAt s end)
+    value-small : r .value ≡ valueAt 0 (wordsAt s end)
     unfolding valuesIn
     value-small = exact s end r says (omega (arith, l .values .0, l .small .0 .1))
 

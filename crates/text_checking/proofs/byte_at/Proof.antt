@@ -12,7 +12,8 @@ use Rattle.text_checking.proofs.byte_at.Tie as tie
 cast-result : tie.Need-cast-result
 cast-result c =
     let start = c .before .before in
-    omega (arith, all-below DomainSize (now (start .args .entries)) (start .pre) (start .args .i) 0 (c .before .if1 .taken))
+    let inside = c .before .if1 .taken in
+    omega (arith, all-below DomainSize (now (start .args .entries)) (start .pre) (start .args .i) 0 inside)
 
 returns-2 : tie.Need-returns-2
 returns-2 c = sym (List·getD-eq-default (now (c .before .args .entries)) 0 (c .if1 .left))

@@ -21,9 +21,10 @@ returns c =
     let sized = sum .before .before .before in
     let bare = sized .before .before in
     let start = bare .before .before .before .before in
-    body-decided (start .pre .0) (start .pre .1) (omega (arith, start .good .0 .0)) (sized .check-sizes .last .1 .1 .1 .1 .0)
-    _ (bare .bare .ensures .1 ∙ start .pre .0 .largest (start .pre .1)) (sized .check-sizes .result)
-    (sized .check-sizes .ensures) (sum .and-then .result) (sum .and-then .ensures) (c .if1 .taken)
+    body-decided (start .pre .0) (start .pre .1) (omega (arith, start .good .0 .0))
+    (sized .check-sizes .last .1 .1 .1 .1 .0) _ (bare .bare .ensures .1 ∙ start .pre .0 .largest (start .pre .1))
+    (sized .check-sizes .result) (sized .check-sizes .ensures) (sum .and-then .result)
+    (sum .and-then .ensures) (c .if1 .taken)
 
 returns-2 : tie.Need-returns-2
 returns-2 c =
@@ -32,10 +33,10 @@ returns-2 c =
     let sized = sum .before .before .before in
     let bare = sized .before .before in
     let start = bare .before .before .before .before in
-    body-unmet (start .pre .0) (start .pre .1) (omega (arith, start .good .0 .0)) (sized .check-sizes .last .1 .1 .1 .1 .0)
-    _ (bare .bare .ensures .1 ∙ start .pre .0 .largest (start .pre .1)) (sized .check-sizes .result)
-    (sized .check-sizes .ensures) (sum .and-then .result) (sum .and-then .ensures) (light .if1 .left)
-    (not-true _ (c .if2 .taken))
+    body-unmet (start .pre .0) (start .pre .1) (omega (arith, start .good .0 .0))
+    (sized .check-sizes .last .1 .1 .1 .1 .0) _ (bare .bare .ensures .1 ∙ start .pre .0 .largest (start .pre .1))
+    (sized .check-sizes .result) (sized .check-sizes .ensures) (sum .and-then .result)
+    (sum .and-then .ensures) (light .if1 .left) (not-true _ (c .if2 .taken))
 
 check-functions-requires : tie.Need-check-functions-requires
 check-functions-requires c κs =
@@ -67,11 +68,11 @@ returns-3 c =
     let sized = sum .before .before .before in
     let bare = sized .before .before in
     let start = bare .before .before .before .before in
-    body-says (start .pre .0) (start .pre .1) (omega (arith, start .good .0 .0)) (sized .check-sizes .last .1 .1 .1 .1 .0)
-    _ (bare .bare .ensures .1 ∙ start .pre .0 .largest (start .pre .1)) (sized .check-sizes .result)
-    (sized .check-sizes .ensures) (sum .and-then .result) (sum .and-then .ensures) (light .if1 .left)
-    (front .front-bytes .result) (front .front-bytes .ensures) (not-false _ (met .if2 .left)) (c .check-functions .result)
-    (c .check-functions .ensures)
+    body-says (start .pre .0) (start .pre .1) (omega (arith, start .good .0 .0))
+    (sized .check-sizes .last .1 .1 .1 .1 .0) _ (bare .bare .ensures .1 ∙ start .pre .0 .largest (start .pre .1))
+    (sized .check-sizes .result) (sized .check-sizes .ensures) (sum .and-then .result)
+    (sum .and-then .ensures) (light .if1 .left) (front .front-bytes .result) (front .front-bytes .ensures) (not-false _ (met .if2 .left))
+    (c .check-functions .result) (c .check-functions .ensures)
 
 pub check-body-spec : {M : Type 1} → statement M
 check-body-spec =

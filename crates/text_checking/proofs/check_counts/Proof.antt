@@ -1,10 +1,9 @@
 -- `check_counts` meets its contract.
-use mathlib.Core.Path.{_≡_, sym, ap, _∙_}
+use mathlib.Core.Path.{sym, ap, _∙_}
 use mathlib.Core.List.{[]}
-use Prim.Native.Nat.{ℕ, _<_, min}
-use native.Mathlib.Omega.{arith}
+use Prim.Native.Nat.{_<_, min}
 use borrow.Author.Needs.{needs}
-use lib.ListN.{getD, drop}
+use lib.ListN.{getD}
 use lib.Seq.{drop-drop}
 use denote.Ref.{now}
 use Rattle.model.proofs.Lists.{getD-first}

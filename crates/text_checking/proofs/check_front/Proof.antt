@@ -1,7 +1,6 @@
 -- `check_front` meets its contract.
 use borrow.Author.Needs.{needs}
 use native.Mathlib.Omega.{arith}
-use mathlib.Core.Path.{_≡_, _∙_}
 use denote.Ref.{now}
 use Rattle.text_checking.proofs.Fronts.{front-says}
 use Rattle.text_checking.proofs.check_front.Statement.{statement}

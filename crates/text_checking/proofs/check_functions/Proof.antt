@@ -1,9 +1,6 @@
 -- `check_functions` meets its contract. The invariant: what is found of the functions that are read does not decide.
-use mathlib.Core.Path.{_≡_, sym, _∙_}
-use mathlib.Core.List.{List, [], _∷_}
-use Prim.Native.Nat.{ℕ, _-_, _≤_, _<_}
+use Prim.Native.Nat.{_-_, _<_}
 use native.Mathlib.Omega.{arith}
-use borrow.Author.Needs.{needs}
 use denote.Ref.{now}
 use Rattle.text_checking.proofs.FunctionRuns.{FunctionsRead, functions-begin, functions-stop, functions-on}
 use Rattle.text_checking.proofs.FunctionRuns.{functions-more, functions-done}
@@ -21,8 +18,8 @@ loop-holds : tie.Need-loop-holds Inv-loop μ-loop
 loop-holds c =
     let start = c .before .before in
     let a = start .args in
-    functions-begin (now (a .s)) (a .declared) (a .count) (a .front) (a .start .finding) (a .start .next) (start .pre .0)
-    (start .pre .2)
+    functions-begin (now (a .s)) (a .declared) (a .count) (a .front) (a .start .finding) (a .start .next)
+    (start .pre .0) (start .pre .2)
 
 check-function-requires : tie.Need-check-function-requires Inv-loop μ-loop
 check-function-requires c κs =
@@ -59,7 +56,8 @@ returns-2 c =
     let a = left .before .before .before .before .args in
     let some : word .result .start < word .result .end = omega (arith, word .ensures .ordered, c .if2 .taken) in
     let says = functions-more (now (a .s)) (a .declared) (a .count) (a .front) (a .start .finding) (a .start .next)
-    (w .i) (w .finding) (w .next) (w .bytes) (w .inv) (left .loop-test .left) _ _ (word .ensures .some some) (w .bytes) in
+    (w .i) (w .finding) (w .next) (w .bytes) (w .inv) (left .loop-test .left) _ _ (word .ensures .some some)
+    (w .bytes) in
     record { finding = says .finding; bytes = says .bytes }
 
 returns-3 : tie.Need-returns-3 Inv-loop μ-loop

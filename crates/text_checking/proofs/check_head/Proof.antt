@@ -1,12 +1,7 @@
 -- `check_head` meets its contract.
-use mathlib.Core.Path.{_≡_, sym, ap, ap₂, _∙_}
-use mathlib.Core.List.{List, []}
-use Prim.Native.Nat.{ℕ, _≤_, _<_, min}
-use native.Mathlib.Omega.{arith}
+use mathlib.Core.Path.{_∙_}
 use borrow.Author.Needs.{needs}
-use lib.ListN.{getD, drop}
 use denote.Ref.{now}
-use Rattle.text_words.specs.Reads.{wordsAt}
 use Rattle.text_checking.proofs.Fields.{variables-code, largest-code, functions-code, cost-code}
 use Rattle.text_checking.proofs.Heads.{head-says}
 use Rattle.text_checking.proofs.check_head.Statement.{statement}

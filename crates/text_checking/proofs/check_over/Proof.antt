@@ -1,7 +1,7 @@
 -- `check_over` meets its contract: it is decided before the tuples, or the tuples follow.
-use mathlib.Core.Path.{_≡_, sym, ap, _∙_}
+use mathlib.Core.Path.{_≡_, sym, _∙_}
 use mathlib.Core.List.{List}
-use Prim.Native.Nat.{ℕ, _≤_, _<_, min}
+use Prim.Native.Nat.{ℕ, min}
 use native.Mathlib.Omega.{arith}
 use borrow.Author.Needs.{needs}
 use lib.ListN.{length, take, length-take}
@@ -50,7 +50,8 @@ sizes : (c : tie.After-far-of)
     let near = entries .before .before in
     let a = near .before .before .before .before .before .before .before .before .before .before .args in
     let s = now (a .s) in
-    scopeSizes s (take (near .shorter .result) (entries .to-entries .last .1 .1 .1 .0)) (c .far-of .result) (a .declared)
+    scopeSizes s (take (near .shorter .result) (entries .to-entries .last .1 .1 .1 .0)) (c .far-of .result)
+    (a .declared)
     ≡ sizesOver (domainsAt s (a .declared)) (valuesIn (a .arity) (wordsAt s (a .start .next)))
 sizes c =
     let entries = c .before .before .before in
@@ -98,8 +99,8 @@ returns-2 c =
     let start = front .before .before .before .before .before in
     let a = start .args in
     over-says (now (a .s)) (a .start) (a .arity) (a .declared) (front .check-front .last .1 .1 .1 .1 .0)
-    (front .check-front .result) (front .check-front .ensures) (omega (arith, start .good .0 .0)) (light .if1 .left) _ (sizes far)
-    (c .check-table .result) (c .check-table .ensures)
+    (front .check-front .result) (front .check-front .ensures) (omega (arith, start .good .0 .0)) (light .if1 .left)
+    _ (sizes far) (c .check-table .result) (c .check-table .ensures)
 
 pub check-over-spec : {M : Type 1} → statement M
 check-over-spec =

@@ -1,6 +1,6 @@
 -- `check_scope` meets its contract. The invariant: nothing is found of `i` variables, and the first stand in the scope.
 use mathlib.Core.Path.{_≡_, refl, ap, _∙_}
-use Prim.Native.Nat.{ℕ, _-_, _≤_, _<_}
+use Prim.Native.Nat.{ℕ, _-_}
 use native.Mathlib.Omega.{arith}
 use native.Mathlib.Nat.{mul-one}
 use borrow.Author.Needs.{needs}

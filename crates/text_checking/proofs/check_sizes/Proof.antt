@@ -1,6 +1,6 @@
 -- `check_sizes` meets its contract. The invariant: what is found of the sizes that are read does not decide.
-use mathlib.Core.Path.{_≡_, refl, sym, ap, _∙_}
-use Prim.Native.Nat.{ℕ, _-_, _≤_, _<_}
+use mathlib.Core.Path.{_≡_, refl, ap, _∙_}
+use Prim.Native.Nat.{_-_, _<_}
 use native.Mathlib.Omega.{arith}
 use native.Mathlib.Nat.{mul-one}
 use borrow.Author.Needs.{needs}
@@ -39,6 +39,9 @@ loop-holds c =
       λ k h. absurd (omega arith),
       refl,
     )
+
+check-size-requires : tie.Need-check-size-requires Inv-loop μ-loop
+check-size-requires c κs = (c .before .loop .inv .0 .within, c .before .before .before .before .before .pre .1)
 
 returns : tie.Need-returns Inv-loop μ-loop
 returns c =
@@ -98,7 +101,7 @@ check-sizes-spec =
     Inv-loop
     μ-loop
     loop-holds
-    (λ c κs. (c .before .loop .inv .0 .within, c .before .before .before .before .before .pre .1))  -- check-size-requires
+    check-size-requires
     (λ c κs. search needs)  -- and-then-requires
     (λ c. c .before .before .before .before .loop .inv .3)  -- same-length
     returns

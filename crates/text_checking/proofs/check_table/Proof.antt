@@ -1,9 +1,8 @@
 -- `check_table` meets its contract: something is found, or a tuple is given twice, or neither.
-use mathlib.Core.Path.{_≡_, sym, ap, subst, _∙_}
+use mathlib.Core.Path.{_≡_, sym, subst, _∙_}
 use mathlib.Core.Bool.{true, false}
 use mathlib.Core.List.{List}
 use Prim.Native.Nat.{ℕ, suc}
-use native.Mathlib.Omega.{arith}
 use borrow.Author.Needs.{needs}
 use lib.ListN.{length}
 use denote.Ref.{now}
@@ -78,8 +77,8 @@ returns-2 c =
     let a = read .before .before .before .before .args in
     let bytes = sized .before .record-bytes in
     table-fine (now (a .s)) (a .start) (now (a .entries)) (a .far) (a .declared) (read .check-tuples .result)
-    (read .check-tuples .ensures) (none left) true (sym (c .if2 .taken) ∙ c .before .tuples-repeat .ensures) (plain left)
-    (bytes .result) (bytes .ensures .0) (bytes .ensures .1)
+    (read .check-tuples .ensures) (none left) true (sym (c .if2 .taken) ∙ c .before .tuples-repeat .ensures)
+    (plain left) (bytes .result) (bytes .ensures .0) (bytes .ensures .1)
 
 returns-3 : tie.Need-returns-3
 returns-3 c =
@@ -89,8 +88,8 @@ returns-3 c =
     let a = read .before .before .before .before .args in
     let bytes = sized .before .record-bytes in
     table-fine (now (a .s)) (a .start) (now (a .entries)) (a .far) (a .declared) (read .check-tuples .result)
-    (read .check-tuples .ensures) (none left) false (sym (c .if2 .left) ∙ c .before .tuples-repeat .ensures) (plain left)
-    (bytes .result) (bytes .ensures .0) (bytes .ensures .1)
+    (read .check-tuples .ensures) (none left) false (sym (c .if2 .left) ∙ c .before .tuples-repeat .ensures)
+    (plain left) (bytes .result) (bytes .ensures .0) (bytes .ensures .1)
 
 pub check-table-spec : {M : Type 1} → statement M
 check-table-spec =

@@ -7,9 +7,6 @@ use borrow.Author.Needs.{needs}
 use lib.ListN.{length, drop, length-map}
 use denote.Ref.{now}
 use Rattle.text_words.specs.Reads.{wordsAt}
-use Rattle.text_networks.specs.Findings.{termAt}
-use Rattle.text_networks.specs.Networks.{costFinding}
-use Rattle.text_checking.specs.Codes.{codeOf, both}
 use Rattle.text_checking.specs.Sizes.{sizeHeld, sizesHeld, scopeSizes}
 use Rattle.text_checking.proofs.Checks.{as-wide, as-found, stops, then}
 use Rattle.text_checking.proofs.Scopes.{far-count}
@@ -69,7 +66,8 @@ returns-3 c =
     let last : wordsAt s (more .check-far .result .next)
     ≡ drop (length ys) (wordsAt s (checked .check-values .result .next)) =
     more .check-far .ensures .words (omega (arith, c .before .if2 .left))
-    ∙ ap (λ (n : ℕ). drop n (wordsAt s (checked .check-values .result .next))) (sym (far-count s (a .far) (a .declared))) in
+    ∙ ap (λ (n : ℕ). drop n (wordsAt s (checked .check-values .result .next)))
+    (sym (far-count s (a .far) (a .declared))) in
     as-wide (omega arith)
     (as-found (tuple-code xs ys ws (wordsAt s (checked .check-values .result .next)) _ (behind none) last)
     (then (checked .check-values .ensures) (none .if1 .left)

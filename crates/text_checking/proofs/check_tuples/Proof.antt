@@ -1,6 +1,5 @@
 -- `check_tuples` meets its contract. The invariant: what is found of the tuples that are read does not decide.
-use mathlib.Core.Path.{_≡_, sym, ap, _∙_}
-use Prim.Native.Nat.{ℕ, suc, _+_, _-_, _*_}
+use Prim.Native.Nat.{suc, _+_, _-_, _*_}
 use native.Mathlib.Omega.{arith}
 use borrow.Author.Needs.{needs}
 use lib.ListN.{length}
@@ -13,7 +12,8 @@ use Rattle.text_checking.proofs.check_tuples.Tie as tie
 
 abbrev Inv-loop : tie.InvT-loop
 Inv-loop s at count entries far declared index finding₀ next₀ i₀ finding next i =
-    RunRead s (tupleFinding (scopeSizes s entries far declared)) (suc (length entries + far .count)) count at i finding next
+    RunRead s (tupleFinding (scopeSizes s entries far declared)) (suc (length entries + far .count)) count at i
+    finding next
 
 abbrev μ-loop : tie.MeasureT-loop
 μ-loop s at count entries far declared index finding₀ next₀ i₀ finding next i = count - i

@@ -1,8 +1,7 @@
 -- `check_values` meets its contract. The invariant: nothing is found of the values that are read.
-use mathlib.Core.Path.{_≡_, sym, ap, subst, _∙_}
+use mathlib.Core.Path.{_≡_, sym, subst}
 use Prim.Native.Nat.{ℕ, _-_}
 use native.Mathlib.Omega.{arith}
-use borrow.Author.Needs.{needs}
 use lib.ListN.{length, getD, length-map}
 use denote.Ref.{now}
 use Rattle.text_words.specs.Reads.{wordsAt}
@@ -41,8 +40,9 @@ one : (c : tie.After-check-value Inv-loop μ-loop)
     → let a = c .before .before .before .before .before .before .args in
     let w = c .before .before .before .loop in
     let s = now (a .s) in
-    Checked s (codeOf (declaredFinding (getD (sizesHeld s (now (a .entries))) (w .i) 0) (termAt 0 (wordsAt s (w .next)))))
-    1 (w .next) (c .check-value .result)
+    Checked s
+    (codeOf (declaredFinding (getD (sizesHeld s (now (a .entries))) (w .i) 0) (termAt 0 (wordsAt s (w .next))))) 1
+    (w .next) (c .check-value .result)
 one c =
     let a = c .before .before .before .before .before .before .args in
     let w = c .before .before .before .loop in

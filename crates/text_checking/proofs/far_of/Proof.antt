@@ -1,8 +1,7 @@
 -- `far_of` meets its contract.
-use mathlib.Core.Path.{_≡_, refl, ap, _∙_}
+use mathlib.Core.Path.{refl, ap}
 use Prim.Native.Nat.{_-_}
 use borrow.Author.Needs.{needs}
-use denote.Ref.{now}
 use Rattle.text_networks.specs.Findings.{Words, valuesIn}
 use Rattle.text_checking.proofs.far_of.Statement.{statement}
 use Rattle.text_checking.proofs.far_of.Tie as tie

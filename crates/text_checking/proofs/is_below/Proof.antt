@@ -1,14 +1,14 @@
 -- `is_below` meets its contract: one law for each return.
-use mathlib.Core.Path.{_≡_, sym, ap, _∙_}
+use mathlib.Core.Path.{ap, _∙_}
 use Prim.Native.Nat.{ℕ, _-_}
-use native.Mathlib.Omega.{arith}
 use borrow.Author.Needs.{needs}
 use lib.Dec.{ltb}
 use denote.Ref.{now}
 use Rattle.text_words.specs.Texts.{valueFrom}
 use Rattle.text_words.specs.Reads.{numeral}
 use Rattle.text_checking.specs.Sizes.{half}
-use Rattle.text_checking.proofs.Entries.{below-small, below-half, below-none, below-large, none-behind, none-value}
+use Rattle.text_checking.proofs.Entries.{below-small, below-half, below-none, below-large, none-behind}
+use Rattle.text_checking.proofs.Entries.{none-value}
 use Rattle.text_checking.proofs.is_below.Statement.{statement}
 use Rattle.text_checking.proofs.is_below.Tie as tie
 

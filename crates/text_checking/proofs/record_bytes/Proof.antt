@@ -1,9 +1,8 @@
 -- `record_bytes` meets its contract.
-use mathlib.Core.Path.{_≡_, sym, ap, _∙_}
-use Prim.Native.Nat.{ℕ, _*_, _≤_}
+use mathlib.Core.Path.{_≡_, _∙_}
+use Prim.Native.Nat.{_*_, _≤_}
 use native.Mathlib.Omega.{arith}
 use borrow.Author.Needs.{needs}
-use lib.ListN.{length}
 use denote.Ref.{now}
 use Rattle.text_networks.proofs.Entries.{product}
 use Rattle.text_checking.proofs.Tables.{three-product, three-small}
@@ -14,7 +13,8 @@ few : (c : tie.After-factor3)
     → let b = c .before .factor2 .result in
     let d = c .factor3 .result in
     (b * d ≤ 64) × (c .before .before .factor .result * (b * d) ≤ 512)
-few c = three-small _ _ _ (c .before .before .factor .ensures .1) (c .before .factor2 .ensures .1) (c .factor3 .ensures .1)
+few c =
+    three-small _ _ _ (c .before .before .factor .ensures .1) (c .before .factor2 .ensures .1) (c .factor3 .ensures .1)
 
 returns : tie.Need-returns
 returns c =

@@ -1,5 +1,4 @@
 -- `twice_code` meets its contract.
-use mathlib.Core.Path.{_≡_, sym, ap, _∙_}
 use native.Mathlib.Omega.{arith}
 use borrow.Author.Needs.{needs}
 use Rattle.text_checking.specs.Codes.{codeOf}

@@ -28,10 +28,7 @@ loop-holds : tie.Need-loop-holds Inv-loop μ-loop
 loop-holds c =
     let start = c .before in
     let a = start .args in
-    let p = start .pre in (
-      omega arith,
-      left-all (now (a .s)) (a .at) (a .arity) (a .t4) (three start) (p .within) (p .few) (p .small) (p .right),
-    )
+    (omega arith, left-all (now (a .s)) (a .at) (a .arity) (a .t4) (three start) (start .pre))
 
 -- in the loop: the value that is due
 ahead : (c : tie.In-loop Inv-loop μ-loop)
@@ -62,9 +59,8 @@ returns c =
     let start = c .before .before .before in
     let w = c .before .loop in
     let a = start .args in
-    let (index, below, within, rest) =
-    left-none (a .arity) (w .i) (a .t4) (three start) (start .pre .few) (omega arith) (w .inv .1) in
-    record { index = index; below = below; within = within; rest = rest }
+    left-none (now (a .s)) (a .at) (w .index) (w .end) (a .arity) (w .i) (a .t4) (three start) (start .pre .few)
+    (omega arith) (w .inv .1)
 
 pub tuple-index-spec : {M : Type 1} → statement M
 tuple-index-spec =
