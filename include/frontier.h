@@ -1,8 +1,9 @@
 /* The variant chooser's version, limits, numbers of refusal and calls, for C99, C++11 and later. Link libfrontier.a; it
- * needs nothing but the C library. There are five calls: frontier_solve lists the frontier of a problem; frontier_cut
+ * needs nothing but the C library. There are six calls: frontier_solve lists the frontier of a problem; frontier_cut
  * lists it by way of two halves of the problem; frontier_bound bounds what a partial choice leads to; frontier_points
- * lists the frontier into point records; frontier_to_text writes a problem as WCSP text, which other solvers read. What
- * a later version may change is in docs/INTERFACE.md; calls for measurements are in frontier_measure.h.
+ * lists the frontier into point records; frontier_to_text writes a problem as WCSP text, which other solvers read;
+ * frontier_from_text makes a problem of such a text. What a later version may change is in docs/INTERFACE.md; calls for
+ * measurements are in frontier_measure.h.
  *
  * A problem is a string of bytes. Numbers in it are unsigned and little-endian, at any address, with nothing between
  * them. It is made of records, each of which starts with a mark of two letters:
@@ -77,9 +78,9 @@
 #define FRONTIER_REFUSED_LINKED 14    /* a record's scope has both sides */
 #define FRONTIER_REFUSED_FULL 15      /* more points than room; in the cut call also a half's frontier above 64 */
 #define FRONTIER_REFUSED_PREFIX 16    /* prefix longer than n, or a value not in its domain */
-#define FRONTIER_REFUSED_TEXT 17      /* not WCSP text; no call of this version returns it */
-#define FRONTIER_REFUSED_DIALECT 18   /* WCSP text cannot say it: p above 1 */
-#define FRONTIER_REFUSED_OUTPUT 19    /* text buffer shorter than the text */
+#define FRONTIER_REFUSED_TEXT 17      /* not WCSP text, a false largest domain, an undeclared variable or value */
+#define FRONTIER_REFUSED_DIALECT 18   /* p above 1; of a text: outside the limits, negative, too large, given twice */
+#define FRONTIER_REFUSED_OUTPUT 19    /* the buffer is shorter than the text, or the problem, that it is for */
 
 /* The word for what a call returned, in letters and spaces; "unknown" for a number that this version does not name. The
  * string is constant and not null. */
@@ -282,6 +283,53 @@ uint8_t frontier_points(const uint8_t *problem, size_t problem_len, struct front
  *   another number         unchanged */
 uint8_t frontier_to_text(const uint8_t *problem, size_t problem_len, uint8_t *text, size_t text_len, uint32_t *place,
                          uint32_t *count);
+
+/* Makes a problem with one objective of WCSP text, the format of toulbar2, in the buffer that it is lent.
+ *
+ *   pointer  valid for                         null  may overlap
+ *   text     text_len bytes, read              no    nothing
+ *   problem  problem_len bytes, written        no    nothing
+ *   place    one number, written               no    nothing
+ *   count    one number, written               no    nothing
+ *
+ * A text is made of words with white space (bytes 9 to 13, and 32) between them, of any length and in any layout. The
+ * first word is a name. All others are decimal numbers, of any length, with zeros in front or none, and with or without
+ * a sign; -0 is 0. They are the number of variables, the largest domain size, the number of functions and the upper
+ * bound; the domain size of each variable; and each function: its arity, its scope, its default cost, the number of its
+ * tuples, and for each tuple the value of each variable of the scope, and a cost. Behind the last function nothing
+ * follows. A function of arity 0 has no tuples.
+ *
+ * The problem has one objective, with the upper bound as its ceiling. Each function becomes a cost record, in their
+ * order and with its scope as the function names it. An entry is the cost of its tuple, or the default where none is
+ * given. Every choice costs by the problem what it costs by the text.
+ *
+ * A problem has at most FRONTIER_MAX_BYTES bytes, which so do for every text. Nothing in the answer depends on what the
+ * buffer held before.
+ *
+ * The number of refusal is the result: 0 for none, then
+ *
+ *   FRONTIER_REFUSED_TEXT     the text is not in the format: a word is missing, is no number or stands behind the last
+ *                             function; the largest domain size is not the one that is stated; a variable or a value is
+ *                             not declared; a number of variables or functions, the largest domain size, a variable or
+ *                             a value is negative; or a function of arity 0 has tuples
+ *   FRONTIER_REFUSED_DIALECT  an arity, domain size, cost, upper bound or number of tuples is negative; a cost or the
+ *                             upper bound is above 4294967295; a tuple is given twice in its function, or a variable in
+ *                             its scope; or the problem would be outside the limits, which are also those of its bytes
+ *   FRONTIER_REFUSED_OUTPUT   problem_len is less than the problem has bytes
+ *
+ * The first that holds is told, wherever in the text it stands. But what stands behind the first negative arity, domain
+ * size, cost, upper bound or number of tuples is not read, so that nothing there is told. *place becomes 0; *count
+ * becomes how many bytes the problem has, and 0 after a refusal. Both are always written, whatever they held. What the
+ * buffer holds afterwards:
+ *
+ *   result                 problem
+ *   FRONTIER_ACCEPTED      the first *count bytes are the problem, the rest is unchanged
+ *   another number         unchanged
+ *
+ * The time it takes grows with the length of the text, also where it is refused. The call takes at most about 600 KB of
+ * stack, and that much only for a text with more than FRONTIER_MAX_VARIABLES variables. */
+uint8_t frontier_from_text(const uint8_t *text, size_t text_len, uint8_t *problem, size_t problem_len, uint32_t *place,
+                           uint32_t *count);
 
 #ifdef __cplusplus
 }

@@ -93,7 +93,19 @@ extern "C" {
         place: *mut u32,
         count: *mut u32,
     ) -> u8;
+
+    pub fn frontier_from_text(
+        text: *const u8,
+        text_len: usize,
+        problem: *mut u8,
+        problem_len: usize,
+        place: *mut u32,
+        count: *mut u32,
+    ) -> u8;
 }
+
+/// What a call is to the linker that makes one form of a problem of another.
+pub type Convert = unsafe extern "C" fn(*const u8, usize, *mut u8, usize, *mut u32, *mut u32) -> u8;
 
 /// What the plain call is to the linker, by either form of the search.
 pub type Solve = unsafe extern "C" fn(

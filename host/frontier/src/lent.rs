@@ -3,26 +3,26 @@
 //! [`refusal`](crate::refusal), 0 is none.
 
 use crate::ffi::{frontier_bound, frontier_cut, frontier_points, frontier_solve};
-use crate::ffi::{frontier_to_text, Solve};
+use crate::ffi::{frontier_from_text, frontier_to_text, Convert, Solve};
 use crate::limits::{MAX_OBJECTIVES, MAX_VARIABLES};
 use crate::refusal::Refusal;
 
 pub use crate::buffers::{Buffers, CutCall, SolveCall};
 
-/// What a call answers: number 0 and the count of points (of bytes, from the call that writes text),
-/// or a refusal with count 0.
+/// What a call answers: number 0 and the count of points (of bytes, from the calls that convert), or a
+/// refusal with count 0.
 #[derive(Clone, Copy, Debug, PartialEq, Eq)]
 pub struct Answer {
     /// The number of refusal, or 0.
     pub number: u8,
     /// The place of the refusal; 0 where it has none.
     pub place: u32,
-    /// How many points are listed, or how many bytes of text are written.
+    /// How many points are listed, or how many bytes of a text or a problem are written.
     pub count: u32,
 }
 
 impl Answer {
-    /// An accepted problem with this many points, or bytes of text.
+    /// An accepted problem with this many points, or an accepted form of this many bytes.
     pub fn accepted(count: usize) -> Answer {
         Answer {
             number: 0,
@@ -316,30 +316,52 @@ pub fn list_points(problem: &[u8], points: &mut [PointRecord], work: &mut [u32])
     }
 }
 
-/// The call that writes WCSP text as C has it: the number of refusal is the result, and `place` and
-/// `count` are written whatever they held. Callers that only want the answer use [`to_text`].
-pub fn write_text(problem: &[u8], text: &mut [u8], place: &mut u32, count: &mut u32) -> u8 {
+/// Lends a form of a problem to a call that makes another of it, and the buffer for that.
+fn convert(call: Convert, form: &[u8], made: &mut [u8], place: &mut u32, count: &mut u32) -> u8 {
     // SAFETY: as in `write_bound`; the three that are written are exclusive.
     unsafe {
-        frontier_to_text(
-            problem.as_ptr(),
-            problem.len(),
-            text.as_mut_ptr(),
-            text.len(),
+        call(
+            form.as_ptr(),
+            form.len(),
+            made.as_mut_ptr(),
+            made.len(),
             place,
             count,
         )
     }
 }
 
-/// Writes a problem with one objective as WCSP text. [`TEXT_LEN`](crate::limits::TEXT_LEN) bytes do
-/// for every problem.
-pub fn to_text(problem: &[u8], text: &mut [u8]) -> Answer {
+/// What such a call answers.
+fn converted(call: Convert, form: &[u8], made: &mut [u8]) -> Answer {
     let (mut place, mut count) = (0, 0);
-    let number = write_text(problem, text, &mut place, &mut count);
+    let number = convert(call, form, made, &mut place, &mut count);
     Answer {
         number,
         place,
         count,
     }
+}
+
+/// The call that writes WCSP text as C has it: the number of refusal is the result, and `place` and
+/// `count` are written whatever they held. Callers that only want the answer use [`to_text`].
+pub fn write_text(problem: &[u8], text: &mut [u8], place: &mut u32, count: &mut u32) -> u8 {
+    convert(frontier_to_text, problem, text, place, count)
+}
+
+/// Writes a problem with one objective as WCSP text. [`TEXT_LEN`](crate::limits::TEXT_LEN) bytes do
+/// for every problem.
+pub fn to_text(problem: &[u8], text: &mut [u8]) -> Answer {
+    converted(frontier_to_text, problem, text)
+}
+
+/// The call that reads WCSP text as C has it: the number of refusal is the result, and `place` and
+/// `count` are written whatever they held. Callers that only want the answer use [`from_text`].
+pub fn read_text(text: &[u8], problem: &mut [u8], place: &mut u32, count: &mut u32) -> u8 {
+    convert(frontier_from_text, text, problem, place, count)
+}
+
+/// Writes the problem that a WCSP text says. [`MAX_BYTES`](crate::limits::MAX_BYTES) bytes do for every
+/// text.
+pub fn from_text(text: &[u8], problem: &mut [u8]) -> Answer {
+    converted(frontier_from_text, text, problem)
 }

@@ -27,8 +27,8 @@
 //! ```
 //!
 //! [`Chooser`] owns one set of buffers and is used again for problem after problem. [`to_text`] writes
-//! a problem with one objective as text for other solvers. Those who bring their own buffers, as C
-//! programs do, find the calls in [`lent`].
+//! a problem with one objective as text for other solvers, and [`from_text`] reads such a text. Those who
+//! bring their own buffers, as C programs do, find the calls in [`lent`].
 
 #![warn(missing_docs)]
 
@@ -49,4 +49,4 @@ pub use list::{Frontier, Point, Points};
 pub use problem::{Problem, Table, FORBIDDEN};
 pub use refusal::Refusal;
 pub use version::version;
-pub use wcsp::to_text;
+pub use wcsp::{from_text, to_text};

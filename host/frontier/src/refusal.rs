@@ -95,11 +95,13 @@ pub enum Refusal {
     Full,
     /// Number 16: the prefix is longer than n, or has a value not in its domain.
     Prefix,
-    /// Number 17: a text is not in the WCSP format. No call of this version refuses so.
+    /// Number 17: a text is not in the WCSP format, states a false largest domain size, or has a variable
+    /// or a value that is not declared.
     Text,
-    /// Number 18: WCSP text cannot say it, since p is above 1.
+    /// Number 18: the other form cannot have it. A problem has p above 1; or a text has what a problem may
+    /// not have, a negative number, or something twice.
     Dialect,
-    /// Number 19: the text buffer is shorter than the text.
+    /// Number 19: the buffer for the text, or for the problem, is shorter than that.
     Output,
 }
 
@@ -257,9 +259,17 @@ impl Refusal {
                 "the prefix has more values than there are variables, or one outside its domain"
                     .into()
             }
-            Refusal::Text => "the text is not in the WCSP format".into(),
-            Refusal::Dialect => "there is more than one objective, and WCSP text has one".into(),
-            Refusal::Output => "the text buffer is shorter than the text".into(),
+            Refusal::Text => {
+                "the text is not in the WCSP format, states a false largest domain size, or has a \
+                 variable or a value that is not declared"
+                    .into()
+            }
+            Refusal::Dialect => {
+                "WCSP text has one objective, and the problem more; or a problem cannot have what \
+                 the text says: it is outside the limits, negative, too large or given twice"
+                    .into()
+            }
+            Refusal::Output => "the buffer is shorter than what is to be written".into(),
         }
     }
 }

@@ -1,6 +1,6 @@
-//! Problems as WCSP text, the format of toulbar2 and other solvers of weighted constraint problems.
+//! Problems to WCSP text and back: the format of toulbar2 and other solvers of weighted constraint problems.
 
-use crate::lent;
+use crate::lent::{self, Answer};
 use crate::limits::{MAX_BYTES, TEXT_LEN};
 use crate::refusal::{check, Refusal};
 
@@ -25,9 +25,37 @@ use crate::refusal::{check, Refusal};
 pub fn to_text(problem: &[u8]) -> Result<String, Refusal> {
     // As long as a text of so many bytes can be. A problem that is too long is refused anyway.
     let most = problem.len().min(MAX_BYTES) * TEXT_LEN / MAX_BYTES;
-    let mut text = vec![0; most];
-    let answer = lent::to_text(problem, &mut text);
-    check(answer.number, answer.place)?;
-    text.truncate(answer.count as usize);
+    let text = made(lent::to_text, problem, most)?;
     Ok(String::from_utf8(text).expect("the text has digits, spaces, line feeds and a P"))
+}
+
+/// The problem that a WCSP text says, with one objective, in which every choice costs the same. The upper
+/// bound is the ceiling, and functions keep their order. A text that is none is [`Refusal::Text`], and one
+/// that says what a problem cannot have is [`Refusal::Dialect`].
+///
+/// ```
+/// use frontier::{from_text, Problem, Refusal, Table};
+///
+/// // Two variables of two values; equal values cost 5, others the default, which is 1.
+/// let problem = Problem::decode(&from_text(b"same 2 2 1 100  2 2  2 0 1 1 2  0 0 5  1 1 5")?)?;
+/// assert_eq!(problem.ceilings, [100]);
+/// assert_eq!(problem.tables, [Table::new(0, &[0, 1], &[5, 1, 1, 5])]);
+/// assert_eq!(from_text(b"same 2 2"), Err(Refusal::Text));
+/// # Ok::<(), Refusal>(())
+/// ```
+pub fn from_text(text: &[u8]) -> Result<Vec<u8>, Refusal> {
+    made(lent::from_text, text, MAX_BYTES)
+}
+
+/// What a converting call makes of a form, in at most so many bytes.
+fn made(
+    call: fn(&[u8], &mut [u8]) -> Answer,
+    form: &[u8],
+    most: usize,
+) -> Result<Vec<u8>, Refusal> {
+    let mut made = vec![0; most];
+    let answer = call(form, &mut made);
+    check(answer.number, answer.place)?;
+    made.truncate(answer.count as usize);
+    Ok(made)
 }

@@ -4,7 +4,7 @@
 use std::fs;
 
 use chooser::hex::from_hex;
-use frontier::lent::{bound_prefix, list_points, solve_cut, solve_problem, to_text};
+use frontier::lent::{self, bound_prefix, list_points, solve_cut, solve_problem, to_text};
 use frontier::lent::{Buffers, PointRecord};
 use frontier::limits::{
     LEAST_WORK, MAX_ARITY, MAX_BYTES, MAX_DOMAIN, MAX_OBJECTIVES, MAX_POINTS, MAX_TABLES,
@@ -15,6 +15,7 @@ use frontier::Refusal;
 use testing::examples::{colours, lone, pair, three, turned};
 use testing::owned::{cut_by, list_text, list_text_by, listed, Listed};
 use testing::places::root;
+use testing::wcsp;
 
 const REFERENCE: &str = include_str!("../../../docs/REFERENCE.md");
 
@@ -310,5 +311,23 @@ fn cases_end_as_told() {
     for row in rows {
         let told = outcome(row[1], &case_bytes(row[0]));
         assert_eq!(told, row[2], "{}, {}", row[0], row[1]);
+    }
+}
+
+/// The texts that are read, by the library and by the independent converter.
+#[test]
+fn texts_are_read_as_told() {
+    let rows = rows("| Text | Read as |");
+    assert!(rows.len() > 20, "{} texts", rows.len());
+    for row in rows {
+        let text = row[0].replace("; ", "\n");
+        for read in [lent::from_text, wcsp::from_text] {
+            let mut problem = vec![7; MAX_BYTES];
+            let answer = read(text.as_bytes(), &mut problem);
+            match Refusal::new(answer.number, answer.place) {
+                Some(refusal) => assert_eq!(refused(refusal), row[1], "{text}"),
+                None => assert_eq!(problem[..answer.count as usize], bytes_of(row[1]), "{text}"),
+            }
+        }
     }
 }

@@ -105,6 +105,18 @@ static void print_text(const uint8_t *bytes, size_t bytes_len, size_t text_len) 
            (const char *)text);
 }
 
+/* Prints number, place and count, how many bytes past the problem have changed, and whether it is the first above. */
+static void print_read(const char *text, size_t problem_len) {
+    static uint8_t bytes[FRONTIER_MAX_BYTES];
+    uint32_t place = 9, count = 9, changed = 0;
+    memset(bytes, 9, sizeof bytes);
+    uint8_t number = frontier_from_text((const uint8_t *)text, strlen(text), bytes, problem_len, &place, &count);
+    for (size_t i = count; i < sizeof bytes; i++)
+        changed += bytes[i] != 9;
+    int same = count == sizeof problem && !memcmp(bytes, problem, sizeof problem);
+    printf("%u %" PRIu32 " %" PRIu32 " %" PRIu32 " %d\n", (unsigned)number, place, count, changed, same);
+}
+
 int main(void) {
     print_list(sizeof pair, FRONTIER_MAX_POINTS, FRONTIER_LEAST_WORK);
     print_list(sizeof pair, 2, FRONTIER_LEAST_WORK);
@@ -131,5 +143,11 @@ int main(void) {
     print_text(problem, sizeof problem, 49);
     print_text(problem, sizeof problem - 1, FRONTIER_TEXT_LEN);
     print_text(pair, sizeof pair, 0);
+    static const char read[] = "same 2 2 1 9  2 2\r\n2 0 1 +007 3  1 1 4  0 1 5  1 0 259";
+    print_read(read, FRONTIER_MAX_BYTES);
+    print_read(read, sizeof problem);
+    print_read(read, sizeof problem - 1);
+    print_read("same 2 2 1 9  2 2  2 0 1 7 -1", FRONTIER_MAX_BYTES);
+    print_read("same 2 2 1 9  2", 0);
     return 0;
 }

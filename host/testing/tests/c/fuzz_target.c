@@ -23,7 +23,7 @@ static uint8_t *end_of(size_t most) {
     return start + length;
 }
 
-static uint8_t *problem_end, *costs_end, *choices_end, *work_end, *text_end;
+static uint8_t *problem_end, *costs_end, *choices_end, *work_end, *text_end, *read_end;
 
 /* Whether an accepted problem has so few complete choices that it may be searched. */
 static int is_small(const uint8_t *problem) {
@@ -86,27 +86,47 @@ static void list_all(const struct lent *lent) {
         abort();
 }
 
-/* The text call with so many bytes and no byte more; the count. */
-static uint32_t text(const struct lent *lent, size_t text_len) {
-    uint8_t *text = text_end - text_len;
+/* A call that makes one form of a problem of another. */
+typedef uint8_t converting(const uint8_t *form, size_t form_len, uint8_t *made, size_t made_len, uint32_t *place,
+                           uint32_t *count);
+
+/* Such a call with so many bytes, which end there, and no byte more; the count. */
+static uint32_t convert(converting *call, const uint8_t *form, size_t form_len, uint8_t *end, size_t made_len) {
+    uint8_t *made = end - made_len;
     uint32_t place, count;
-    memset(text, 0xa5, text_len);
-    uint8_t number = frontier_to_text(lent->problem, lent->size, text, text_len, &place, &count);
+    memset(made, 0xa5, made_len);
+    uint8_t number = call(form, form_len, made, made_len, &place, &count);
     note(number, place, 0);
-    if (count > text_len || (number && count))
+    if (count > made_len || (number && count))
         abort();
-    for (size_t i = count; i < text_len; i++)
-        if (text[i] != 0xa5)
+    for (size_t i = count; i < made_len; i++)
+        if (made[i] != 0xa5)
             abort();
     return count;
 }
 
-/* The text call with as many bytes as a text of this problem can have, with as many as it has, and with one less. */
+/* Such a call with as many bytes as there may be made, with as many as are, and with one less; the count. */
+static uint32_t convert_all(converting *call, const uint8_t *form, size_t form_len, uint8_t *end, size_t most) {
+    uint32_t count = convert(call, form, form_len, end, most);
+    if (count && convert(call, form, form_len, end, count - 1))
+        abort();
+    if (convert(call, form, form_len, end, count) != count)
+        abort();
+    return count;
+}
+
+/* Both converting calls: the input as a problem, the text of it read back to its bytes, and the input as a text. */
 static void text_all(const struct lent *lent) {
     size_t most = lent->size * FRONTIER_TEXT_LEN / FRONTIER_MAX_BYTES;
-    uint32_t count = text(lent, most < FRONTIER_TEXT_LEN ? most : FRONTIER_TEXT_LEN);
-    if (text(lent, count) != count || (count && text(lent, count - 1)))
-        abort();
+    if (most > FRONTIER_TEXT_LEN)
+        most = FRONTIER_TEXT_LEN;
+    uint32_t count = convert_all(frontier_to_text, lent->problem, lent->size, text_end, most);
+    if (count) {
+        size_t back = convert(frontier_from_text, text_end - count, count, read_end, lent->size);
+        if (back != lent->size || memcmp(read_end - back, lent->problem, back))
+            abort();
+    }
+    convert_all(frontier_from_text, lent->problem, lent->size, read_end, FRONTIER_MAX_BYTES);
 }
 
 int LLVMFuzzerTestOneInput(const uint8_t *data, size_t size) {
@@ -118,6 +138,7 @@ int LLVMFuzzerTestOneInput(const uint8_t *data, size_t size) {
         choices_end = end_of(FRONTIER_MAX_POINTS * FRONTIER_MAX_VARIABLES);
         work_end = end_of(4 * FRONTIER_LEAST_WORK);
         text_end = end_of(FRONTIER_TEXT_LEN);
+        read_end = end_of(FRONTIER_MAX_BYTES);
     }
     uint8_t *problem = problem_end - size;
     memcpy(problem, data, size);

@@ -16,7 +16,8 @@ use testing::places::root;
 /// count; of each bound call number, place and the four numbers; of a point record its size and
 /// where the choice starts; of each call for point records the same as of the plain call, with the
 /// bytes changed past the points before these; of each text call number, place, count, the bytes
-/// changed past the text, and the text.
+/// changed past the text, and the text; of each reading call the same, with 1 for the problem that is
+/// due.
 const C_ANSWERS: &str = "\
 0 0 3 0 0 2:00 1 1:01 2 0:11
 15 0 0 0
@@ -50,6 +51,11 @@ P 2 2 1 9
 19 0 0 0
 2 16 0 0
 18 0 0 0
+0 0 38 0 1
+0 0 38 0 1
+19 0 0 0 0
+18 0 0 0 0
+17 0 0 0 0
 ";
 
 /// A source in `tests/c`.
