@@ -58,7 +58,7 @@ pub(crate) fn cost_vector(problem: &Problem, tables: &[&Table], assignment: &[u8
 
 /// Steps `assignment` to the next choice of `variables`, the last of them running fastest;
 /// false after the last choice. No variables have one choice, the empty one.
-fn next_choice(assignment: &mut [u8], domains: &[u8], variables: &[usize]) -> bool {
+pub(crate) fn next_choice(assignment: &mut [u8], domains: &[u8], variables: &[usize]) -> bool {
     for &variable in variables.iter().rev() {
         if assignment[variable] + 1 < domains[variable] {
             assignment[variable] += 1;

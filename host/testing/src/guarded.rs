@@ -5,8 +5,8 @@ use std::io;
 
 use crate::guard::{End, Pages, Plain};
 use frontier::lent::{
-    write_bound, write_cut, write_points, write_solve, write_text, Answer, CutNumbers, Halves,
-    Least, PointRecord,
+    read_text, write_bound, write_cut, write_points, write_solve, write_text, Answer, CutNumbers,
+    Halves, Least, PointRecord,
 };
 use frontier::limits::{
     LEAST_WORK, MAX_BYTES, MAX_OBJECTIVES, MAX_POINTS, MAX_VARIABLES, TEXT_LEN,
@@ -179,6 +179,26 @@ impl Guarded {
         );
         self.check_problem(problem);
         take(&mut self.fault, "text", &mut self.text, text);
+        let [place, count] = self.take_numbers();
+        Answer {
+            number,
+            place,
+            count,
+        }
+    }
+
+    /// The reading call, on a text that is not longer than what is written.
+    pub fn read(&mut self, text: &[u8], problem: &mut [u8]) -> Answer {
+        let end = self.end;
+        let [place, count, _, _] = &mut self.numbers;
+        let number = read_text(
+            self.text.lend(text, end),
+            self.problem.lend(problem, end),
+            &mut place.lend(&[JUNK], end)[0],
+            &mut count.lend(&[JUNK], end)[0],
+        );
+        note(&mut self.fault, "text", self.text.check_unchanged(text));
+        take(&mut self.fault, "problem", &mut self.problem, problem);
         let [place, count] = self.take_numbers();
         Answer {
             number,

@@ -11,7 +11,7 @@ use frontier::lent::Answer;
 use frontier::limits::{MAX_BYTES, TEXT_LEN};
 
 /// A buffer of this length with random contents.
-fn junk_text(rng: &mut Rng, length: usize) -> Vec<u8> {
+pub fn junk_bytes(rng: &mut Rng, length: usize) -> Vec<u8> {
     (0..length).map(|_| rng.bits() as u8).collect()
 }
 
@@ -34,21 +34,42 @@ pub fn compare_text(
     lent: &[u8],
     call: impl Fn(&[u8], &mut [u8]) -> Answer,
 ) -> Result<(), String> {
-    let (mut left, mut right) = (lent.to_vec(), lent.to_vec());
-    let answer = call(problem, &mut left);
-    let expected = to_text(problem, &mut right);
-    let difference = if answer != expected {
-        format!("the call answers {answer:?}, the converter {expected:?}")
-    } else if let Some(i) = (0..lent.len()).find(|&i| left[i] != right[i]) {
-        let (left, right) = (left[i], right[i]);
-        format!("after {answer:?} byte {i} is {left}, with the converter {right}")
-    } else if answer.number == 0 && !says(&left[..answer.count as usize], problem) {
-        "the text does not give the problem back".into()
-    } else {
-        return Ok(());
-    };
+    let compared = compare_forms(problem, lent, call, to_text);
+    let back = compared.and_then(|(answer, left)| {
+        match answer.number > 0 || says(&left[..answer.count as usize], problem) {
+            true => Ok(()),
+            false => Err("the text does not give the problem back".into()),
+        }
+    });
     let (length, bytes) = (lent.len(), to_hex(problem));
-    Err(format!("{difference}, length {length}, bytes {bytes}"))
+    back.map_err(|difference| format!("{difference}, length {length}, bytes {bytes}"))
+}
+
+/// Compares a converting call with the independent one, each lent a copy of the buffer; what it answers and
+/// leaves there, or the difference.
+pub fn compare_forms(
+    form: &[u8],
+    lent: &[u8],
+    call: impl Fn(&[u8], &mut [u8]) -> Answer,
+    converter: fn(&[u8], &mut [u8]) -> Answer,
+) -> Result<(Answer, Vec<u8>), String> {
+    let (mut left, mut right) = (lent.to_vec(), lent.to_vec());
+    let answer = call(form, &mut left);
+    let expected = converter(form, &mut right);
+    if answer != expected {
+        return Err(format!(
+            "the call answers {answer:?}, the converter {expected:?}"
+        ));
+    }
+    match (0..lent.len()).find(|&i| left[i] != right[i]) {
+        None => Ok((answer, left)),
+        Some(i) => {
+            let (left, right) = (left[i], right[i]);
+            Err(format!(
+                "after {answer:?} byte {i} is {left}, with the converter {right}"
+            ))
+        }
+    }
 }
 
 /// Whether a text says exactly the records of a problem.
@@ -83,7 +104,7 @@ impl Mixed {
         let mut rng = self.text_rng();
         for problem in self.text_inputs() {
             let length = lengths(&mut rng, need(&problem))[rng.below(6)];
-            let lent = junk_text(&mut rng, length);
+            let lent = junk_bytes(&mut rng, length);
             let compared = compare_text(&problem, &lent, &call);
             compared.map_err(|difference| format!("seed {}: {difference}", self.seed))?;
         }

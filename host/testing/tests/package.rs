@@ -124,7 +124,7 @@ fn every_number_is_a_refusal_of_its_own() {
         assert_eq!(head, start + place);
         assert!(wrong.len() > 20, "{text}");
     }
-    for (number, place) in [(0, 0), (20, 0), (1, 5), (15, 5), (18, 5)] {
+    for (number, place) in [(0, 0), (20, 0), (1, 5), (15, 5), (17, 5), (18, 5)] {
         assert_eq!(Refusal::new(number, place), None);
     }
     let scope = Refusal::new(10, 85).expect("a refusal");

@@ -5,8 +5,8 @@ use std::env;
 use std::process::ExitCode;
 
 use frontier::lent::{
-    write_bound, write_cut, write_points, write_solve, write_text, Answer, CutNumbers, Halves,
-    Least, PointRecord,
+    read_text, write_bound, write_cut, write_points, write_solve, write_text, Answer, CutNumbers,
+    Halves, Least, PointRecord,
 };
 use frontier::limits::MAX_OBJECTIVES;
 use testing::mixed::Mixed;
@@ -92,12 +92,16 @@ fn points_on_heap(problem: &[u8], points: &mut [PointRecord], work: &mut [u32]) 
     }
 }
 
-/// The text call on a copy that has exactly its length on the heap, and with junk where it writes its
+/// A converting call on a copy that has exactly its length on the heap, and with junk where it writes its
 /// place and count, for the same reason.
-fn text_on_heap(problem: &[u8], text: &mut [u8]) -> Answer {
-    let problem: Box<[u8]> = problem.into();
+fn converted_on_heap(
+    call: fn(&[u8], &mut [u8], &mut u32, &mut u32) -> u8,
+    form: &[u8],
+    made: &mut [u8],
+) -> Answer {
+    let form: Box<[u8]> = form.into();
     let (mut place, mut count) = (Box::new(0xa5a5_a5a5), Box::new(0xa5a5_a5a5));
-    let number = write_text(&problem, text, &mut place, &mut count);
+    let number = call(&form, made, &mut place, &mut count);
     Answer {
         number,
         place: *place,
@@ -125,7 +129,8 @@ fn run_cases(cases: u64) -> Result<(), String> {
         case.compare_solve(solve_on_heap)?;
         case.compare_cut(cut_on_heap)?;
         case.compare_points(points_on_heap)?;
-        case.compare_texts(text_on_heap)?;
+        case.compare_texts(|problem, text| converted_on_heap(write_text, problem, text))?;
+        case.compare_reads(|text, problem| converted_on_heap(read_text, text, problem))?;
         let done = seed + 1;
         if done % PROGRESS == 0 && done < cases {
             println!("{done} of {cases} cases done");

@@ -1,0 +1,208 @@
+//! Texts that a call reads: which it is asked for, damage of every kind, texts far outside the limits, and the
+//! comparison with the independent converter.
+
+use crate::mixed::Mixed;
+use crate::random::{random_problem, Shape};
+use crate::reading::read_problem;
+use crate::said::{laid_out, Said};
+use crate::texts::{compare_forms, junk_bytes, lengths};
+use crate::wcsp::{from_text, in_one_objective};
+use chooser::junk::Rng;
+use frontier::lent::Answer;
+use frontier::limits::{MAX_BYTES, TEXT_LEN};
+
+/// What a number is replaced by: negative ones, what is too large for 32 and for 64 bits, and words that are no
+/// number.
+pub const STRANGE: [&str; 18] = [
+    "-1",
+    "-0",
+    "4294967295",
+    "4294967296",
+    "18446744073709551615",
+    "18446744073709551618",
+    "123456789012345678901234567890",
+    "-123456789012345678901234567890",
+    "word",
+    "1.5",
+    "0x1",
+    "+",
+    "-",
+    "--1",
+    "+-1",
+    "0",
+    "9",
+    "2",
+];
+
+/// How many bytes the problem of a text has; 0 where there is none.
+pub fn read_need(text: &[u8]) -> usize {
+    from_text(text, &mut vec![0; MAX_BYTES]).count as usize
+}
+
+/// Compares a call that reads text with the independent converter on one text, each lent a copy of the
+/// buffer. A difference is told with the text.
+pub fn compare_read(
+    text: &[u8],
+    lent: &[u8],
+    call: impl Fn(&[u8], &mut [u8]) -> Answer,
+) -> Result<(), String> {
+    let compared = compare_forms(text, lent, call, from_text);
+    let told = |difference| {
+        let length = lent.len();
+        format!(
+            "{difference}, length {length}, text {}",
+            text.escape_ascii()
+        )
+    };
+    compared.map(|_| ()).map_err(told)
+}
+
+/// The text of a seed: one in three is well formed, the others are damaged; one in eight is far outside the
+/// limits.
+pub fn generated(rng: &mut Rng) -> Vec<u8> {
+    if rng.once_in(8) {
+        let far = far_words(rng);
+        return damaged(rng, far, 3);
+    }
+    let shape = match rng.below(40) {
+        0 => Shape::wide(),
+        1..=4 => Shape::many_variables(),
+        _ => Shape {
+            variables: 4,
+            tables: 4,
+            choices: 40,
+            ..Shape::small()
+        },
+    };
+    let problem = in_one_objective(&random_problem(rng, &shape));
+    let words = Said::of(rng, &problem).words(rng);
+    damaged(rng, words, 3)
+}
+
+/// The words laid out, after some damage but once in so many times.
+pub fn damaged(rng: &mut Rng, mut words: Vec<String>, whole: usize) -> Vec<u8> {
+    if rng.once_in(whole) {
+        return laid_out(rng, &words);
+    }
+    for _ in 0..1 + rng.below(4) / 2 {
+        damage_word(rng, &mut words);
+    }
+    let mut text = laid_out(rng, &words);
+    match rng.below(8) {
+        0 => text.truncate(rng.below(text.len() + 1)),
+        1 if !text.is_empty() => {
+            let place = rng.below(text.len());
+            text[place] = rng.bits() as u8;
+        }
+        2 if !text.is_empty() => {
+            let place = rng.below(text.len());
+            text[place] = rng.pick(b" 0123456789-+x\n");
+        }
+        _ => (),
+    }
+    text
+}
+
+/// A word replaced, left out, written twice or exchanged with another.
+fn damage_word(rng: &mut Rng, words: &mut Vec<String>) {
+    if words.is_empty() {
+        return;
+    }
+    // The first words and the last decide most.
+    let place = match rng.below(4) {
+        0 => rng.below(words.len().min(12)),
+        1 => words.len() - 1 - rng.below(words.len().min(6)),
+        _ => rng.below(words.len()),
+    };
+    match rng.below(12) {
+        0 => drop(words.remove(place)),
+        1 => words.insert(place, words[place].clone()),
+        2 => {
+            let other = rng.below(words.len());
+            words.swap(place, other);
+        }
+        3 => words.push(rng.pick(&STRANGE).into()),
+        4..=6 => words[place] = rng.below(12).to_string(),
+        _ => words[place] = rng.pick(&STRANGE).into(),
+    }
+}
+
+/// The words of a text far outside the limits: up to 1,000 variables, sizes and values of any length, scopes of
+/// up to nine variables, some of them twice, and tuples of which some are given twice.
+fn far_words(rng: &mut Rng) -> Vec<String> {
+    const LONG: [(&str, &str); 3] = [
+        ("18446744073709551618", "18446744073709551617"),
+        ("4294967297", "4294967296"),
+        (
+            "123456789012345678901234567890",
+            "99999999999999999999999999999",
+        ),
+    ];
+    let long = rng.pick(&LONG);
+    let variables = rng.pick(&[1, 3, 24, 25, 100, 300, 1_000]);
+    let sizes: Vec<usize> = (0..variables)
+        .map(|_| rng.pick(&[1, 2, 8, 9, 40, 0]))
+        .collect();
+    let is_long = |v: usize| sizes[v] == 0;
+    let size = |v: usize| match is_long(v) {
+        true => long.0.to_string(),
+        false => sizes[v].to_string(),
+    };
+    let largest = match sizes.contains(&0) {
+        true => long.0.to_string(),
+        false => sizes.iter().max().expect("a variable").to_string(),
+    };
+    let functions = rng.below(4);
+    let mut words = ["far", &variables.to_string(), &largest]
+        .map(String::from)
+        .to_vec();
+    words.extend([functions.to_string(), rng.pick(&["9", long.1]).to_string()]);
+    words.extend((0..variables).map(size));
+    for _ in 0..functions {
+        let arity = rng.pick(&[0, 1, 2, 3, 4, 9]);
+        let scope: Vec<usize> = (0..arity).map(|_| rng.below(variables)).collect();
+        let tuples = if arity == 0 { 0 } else { rng.below(4) };
+        words.push(arity.to_string());
+        words.extend(scope.iter().map(usize::to_string));
+        words.extend(["5".to_string(), tuples.to_string()]);
+        for _ in 0..tuples {
+            let value = |&v: &usize| match is_long(v) {
+                true => long.1.to_string(),
+                false => rng.below(sizes[v]).to_string(),
+            };
+            words.extend(scope.iter().map(value).collect::<Vec<_>>());
+            words.push("7".into());
+        }
+    }
+    words
+}
+
+impl Mixed {
+    /// What a reading call is asked for: the case's bytes as they are, and of an accepted problem a text in
+    /// some layout, good and damaged, none longer than what is written.
+    pub fn read_inputs(&self) -> Vec<Vec<u8>> {
+        let mut inputs = vec![self.bytes.clone()];
+        if let Ok(reading) = read_problem(&self.bytes) {
+            let rng = &mut self.text_rng();
+            let said = Said::of(rng, &in_one_objective(&reading.problem));
+            inputs.push(said.text(rng));
+            let words = said.words(rng);
+            inputs.push(damaged(rng, words, 1 << 30));
+        }
+        inputs.iter_mut().for_each(|text| text.truncate(TEXT_LEN));
+        inputs
+    }
+
+    /// Compares a call that reads text with the independent converter, lent a buffer with junk of one of the
+    /// lengths that matter. A difference is told with the seed and the text.
+    pub fn compare_reads(&self, call: impl Fn(&[u8], &mut [u8]) -> Answer) -> Result<(), String> {
+        let mut rng = self.text_rng();
+        for text in self.read_inputs() {
+            let length = lengths(&mut rng, read_need(&text))[rng.below(6)];
+            let lent = junk_bytes(&mut rng, length);
+            let compared = compare_read(&text, &lent, &call);
+            compared.map_err(|difference| format!("seed {}: {difference}", self.seed))?;
+        }
+        Ok(())
+    }
+}
