@@ -1,5 +1,5 @@
-//! The library part of the command `chooser`: its subcommands, the text form of a problem, pictures and
-//! batches.
+//! The library part of the command `chooser`: its subcommands, the text form of a problem, places in WCSP
+//! text, pictures and batches.
 
 pub mod batch_csv;
 pub mod batch_worker;
@@ -16,4 +16,5 @@ pub mod plot;
 pub mod progress;
 pub mod records;
 pub mod text;
+pub mod wcsp;
 pub mod worker;

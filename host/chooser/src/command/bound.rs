@@ -18,7 +18,7 @@ usage: chooser bound FILE PREFIX [--json]
 Tells what every choice that starts with PREFIX costs at least, in each cost,
 for the problem in FILE ('-': standard input). PREFIX has the values of the
 first modules with commas between, each as its number (the first variant is 0)
-or, where FILE is text, as the variant's name. '-' is the empty prefix.
+or, in a text problem, as the variant's name. '-' is the empty prefix.
 The bound is the sum of the least table entries that agree with the prefix.
 
     --json      print one JSON object; docs/FORMAT.md describes it

@@ -99,7 +99,7 @@ const SUBCOMMANDS: &[Subcommand] = &[
     },
     Subcommand {
         name: "wcsp",
-        summary: "write a problem with one cost as text for other solvers",
+        summary: "change a problem with one cost to text for other solvers, or back",
         help: wcsp::HELP,
         run: wcsp::run,
     },

@@ -3,15 +3,16 @@
 use std::ffi::{OsStr, OsString};
 use std::io::{self, IsTerminal};
 
-use super::source::{label_of, limit_of, parse_file, BINARY};
-use super::{read_file, sort_words, write_or_print, Failure, Outcome};
+use super::source::{form_of, label_of, parse_file, read_problem_file, read_wcsp, Form, BINARY};
+use super::{sort_words, write_or_print, Failure, Outcome};
 
 pub const HELP: &str = "\
 usage: chooser pack TEXT [-o FILE]
 
 Writes the text problem in TEXT ('-': standard input) as a binary problem, to
-standard output or to FILE. A fault in the text is told with its line and
-column; then nothing is written, and with -o an old FILE stays as it is.
+standard output or to FILE. WCSP text is taken too ('chooser help wcsp' says how
+it is known). A fault in the text is told with its line and column; then
+nothing is written, and with -o an old FILE stays as it is.
 What the records cannot say, and what a problem may not have (as 25 modules),
 is such a fault. Names, comments and layout are not kept in the records.
 docs/FORMAT.md describes the text, docs/REFERENCE.md the bytes.
@@ -37,7 +38,10 @@ pub fn run(words: &[OsString]) -> Result<Outcome, Failure> {
 /// The record bytes of a text file.
 fn packed(file: &OsStr) -> Result<Vec<u8>, Failure> {
     let label = label_of(file);
-    let bytes = read_file(file, limit_of)?;
+    let bytes = read_problem_file(file)?;
+    if form_of(file, &bytes) == Form::Wcsp {
+        return read_wcsp(&label, &bytes);
+    }
     if bytes.starts_with(BINARY) {
         return Err(Failure::file(format!(
             "{label} starts with HD, so it is a binary problem already; 'chooser unpack' makes text \

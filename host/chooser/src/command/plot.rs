@@ -15,9 +15,9 @@ use frontier::{Chooser, Point, Problem, Refusal};
 pub const HELP: &str = "\
 usage: chooser plot FILE -o OUT.svg
 
-Draws the frontier of the problem in FILE ('-': standard input), which is binary
-or text, into the file OUT.svg ('-': standard output), for any web browser: with
-two costs as stairs, with three or four as a matrix of pairs, with one on a
+Draws the frontier of the problem in FILE ('-': standard input; binary, text or
+WCSP text) into the file OUT.svg ('-': standard output), for any web browser:
+with two costs as stairs, with three or four as a matrix of pairs, with one on a
 scale. Rest the pointer on a point for its costs and its choice. The picture
 follows the browser's light or dark setting. The same problem under the same
 file name always gives the same picture, byte by byte.

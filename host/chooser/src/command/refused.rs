@@ -1,7 +1,7 @@
 //! A refusal told to people: its number, its word, the place, what stands there, and what
 //! to mend.
 
-use super::source::Source;
+use super::source::{Form, Source};
 use super::{print_error, print_out, Failure, Outcome};
 use crate::hex::to_hex;
 use crate::json::Json;
@@ -61,7 +61,7 @@ impl Question<'_> {
 
     /// Where the place is, for a problem that has no bytes of its own.
     fn place_in_text(&self, refusal: Refusal) -> &'static str {
-        match self.source.names.is_some() && refusal.byte().is_some() {
+        match self.source.form != Form::Binary && refusal.byte().is_some() {
             true => " of the packed problem",
             false => "",
         }

@@ -14,10 +14,10 @@ use frontier::{Chooser, Frontier, Problem, Refusal};
 pub const HELP: &str = "\
 usage: chooser solve FILE [--room N] [--json] [--stats]
 
-Lists the frontier of the problem in FILE ('-': standard input), which is binary
-or text: every cost vector that no other one beats, in rising order, each with
-the earliest choice of variants that has it. Costs stand before the bar, the
-variants behind it; they have names where FILE is text.
+Lists the frontier of the problem in FILE ('-': standard input): every cost
+vector that no other one beats, in rising order, each with the earliest choice
+of variants that has it. FILE is binary, text or WCSP text. Costs stand before
+the bar, the variants behind it; a text problem has names for them.
 
     --room N    refuse a frontier of more than N points (0 to 64; default 64)
     --json      print one JSON object; docs/FORMAT.md describes it

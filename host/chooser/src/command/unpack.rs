@@ -3,7 +3,7 @@
 use std::ffi::OsString;
 
 use super::refused::{Call, Question};
-use super::source::{label_of, Source};
+use super::source::{label_of, Form, Source};
 use super::{read_file, sort_words, write_or_print, Failure, Outcome};
 use crate::text::{write, Named, Names};
 use frontier::limits::MAX_BYTES;
@@ -32,6 +32,7 @@ pub fn run(words: &[OsString]) -> Result<Outcome, Failure> {
     let source = Source {
         label: label_of(file),
         bytes: read_file(file, |_| MAX_BYTES)?,
+        form: Form::Binary,
         names: None,
     };
     let problem = match Problem::decode(&source.bytes) {
@@ -44,7 +45,11 @@ pub fn run(words: &[OsString]) -> Result<Outcome, Failure> {
             return question.refuse(refusal, false);
         }
     };
+    write_or_print(asked.value("-o"), unpacked(problem).as_bytes())
+}
+
+/// The text of a problem that came without names.
+pub fn unpacked(problem: Problem) -> String {
     let names = Names::invented(&problem);
-    let text = write(&Named { problem, names });
-    write_or_print(asked.value("-o"), text.as_bytes())
+    write(&Named { problem, names })
 }

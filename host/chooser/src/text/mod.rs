@@ -9,7 +9,8 @@ mod parse;
 mod tables;
 mod write;
 
-pub use fault::Fault;
+pub use fault::{quoted, Fault};
+pub use lines::behind;
 pub use names::{is_name, Module, Names, LONGEST_NAME};
 pub use parse::parse;
 pub use write::write;
