@@ -1,9 +1,13 @@
-//! Writing problems as WCSP text: the proved chooser against plain Rust, in the same run. Command:
+//! Writing problems as WCSP text and reading them: the proved chooser against plain Rust, in the same run; and how
+//! the time of reading grows with texts far outside the limits. Command:
 //! `cargo bench --offline --bench text`; see `docs/PERFORMANCE.md`.
 
+mod hostile;
 mod measuring;
 #[path = "plain/text.rs"]
 mod plain;
+#[path = "plain/read.rs"]
+mod plain_read;
 #[path = "plain/reader.rs"]
 mod reader;
 mod shapes;
@@ -12,9 +16,10 @@ use std::hint::black_box;
 
 use chooser::junk::Rng;
 use frontier::lent::{self, Answer};
-use frontier::limits::TEXT_LEN;
-use frontier::Problem;
+use frontier::limits::{MAX_BYTES, TEXT_LEN};
+use frontier::{to_text, Problem};
 use testing::mixed::Mixed;
+use testing::read_texts::{compare_read, generated};
 use testing::stored::nightly;
 use testing::texts::{compare_text, need};
 use testing::wcsp::in_one_objective;
@@ -22,19 +27,29 @@ use testing::wcsp::in_one_objective;
 type TextCall = fn(&[u8], &mut [u8]) -> Answer;
 
 /// The chooser first, then plain Rust.
-const SIDES: [TextCall; 2] = [lent::to_text, plain::to_text];
+const WRITERS: [TextCall; 2] = [lent::to_text, plain::to_text];
+const READERS: [TextCall; 2] = [lent::from_text, plain_read::from_text];
 
-/// Problems that are written one after another.
+/// Problems that are written one after another, and their texts, which are read.
 struct Work {
     name: String,
     problems: Vec<Vec<u8>>,
+    texts: Vec<Vec<u8>>,
 }
 
 impl Work {
+    fn new(name: String, problems: Vec<Vec<u8>>) -> Work {
+        let text = |problem: &Vec<u8>| to_text(problem).expect("one objective").into_bytes();
+        Work {
+            name,
+            texts: problems.iter().map(text).collect(),
+            problems,
+        }
+    }
+
     /// How many bytes the problems have, and their texts.
     fn bytes(&self) -> [usize; 2] {
-        let texts = self.problems.iter().map(|problem| need(problem));
-        [self.problems.iter().map(Vec::len).sum(), texts.sum()]
+        [&self.problems, &self.texts].map(|forms| forms.iter().map(Vec::len).sum())
     }
 }
 
@@ -89,27 +104,24 @@ fn all_work() -> Vec<Work> {
     let night = night
         .iter()
         .map(|stored| in_one_objective(&stored.problem).encode());
-    let mut all = vec![Work {
-        name: "a night".into(),
-        problems: night.collect(),
-    }];
+    let mut all = vec![Work::new("a night".into(), night.collect())];
     let shapes = [
         ("small tables", shapes::small_tables(&mut rng)),
         ("large tables", shapes::large_tables(&mut rng)),
         ("mixed tables", shapes::mixed_tables(&mut rng)),
     ];
     for (shape, problem) in shapes {
-        all.extend(ENTRIES.iter().map(|entries| Work {
-            name: format!("{shape}, {}", entries.name),
-            problems: vec![filled(&mut rng, &problem, entries)],
+        all.extend(ENTRIES.iter().map(|entries| {
+            let problems = vec![filled(&mut rng, &problem, entries)];
+            Work::new(format!("{shape}, {}", entries.name), problems)
         }));
     }
     all
 }
 
 /// Speeds of sides that answer differently would say nothing.
-fn assert_sides_agree(all: &[Work]) {
-    for side in SIDES {
+fn assert_writers_agree(all: &[Work]) {
+    for side in WRITERS {
         for problem in all.iter().flat_map(|work| &work.problems) {
             assert!(need(problem) > 0, "not a problem with one objective");
             assert_eq!(compare_text(problem, &vec![7; TEXT_LEN], side), Ok(()));
@@ -120,41 +132,90 @@ fn assert_sides_agree(all: &[Work]) {
     }
 }
 
-/// How many million bytes of text each side writes in a second.
-fn speeds(work: &Work, bytes: usize) -> [f64; SIDES.len()] {
+fn assert_readers_agree(all: &[Work]) {
+    let mut rng = Rng::new(9);
+    let strange: Vec<Vec<u8>> = (0..4_000).map(|_| generated(&mut rng)).collect();
+    let hostile = hostile::KINDS.map(|kind| (kind.text)(LEAST_WORDS).into_bytes());
+    let texts = all.iter().flat_map(|work| &work.texts);
+    let texts: Vec<&Vec<u8>> = texts.chain(&strange).chain(&hostile).collect();
+    for side in READERS {
+        for text in &texts {
+            assert_eq!(compare_read(text, &[7; MAX_BYTES], side), Ok(()));
+        }
+        for seed in 0..2_000 {
+            assert_eq!(Mixed::new(seed).compare_reads(side), Ok(()));
+        }
+    }
+}
+
+/// How many million bytes of text each side goes through in a second, with these inputs and an output of
+/// so many bytes.
+fn speeds(sides: [TextCall; 2], inputs: &[Vec<u8>], most: usize, bytes: usize) -> [f64; 2] {
     let call = |side: TextCall| {
-        let mut text = vec![0; TEXT_LEN];
+        let mut output = vec![0; most];
         move || {
-            for problem in &work.problems {
-                black_box(side(black_box(problem), black_box(&mut text)));
+            for input in inputs {
+                black_box(side(black_box(input), black_box(&mut output)));
             }
         }
     };
-    measuring::best_speeds(SIDES.map(call), bytes)
+    measuring::best_speeds(sides.map(call), bytes)
 }
 
-fn print_row(work: &Work) {
-    let [read, written] = work.bytes();
-    let [chooser, plain] = speeds(work, written);
+fn print_row(work: &Work, [chooser, plain]: [f64; 2]) {
+    let [records, text] = work.bytes();
     println!(
-        "| {} | {} | {read} | {written} | {chooser:.0} | {plain:.0} | {:.2} |",
+        "| {} | {} | {records} | {text} | {chooser:.0} | {plain:.0} | {:.2} |",
         work.name,
         work.problems.len(),
         chooser / plain,
     );
 }
 
+/// A table with a row for each work.
+fn print_table(title: &str, all: &[Work], speeds: impl Fn(&Work) -> [f64; 2]) {
+    println!("\n{title}\n");
+    println!("| Problems | Number | Bytes | Bytes of text | Chooser | Plain Rust | Ratio |");
+    println!("|---|--:|--:|--:|--:|--:|--:|");
+    all.iter().for_each(|work| print_row(work, speeds(work)));
+}
+
+/// Hostile texts are made of so many words at least, and then of twice as many, and so on.
+const LEAST_WORDS: usize = hostile::MOST_WORDS >> 4;
+
+/// How many nanoseconds a byte of a hostile text takes, at sizes that double: in linear time it is always as
+/// many.
+fn print_growth() {
+    println!("\nReading texts far outside the limits, nanoseconds a byte\n");
+    println!("| Text | Bytes | Chooser | Plain Rust |");
+    println!("|---|--:|--:|--:|");
+    for kind in hostile::KINDS {
+        for doubled in (0..5).map(|times| LEAST_WORDS << times) {
+            let texts = [(kind.text)(doubled).into_bytes()];
+            let bytes = texts[0].len();
+            let speeds = speeds(READERS, &texts, MAX_BYTES, bytes);
+            let [chooser, plain] = speeds.map(|speed| 1e3 / speed);
+            println!("| {} | {bytes} | {chooser:.1} | {plain:.1} |", kind.name);
+        }
+    }
+}
+
 fn main() {
     let all = all_work();
-    assert_sides_agree(&all);
-    println!("The chooser and plain Rust write the same texts.");
+    assert_writers_agree(&all);
+    assert_readers_agree(&all);
+    println!("The chooser and plain Rust write the same texts, and read them alike.");
     if !measuring::is_asked() {
         return;
     }
     println!(
-        "MB of text a second; ratio: the chooser's speed over plain Rust's, 1 is equal and less is slower.\n"
+        "MB of text a second; ratio: the chooser's speed over plain Rust's, 1 is equal and less is slower."
     );
-    println!("| Problems | Number | Bytes | Bytes of text | Chooser | Plain Rust | Ratio |");
-    println!("|---|--:|--:|--:|--:|--:|--:|");
-    all.iter().for_each(print_row);
+    print_table("Writing", &all, |work| {
+        speeds(WRITERS, &work.problems, TEXT_LEN, work.bytes()[1])
+    });
+    print_table("Reading", &all, |work| {
+        speeds(READERS, &work.texts, MAX_BYTES, work.bytes()[1])
+    });
+    print_growth();
 }

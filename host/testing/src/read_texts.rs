@@ -5,7 +5,7 @@ use crate::mixed::Mixed;
 use crate::random::{random_problem, Shape};
 use crate::reading::read_problem;
 use crate::said::{laid_out, Said};
-use crate::texts::{compare_forms, junk_bytes, lengths};
+use crate::texts::compare_forms;
 use crate::wcsp::{from_text, in_one_objective};
 use chooser::junk::Rng;
 use frontier::lent::Answer;
@@ -196,13 +196,8 @@ impl Mixed {
     /// Compares a call that reads text with the independent converter, lent a buffer with junk of one of the
     /// lengths that matter. A difference is told with the seed and the text.
     pub fn compare_reads(&self, call: impl Fn(&[u8], &mut [u8]) -> Answer) -> Result<(), String> {
-        let mut rng = self.text_rng();
-        for text in self.read_inputs() {
-            let length = lengths(&mut rng, read_need(&text))[rng.below(6)];
-            let lent = junk_bytes(&mut rng, length);
-            let compared = compare_read(&text, &lent, &call);
-            compared.map_err(|difference| format!("seed {}: {difference}", self.seed))?;
-        }
-        Ok(())
+        self.compare_each(self.read_inputs(), read_need, |text, lent| {
+            compare_read(text, lent, &call)
+        })
     }
 }

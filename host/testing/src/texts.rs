@@ -1,6 +1,7 @@
 //! Texts that a call writes: which bytes it is asked for, buffers of every length that matters, and the
 //! comparison with the independent converter.
 
+use crate::fence::{assert_fences, fenced, inside};
 use crate::mixed::Mixed;
 use crate::random::damage;
 use crate::reading::read_problem;
@@ -11,8 +12,22 @@ use frontier::lent::Answer;
 use frontier::limits::{MAX_BYTES, TEXT_LEN};
 
 /// A buffer of this length with random contents.
-pub fn junk_bytes(rng: &mut Rng, length: usize) -> Vec<u8> {
+fn junk_bytes(rng: &mut Rng, length: usize) -> Vec<u8> {
     (0..length).map(|_| rng.bits() as u8).collect()
+}
+
+/// What stands beside the lent bytes.
+const FENCE: u8 = 0x5c;
+
+/// A converting call on a buffer between fences, which must stand afterwards.
+pub fn fenced_call(call: fn(&[u8], &mut [u8]) -> Answer) -> impl Fn(&[u8], &mut [u8]) -> Answer {
+    move |form, made| {
+        let mut buffer = fenced(made, FENCE);
+        let answer = call(form, inside(&mut buffer));
+        assert_fences(&buffer, FENCE);
+        made.copy_from_slice(inside(&mut buffer));
+        answer
+    }
 }
 
 /// How many bytes the text of a problem has; 0 where there is none.
@@ -101,13 +116,24 @@ impl Mixed {
     /// Compares a call that writes text with the independent converter, lent a buffer with junk of one
     /// of the lengths that matter. A difference is told with the seed and the bytes.
     pub fn compare_texts(&self, call: impl Fn(&[u8], &mut [u8]) -> Answer) -> Result<(), String> {
+        self.compare_each(self.text_inputs(), need, |problem, lent| {
+            compare_text(problem, lent, &call)
+        })
+    }
+
+    /// Compares a converting call on each input, with a buffer of one of the lengths around what it needs.
+    pub fn compare_each(
+        &self,
+        inputs: Vec<Vec<u8>>,
+        need: fn(&[u8]) -> usize,
+        compare: impl Fn(&[u8], &[u8]) -> Result<(), String>,
+    ) -> Result<(), String> {
         let mut rng = self.text_rng();
-        for problem in self.text_inputs() {
-            let length = lengths(&mut rng, need(&problem))[rng.below(6)];
+        inputs.iter().try_for_each(|input| {
+            let length = lengths(&mut rng, need(input))[rng.below(6)];
             let lent = junk_bytes(&mut rng, length);
-            let compared = compare_text(&problem, &lent, &call);
-            compared.map_err(|difference| format!("seed {}: {difference}", self.seed))?;
-        }
-        Ok(())
+            let compared = compare(input, &lent);
+            compared.map_err(|difference| format!("seed {}: {difference}", self.seed))
+        })
     }
 }

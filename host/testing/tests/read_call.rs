@@ -8,40 +8,32 @@ use std::ops::Range;
 use std::thread;
 
 use chooser::junk::Rng;
-use frontier::lent::{self, Answer};
+use frontier::lent;
 use frontier::limits::{MAX_BYTES, MAX_TABLES, TEXT_LEN};
 use frontier::refusal::{DIALECT, OUTPUT, TEXT};
 use frontier::{from_text, to_text, Problem, Refusal, Table};
 use testing::brute::bound_prefix;
 use testing::checker::all_choices;
 use testing::examples::{every_arity, ten_problems};
-use testing::fence::{assert_fences, fenced, inside};
 use testing::guard::{End, Pages};
 use testing::guarded::Guarded;
 use testing::mixed::Mixed;
 use testing::random::{random_problem, Shape};
 use testing::read_texts::{compare_read, generated, read_need};
 use testing::said::Said;
-use testing::texts::lengths;
+use testing::texts::{fenced_call, lengths};
 use testing::wcsp::in_one_objective;
 
-/// What the lent bytes hold, and what stands beside them.
+/// What the lent bytes hold.
 const JUNK: u8 = 0xa5;
-const FENCE: u8 = 0x5c;
-
-/// The call on a buffer between fences, which must stand afterwards.
-fn fenced_read(text: &[u8], problem: &mut [u8]) -> Answer {
-    let mut buffer = fenced(problem, FENCE);
-    let answer = lent::from_text(text, inside(&mut buffer));
-    assert_fences(&buffer, FENCE);
-    problem.copy_from_slice(inside(&mut buffer));
-    answer
-}
 
 /// Asserts that the call answers and leaves a buffer of this length as the converter does; the number.
 fn assert_length(text: &[u8], length: usize) -> u8 {
     let lent = vec![JUNK; length];
-    assert_eq!(compare_read(text, &lent, fenced_read), Ok(()));
+    assert_eq!(
+        compare_read(text, &lent, fenced_call(lent::from_text)),
+        Ok(())
+    );
     lent::from_text(text, &mut lent.clone()).number
 }
 
@@ -431,7 +423,7 @@ fn a_text_may_end_after_any_byte() {
     for length in 0..=text.len() {
         let part = &text[..length];
         let lent = pages.lend(part, End::Upper);
-        assert_eq!(from_text(lent), from_text(&part.to_vec()), "{length}");
+        assert_eq!(from_text(lent), from_text(part), "{length}");
     }
 }
 

@@ -13,30 +13,22 @@ use frontier::limits::{
 use frontier::refusal::{DIALECT, OUTPUT};
 use frontier::{to_text, Problem, Refusal, Table};
 use testing::examples::{brimful, colours, every_arity, lone, ten_problems};
-use testing::fence::{assert_fences, fenced, inside};
 use testing::guard::End;
 use testing::guarded::Guarded;
 use testing::mixed::Mixed;
-use testing::texts::{compare_text, lengths, need};
+use testing::texts::{compare_text, fenced_call, lengths, need};
 use testing::wcsp::in_one_objective;
 
-/// What the lent bytes hold, and what stands beside them.
+/// What the lent bytes hold.
 const JUNK: u8 = 0xa5;
-const FENCE: u8 = 0x5c;
-
-/// The call on a buffer between fences, which must stand afterwards.
-fn fenced_text(problem: &[u8], text: &mut [u8]) -> Answer {
-    let mut buffer = fenced(text, FENCE);
-    let answer = lent::to_text(problem, inside(&mut buffer));
-    assert_fences(&buffer, FENCE);
-    text.copy_from_slice(inside(&mut buffer));
-    answer
-}
 
 /// Asserts that the call answers and leaves a buffer of this length as the converter does.
 fn assert_length(problem: &[u8], length: usize) -> Answer {
     let lent = vec![JUNK; length];
-    assert_eq!(compare_text(problem, &lent, fenced_text), Ok(()));
+    assert_eq!(
+        compare_text(problem, &lent, fenced_call(lent::to_text)),
+        Ok(())
+    );
     lent::to_text(problem, &mut lent.clone())
 }
 
