@@ -10,6 +10,7 @@ use chooser::wcsp::{find, is_wcsp};
 use frontier::{from_text, to_text, Problem, Refusal};
 use testing::chooser_run::{folder, run, run_with};
 use testing::examples::colours_first;
+use testing::places::root;
 use testing::random::{random_problem, Shape};
 use testing::read_texts::generated;
 use testing::said::Said;
@@ -82,53 +83,52 @@ fn the_other_subcommands_take_it() {
     run(&["plot", &name, "-o", picture.to_str().expect("a text")]).with(0);
 }
 
-/// Content tells where the name does not; no file of ours is taken for WCSP text.
+/// What a text problem may have before its first statement.
+const BEFORE: [&str; 6] = [
+    "",
+    "# 3 2 1 5\n",
+    "#3 2 1 5\n",
+    "\u{feff}",
+    "\u{feff}# 3 2 1 5\n",
+    "\n\n",
+];
+
+/// Content tells where the name does not: texts of both kinds, generated.
 #[test]
-fn a_file_of_ours_is_not_taken_for_it() {
+fn a_text_problem_is_not_taken_for_it() {
     let rng = &mut Rng::new(31);
     for case in 0..400 {
         let shape = [Shape::small(), Shape::many_variables()];
         let problem = random_problem(rng, &shape[case % 2]);
         let names = Names::invented(&problem);
-        let text = write(&Named {
-            problem: problem.clone(),
-            names,
-        });
-        let comments = [
-            "",
-            "# 3 2 1 5\n",
-            "#3 2 1 5\n",
-            "\u{feff}",
-            "\u{feff}# 3 2 1 5\n",
-            "\n\n",
-        ];
-        for comment in comments {
-            assert!(!is_wcsp(format!("{comment}{text}").as_bytes()), "{text}");
-        }
         let one = in_one_objective(&problem);
-        let said = Said::of(rng, &one);
+        let text = write(&Named { problem, names });
+        for before in BEFORE {
+            assert!(!is_wcsp(format!("{before}{text}").as_bytes()), "{text}");
+        }
+        let written = to_text(&one.encode()).expect("one objective");
+        assert!(is_wcsp(written.as_bytes()), "{written}");
         // A name with a number sign is one that a text problem can start with.
-        let text = said.text(rng);
+        let text = Said::of(rng, &one).text(rng);
         let is_comment = text.trim_ascii_start().starts_with(b"#");
         assert_eq!(is_wcsp(&text), !is_comment, "{}", text.escape_ascii());
-        assert!(is_wcsp(
-            to_text(&one.encode()).expect("one objective").as_bytes()
-        ));
     }
-    let examples = fs::read_dir(testing::places::root().join("examples")).expect("a folder");
+}
+
+#[test]
+fn examples_and_faulty_text_problems_are_not_taken_for_it() {
+    let folder = root().join("examples");
     let mut seen = 0;
-    for path in examples.map(|entry| entry.expect("an entry").path()) {
+    for entry in fs::read_dir(folder).expect("a folder") {
+        let path = entry.expect("an entry").path();
         if path.extension().is_some_and(|end| end == "txt") {
-            assert!(
-                !is_wcsp(&fs::read(&path).expect("a file")),
-                "{}",
-                path.display()
-            );
+            let text = fs::read(&path).expect("a file");
+            assert!(!is_wcsp(&text), "{}", path.display());
             seen += 1;
         }
     }
     assert!(seen > 1, "{seen}");
-    for faulty in [
+    let faulty = [
         "",
         "costs",
         "costs 3 2 1 5",
@@ -137,15 +137,21 @@ fn a_file_of_ours_is_not_taken_for_it() {
         "cost size",
         "P",
         "P x",
-    ] {
-        assert!(!is_wcsp(faulty.as_bytes()), "{faulty}");
+        "P 1 x",
+    ];
+    for text in faulty {
+        assert!(!is_wcsp(text.as_bytes()), "{text}");
     }
-    // A name that ends so says that it is, though it starts as a binary problem or a text problem does.
+}
+
+/// A name that ends so says that it is, though it starts as a binary problem or a text problem does.
+#[test]
+fn the_name_of_the_file_decides_first() {
     for name in ["HD", "HDx", "costs", "#"] {
         let (_, file) = file("wcsp_named", "named.wcsp", PAIR.replace("pair", name));
         run(&["solve", &file]).with(0);
     }
-    let (_, binary) = file("wcsp_named", "binary.wcsp", colours_first(9).encode());
+    let (_, binary) = file("wcsp_binary", "binary.wcsp", colours_first(9).encode());
     run(&["solve", &binary])
         .with(1)
         .tells(&["(refused with number 17, text)"]);

@@ -127,50 +127,72 @@ fn damage_word(rng: &mut Rng, words: &mut Vec<String>) {
     }
 }
 
+/// A domain size beyond 32 bits, with a value of it that is one less or has a digit less.
+const LONG: [(&str, &str); 3] = [
+    ("18446744073709551618", "18446744073709551617"),
+    ("4294967297", "4294967296"),
+    (
+        "123456789012345678901234567890",
+        "99999999999999999999999999999",
+    ),
+];
+
+/// Domain sizes of which some are long, as words; and for each the values that are below it, by a short one.
+struct FarSizes {
+    /// 0 stands for the long size.
+    sizes: Vec<usize>,
+    long: (&'static str, &'static str),
+}
+
+impl FarSizes {
+    fn new(rng: &mut Rng) -> FarSizes {
+        let variables = rng.pick(&[1, 3, 24, 25, 100, 300, 1_000]);
+        let sizes = (0..variables).map(|_| rng.pick(&[1, 2, 8, 9, 40, 0]));
+        FarSizes {
+            sizes: sizes.collect(),
+            long: rng.pick(&LONG),
+        }
+    }
+
+    fn size(&self, size: usize) -> String {
+        match size {
+            0 => self.long.0.into(),
+            size => size.to_string(),
+        }
+    }
+
+    fn largest(&self) -> String {
+        let largest = self.sizes.iter().max().expect("a variable");
+        self.size(if self.sizes.contains(&0) { 0 } else { *largest })
+    }
+
+    /// A value that the variable has.
+    fn value(&self, rng: &mut Rng, variable: usize) -> String {
+        match self.sizes[variable] {
+            0 => self.long.1.into(),
+            size => rng.below(size).to_string(),
+        }
+    }
+}
+
 /// The words of a text far outside the limits: up to 1,000 variables, sizes and values of any length, scopes of
 /// up to nine variables, some of them twice, and tuples of which some are given twice.
 fn far_words(rng: &mut Rng) -> Vec<String> {
-    const LONG: [(&str, &str); 3] = [
-        ("18446744073709551618", "18446744073709551617"),
-        ("4294967297", "4294967296"),
-        (
-            "123456789012345678901234567890",
-            "99999999999999999999999999999",
-        ),
-    ];
-    let long = rng.pick(&LONG);
-    let variables = rng.pick(&[1, 3, 24, 25, 100, 300, 1_000]);
-    let sizes: Vec<usize> = (0..variables)
-        .map(|_| rng.pick(&[1, 2, 8, 9, 40, 0]))
-        .collect();
-    let is_long = |v: usize| sizes[v] == 0;
-    let size = |v: usize| match is_long(v) {
-        true => long.0.to_string(),
-        false => sizes[v].to_string(),
-    };
-    let largest = match sizes.contains(&0) {
-        true => long.0.to_string(),
-        false => sizes.iter().max().expect("a variable").to_string(),
-    };
-    let functions = rng.below(4);
-    let mut words = ["far", &variables.to_string(), &largest]
-        .map(String::from)
-        .to_vec();
-    words.extend([functions.to_string(), rng.pick(&["9", long.1]).to_string()]);
-    words.extend((0..variables).map(size));
+    let far = FarSizes::new(rng);
+    let (variables, functions) = (far.sizes.len(), rng.below(4));
+    let bound = rng.pick(&["9", far.long.1]);
+    let mut words = vec!["far".into(), variables.to_string(), far.largest()];
+    words.extend([functions.to_string(), bound.into()]);
+    words.extend(far.sizes.iter().map(|&size| far.size(size)));
     for _ in 0..functions {
         let arity = rng.pick(&[0, 1, 2, 3, 4, 9]);
         let scope: Vec<usize> = (0..arity).map(|_| rng.below(variables)).collect();
         let tuples = if arity == 0 { 0 } else { rng.below(4) };
         words.push(arity.to_string());
         words.extend(scope.iter().map(usize::to_string));
-        words.extend(["5".to_string(), tuples.to_string()]);
+        words.extend(["5".into(), tuples.to_string()]);
         for _ in 0..tuples {
-            let value = |&v: &usize| match is_long(v) {
-                true => long.1.to_string(),
-                false => rng.below(sizes[v]).to_string(),
-            };
-            words.extend(scope.iter().map(value).collect::<Vec<_>>());
+            words.extend(scope.iter().map(|&v| far.value(rng, v)));
             words.push("7".into());
         }
     }

@@ -100,71 +100,93 @@ fn over_one(functions: &str) -> String {
     format!("P 1 2 1 9\n2\n{functions}\n")
 }
 
+/// Texts that are 17 by their head, each with its name.
+const NO_HEADS: [(&str, &str); 23] = [
+    ("nothing", ""),
+    ("white space alone", " \t\r\n\x0b\x0c"),
+    ("a name alone", "P"),
+    ("no largest domain", "P 1"),
+    ("no number of functions", "P 1 1"),
+    ("no bound", "P 1 1 0"),
+    ("no domain size", "P 1 1 0 5"),
+    ("a domain size too few", "P 2 1 0 5 1"),
+    ("a word for a number of variables", "P x 1 0 5 1"),
+    ("a word for a largest domain", "P 1 x 0 5 1"),
+    ("a word for a number of functions", "P 1 1 x 5 1"),
+    ("a word for a bound", "P 1 1 0 x 1"),
+    ("a word for a domain size", "P 1 1 0 5 x"),
+    ("a negative number of variables", "P -1 1 0 5 1"),
+    ("a negative largest domain", "P 1 -1 0 5 1"),
+    ("a negative number of functions", "P 1 1 -1 5 1"),
+    ("a largest domain above all", "P 1 2 0 5 1"),
+    ("a largest domain below one", "P 2 1 0 5 1 2"),
+    ("a largest domain of no variables", "P 0 1 0 5"),
+    ("a word behind the sizes", "P 1 1 0 5 1 1"),
+    ("a zero byte behind the last word", "P 1 1 0 5 1 \0"),
+    ("a zero byte in a word", "P 1 1 0 5 1\0"),
+    ("a byte that is no white space", "P 1 1 0 5\u{a0}1"),
+];
+
+/// Functions over one variable that are 17.
+const NO_FUNCTIONS: [(&str, &str); 28] = [
+    ("no function", ""),
+    ("no scope", "1"),
+    ("no default", "1 0"),
+    ("no number of tuples", "1 0 0"),
+    ("no tuple", "1 0 0 1"),
+    ("no cost", "1 0 0 1 0"),
+    ("a tuple too few", "1 0 0 2 0 1"),
+    ("a word for an arity", "x 0 0 0"),
+    ("a word for a variable", "1 x 0 0"),
+    ("a word for a default", "1 0 x 0"),
+    ("a word for a number of tuples", "1 0 0 x"),
+    ("a word for a value", "1 0 0 1 x 5"),
+    ("a word for a cost", "1 0 0 1 0 x"),
+    ("a fraction", "1 0 0 1 0 1.5"),
+    ("an exponent", "1 0 0 1 0 1e2"),
+    ("hexadecimal digits", "1 0 0 1 0 0x1"),
+    ("two signs", "1 0 0 1 0 --1"),
+    ("both signs", "1 0 0 1 0 +-1"),
+    ("a sign behind", "1 0 0 1 0 1-"),
+    ("a minus alone", "1 0 0 1 0 -"),
+    ("a plus alone", "1 0 0 1 0 +"),
+    ("an undeclared variable", "1 1 0 0"),
+    ("a negative variable", "1 -1 0 0"),
+    ("an undeclared value", "1 0 0 1 2 3"),
+    ("a negative value", "1 0 0 1 -1 3"),
+    ("tuples without variables", "0 5 1 4"),
+    ("a word behind the last function", "0 5 0 0"),
+    ("a function too many", "0 5 0 0 5 0"),
+];
+
 /// Every kind of 17, by its name.
 #[test]
 fn every_kind_of_17() {
-    let heads = [
-        ("nothing", ""),
-        ("white space alone", " \t\r\n\x0b\x0c"),
-        ("a name alone", "P"),
-        ("no largest domain", "P 1"),
-        ("no number of functions", "P 1 1"),
-        ("no bound", "P 1 1 0"),
-        ("no domain size", "P 1 1 0 5"),
-        ("a domain size too few", "P 2 1 0 5 1"),
-        ("a word for a number of variables", "P x 1 0 5 1"),
-        ("a word for a largest domain", "P 1 x 0 5 1"),
-        ("a word for a number of functions", "P 1 1 x 5 1"),
-        ("a word for a bound", "P 1 1 0 x 1"),
-        ("a word for a domain size", "P 1 1 0 5 x"),
-        ("a negative number of variables", "P -1 1 0 5 1"),
-        ("a negative largest domain", "P 1 -1 0 5 1"),
-        ("a negative number of functions", "P 1 1 -1 5 1"),
-        ("a largest domain above all", "P 1 2 0 5 1"),
-        ("a largest domain below one", "P 2 1 0 5 1 2"),
-        ("a largest domain of no variables", "P 0 1 0 5"),
-        ("a word behind the sizes", "P 1 1 0 5 1 1"),
-        ("a zero byte behind the last word", "P 1 1 0 5 1 \0"),
-        ("a zero byte in a word", "P 1 1 0 5 1\0"),
-        ("a byte that is no white space", "P 1 1 0 5\u{a0}1"),
-    ];
-    for (name, text) in heads {
+    for (name, text) in NO_HEADS {
         assert_number(TEXT, name, text);
     }
-    let functions = [
-        ("no function", ""),
-        ("no scope", "1"),
-        ("no default", "1 0"),
-        ("no number of tuples", "1 0 0"),
-        ("no tuple", "1 0 0 1"),
-        ("no cost", "1 0 0 1 0"),
-        ("a tuple too few", "1 0 0 2 0 1"),
-        ("a word for an arity", "x 0 0 0"),
-        ("a word for a variable", "1 x 0 0"),
-        ("a word for a default", "1 0 x 0"),
-        ("a word for a number of tuples", "1 0 0 x"),
-        ("a word for a value", "1 0 0 1 x 5"),
-        ("a word for a cost", "1 0 0 1 0 x"),
-        ("a fraction", "1 0 0 1 0 1.5"),
-        ("an exponent", "1 0 0 1 0 1e2"),
-        ("hexadecimal digits", "1 0 0 1 0 0x1"),
-        ("two signs", "1 0 0 1 0 --1"),
-        ("both signs", "1 0 0 1 0 +-1"),
-        ("a sign behind", "1 0 0 1 0 1-"),
-        ("a minus alone", "1 0 0 1 0 -"),
-        ("a plus alone", "1 0 0 1 0 +"),
-        ("an undeclared variable", "1 1 0 0"),
-        ("a negative variable", "1 -1 0 0"),
-        ("an undeclared value", "1 0 0 1 2 3"),
-        ("a negative value", "1 0 0 1 -1 3"),
-        ("tuples without variables", "0 5 1 4"),
-        ("a word behind the last function", "0 5 0 0"),
-        ("a function too many", "0 5 0 0 5 0"),
-    ];
-    for (name, function) in functions {
+    for (name, function) in NO_FUNCTIONS {
         assert_number(TEXT, name, &over_one(function));
     }
 }
+
+/// Functions over one variable that are 18.
+const REFUSED_FUNCTIONS: [(&str, &str); 14] = [
+    ("a negative arity", "-1 0 0 0"),
+    ("a negative default", "1 0 -1 0"),
+    ("a negative number of tuples", "1 0 0 -1"),
+    ("a negative cost", "1 0 0 1 0 -1"),
+    ("a default that is too large", "1 0 4294967296 0"),
+    ("one for which no entry is left", "1 0 4294967296 2 0 1 1 1"),
+    ("a cost that is too large", "1 0 0 1 0 4294967296"),
+    ("one without variables", "0 4294967296 0"),
+    ("a variable twice", "2 0 0 0 0"),
+    ("a variable twice, written otherwise", "2 0 +00 0 0"),
+    ("a tuple twice", "1 0 0 2 1 3 1 4"),
+    ("a tuple twice with one cost", "1 0 0 2 1 3 01 3"),
+    ("a tuple twice, of the default", "1 0 7 2 1 7 1 7"),
+    ("an arity of 4", "4 0 0 0 0 0 0"),
+];
 
 /// Every kind of 18, by its name; the limits have a test of their own.
 #[test]
@@ -179,23 +201,7 @@ fn every_kind_of_18() {
     for (name, text) in texts {
         assert_number(DIALECT, name, text);
     }
-    let functions = [
-        ("a negative arity", "-1 0 0 0"),
-        ("a negative default", "1 0 -1 0"),
-        ("a negative number of tuples", "1 0 0 -1"),
-        ("a negative cost", "1 0 0 1 0 -1"),
-        ("a default that is too large", "1 0 4294967296 0"),
-        ("one for which no entry is left", "1 0 4294967296 2 0 1 1 1"),
-        ("a cost that is too large", "1 0 0 1 0 4294967296"),
-        ("one without variables", "0 4294967296 0"),
-        ("a variable twice", "2 0 0 0 0"),
-        ("a variable twice, written otherwise", "2 0 +00 0 0"),
-        ("a tuple twice", "1 0 0 2 1 3 1 4"),
-        ("a tuple twice with one cost", "1 0 0 2 1 3 01 3"),
-        ("a tuple twice, of the default", "1 0 7 2 1 7 1 7"),
-        ("an arity of 4", "4 0 0 0 0 0 0"),
-    ];
-    for (name, function) in functions {
+    for (name, function) in REFUSED_FUNCTIONS {
         assert_number(DIALECT, name, &over_one(function));
     }
     // A tuple may come again in another function, and other tuples in the same one.
@@ -207,38 +213,42 @@ fn every_kind_of_18() {
     }
 }
 
+/// Texts with 18 somewhere and 17 elsewhere, but not behind a listed negative number.
+const BOTH: [(&str, &str); 12] = [
+    ("a word", "P 1 1 0 4294967296 1 x"),
+    ("missing sizes", "P 25 9 0 5 9 1"),
+    ("a value of a domain of nine", "P 1 9 1 5 9 1 0 0 1 9 4"),
+    ("a scope of nine", "P 1 2 1 5 2 9 0 0 0 0 0 0 0 0 1"),
+    ("a variable twice", "P 1 2 1 5 2 2 0 0 0 1 0 2 4"),
+    ("a tuple twice", "P 1 2 2 5 2 1 0 0 2 1 3 1 4 1 1 0 0"),
+    ("no variable", "P 0 0 1 5 1 0 0 0"),
+    ("a size too large", "P 2 8 0 5 9 -1"),
+    ("a negative variable", "P 1 2 1 5 2 1 -1 -1"),
+    ("a negative number of variables", "P -1 2 1 -5"),
+    ("before a negative default", "P 1 2 1 5 2 1 1 -1"),
+    ("before a negative bound", "P x 1 0 -1"),
+];
+
+/// Texts with 17 behind a listed negative number.
+const UNREAD: [(&str, &str); 10] = [
+    ("no sizes", "P 1 1 0 -1"),
+    ("words", "P 1 1 1 -1 x y z"),
+    ("a largest domain not met", "P 2 5 0 5 3 -1"),
+    ("no function", "P 1 2 1 5 2 -1"),
+    ("a keyword", "P 1 2 1 5 2 1 0 -1 knapsack"),
+    ("a shared function", "P 1 2 1 5 2 1 0 0 -1 and more"),
+    ("undeclared values", "P 1 2 1 5 2 1 0 0 2 1 -4 9 9"),
+    ("behind 18", "P 1 2 2 4294967296 2 0 -5"),
+    ("a second negative number", "P 1 2 2 -5 -5 -5"),
+    ("a long one", "P 1 1 0 -123456789012345678901234567890 x"),
+];
+
 #[test]
 fn of_17_and_18_it_is_17_but_behind_a_listed_negative_number() {
-    let behind = [
-        ("a word", "P 1 1 0 4294967296 1 x"),
-        ("missing sizes", "P 25 9 0 5 9 1"),
-        ("a value of a domain of nine", "P 1 9 1 5 9 1 0 0 1 9 4"),
-        ("a scope of nine", "P 1 2 1 5 2 9 0 0 0 0 0 0 0 0 1"),
-        ("a variable twice", "P 1 2 1 5 2 2 0 0 0 1 0 2 4"),
-        ("a tuple twice", "P 1 2 2 5 2 1 0 0 2 1 3 1 4 1 1 0 0"),
-        ("no variable", "P 0 0 1 5 1 0 0 0"),
-        ("a size too large", "P 2 8 0 5 9 -1"),
-        ("a negative variable", "P 1 2 1 5 2 1 -1 -1"),
-        ("a negative number of variables", "P -1 2 1 -5"),
-        ("before a negative default", "P 1 2 1 5 2 1 1 -1"),
-        ("before a negative bound", "P x 1 0 -1"),
-    ];
-    for (name, text) in behind {
+    for (name, text) in BOTH {
         assert_number(TEXT, name, text);
     }
-    let unread = [
-        ("no sizes", "P 1 1 0 -1"),
-        ("words", "P 1 1 1 -1 x y z"),
-        ("a largest domain not met", "P 2 5 0 5 3 -1"),
-        ("no function", "P 1 2 1 5 2 -1"),
-        ("a keyword", "P 1 2 1 5 2 1 0 -1 knapsack"),
-        ("a shared function", "P 1 2 1 5 2 1 0 0 -1 and more"),
-        ("undeclared values", "P 1 2 1 5 2 1 0 0 2 1 -4 9 9"),
-        ("behind 18", "P 1 2 2 4294967296 2 0 -5"),
-        ("a second negative number", "P 1 2 2 -5 -5 -5"),
-        ("a long one", "P 1 1 0 -123456789012345678901234567890 x"),
-    ];
-    for (name, text) in unread {
+    for (name, text) in UNREAD {
         assert_number(DIALECT, name, text);
     }
 }
@@ -269,25 +279,20 @@ fn text_of_length(length: usize) -> String {
     words.join(" ")
 }
 
-#[test]
-fn each_limit_from_both_sides() {
+/// A name, a text at the limit, and one beyond it.
+type Limit = (&'static str, String, String);
+
+/// How many there may be of something.
+fn limits_of_counts() -> [Limit; 5] {
     let variables = |n: usize| format!("P {n} 1 0 5 {}", "1 ".repeat(n));
     let domain = |d: usize| format!("P 2 {d} 1 5 1 {d} 1 1 0 1 {} 5", d - 1);
     let functions = |r: usize| format!("P 1 1 {r} 5 1 {}", "0 1 0 ".repeat(r));
     let scope = |a: usize| (0..a).map(|v| format!("{v} ")).collect::<String>();
     let arity = |a: usize| {
-        format!(
-            "P 4 2 1 5 2 2 2 2 {a} {} 0 1 {} 5",
-            scope(a),
-            "1 ".repeat(a)
-        )
+        let (scope, values) = (scope(a), "1 ".repeat(a));
+        format!("P 4 2 1 5 2 2 2 2 {a} {scope} 0 1 {values} 5")
     };
-    let cost = |c: u64| over_one(&format!("1 0 0 1 1 {c}"));
-    let default = |c: u64| over_one(&format!("1 0 {c} 0"));
-    let charge = |c: u64| over_one(&format!("0 {c} 0"));
-    let bound = |c: u64| format!("P 1 1 0 {c} 1");
-    let most = u64::from(u32::MAX);
-    let pairs = [
+    [
         ("variables", variables(24), variables(25)),
         ("domain", domain(8), domain(9)),
         (
@@ -301,12 +306,26 @@ fn each_limit_from_both_sides() {
             text_of_length(MAX_BYTES),
             text_of_length(MAX_BYTES + 1),
         ),
-        ("cost", cost(most), cost(most + 1)),
-        ("default", default(most), default(most + 1)),
-        ("charge", charge(most), charge(most + 1)),
-        ("bound", bound(most), bound(most + 1)),
-    ];
-    for (name, within, outside) in pairs {
+    ]
+}
+
+/// How large a cost or the bound may be.
+fn limits_of_costs() -> [Limit; 4] {
+    let both = |name, text: fn(u64) -> String| {
+        let most = u64::from(u32::MAX);
+        (name, text(most), text(most + 1))
+    };
+    [
+        both("cost", |c| over_one(&format!("1 0 0 1 1 {c}"))),
+        both("default", |c| over_one(&format!("1 0 {c} 0"))),
+        both("charge", |c| over_one(&format!("0 {c} 0"))),
+        both("bound", |c| format!("P 1 1 0 {c} 1")),
+    ]
+}
+
+#[test]
+fn each_limit_from_both_sides() {
+    for (name, within, outside) in limits_of_counts().into_iter().chain(limits_of_costs()) {
         assert_number(0, name, &within);
         assert_number(DIALECT, name, &outside);
         assert_number(TEXT, name, &format!("{outside} more"));
@@ -323,38 +342,38 @@ fn far_outside_the_limits_17_is_still_told() {
     assert_number(DIALECT, "a thousand variables", &far("2"));
     assert_number(TEXT, "a value", &far("3"));
     assert_number(TEXT, "no cost", far("2").trim_end_matches(" 4"));
-    let (huge, above) = ("18446744073709551617", "18446744073709551618");
+}
+
+/// 2^64 + 1 and 2^64 + 2.
+const HUGE: &str = "18446744073709551617";
+const ABOVE: &str = "18446744073709551618";
+
+#[test]
+fn numbers_beyond_64_bits_are_compared() {
     let long = |size: &str, value: &str| format!("P 1 {size} 1 5 {size} 1 0 0 1 {value} 4");
-    assert_number(DIALECT, "a size of 65 bits", &long(above, huge));
-    assert_number(TEXT, "the size itself", &long(above, above));
-    assert_number(TEXT, "above it", &long(huge, above));
-    assert_number(DIALECT, "0 of it", &long(huge, "0"));
+    assert_number(DIALECT, "a size of 65 bits", &long(ABOVE, HUGE));
+    assert_number(TEXT, "the size itself", &long(ABOVE, ABOVE));
+    assert_number(TEXT, "above it", &long(HUGE, ABOVE));
+    assert_number(DIALECT, "0 of it", &long(HUGE, "0"));
+    assert_number(TEXT, "a larger size", &format!("P 1 {HUGE} 0 5 {ABOVE}"));
+    assert_number(TEXT, "a smaller size", &format!("P 1 {ABOVE} 0 5 {HUGE}"));
     let nines = "9".repeat(40);
     assert_number(DIALECT, "40 digits", &long(&format!("1{nines}"), &nines));
     assert_number(TEXT, "a digit more", &long(&nines, &format!("1{nines}")));
-    assert_number(TEXT, "so many variables", &format!("P {above} 1 0 5 1 1"));
-    assert_number(
-        TEXT,
-        "so many functions",
-        &format!("P 1 1 {above} 5 1 0 5 0"),
-    );
-    assert_number(
-        TEXT,
-        "so large an arity",
-        &over_one(&format!("{above} 0 0")),
-    );
-    assert_number(
-        TEXT,
-        "so many tuples",
-        &over_one(&format!("1 0 0 {above} 0 1")),
-    );
-    // 2^64 + 2 variables, functions or tuples are not two of them.
-    assert_number(TEXT, "wrapped variables", &format!("P {above} 1 0 5 1 1"));
-    assert_number(
-        TEXT,
-        "a wrapped arity",
-        &over_one(&format!("{above} 0 0 0 0")),
-    );
+}
+
+/// 2^64 + 2 variables, functions, tuples or variables of a scope are not two of them.
+#[test]
+fn counts_beyond_64_bits_end_with_the_words() {
+    let texts = [
+        ("variables", format!("P {ABOVE} 1 0 5 1 1")),
+        ("functions", format!("P 1 1 {ABOVE} 5 1 0 5 0 0 5 0")),
+        ("an arity", over_one(&format!("{ABOVE} 0 0 0 0"))),
+        ("tuples", over_one(&format!("1 0 0 {ABOVE} 0 1 1 1"))),
+    ];
+    for (name, text) in texts {
+        assert_number(TEXT, name, &text);
+    }
 }
 
 /// Texts of many megabytes, of white space, of zeros, and of variables, in a thread with the stack that the
