@@ -306,7 +306,7 @@ uint8_t frontier_to_text(const uint8_t *problem, size_t problem_len, uint8_t *te
  * A problem has at most FRONTIER_MAX_BYTES bytes, which so do for every text. Nothing in the answer depends on what the
  * buffer held before.
  *
- * The number of refusal is the result: 0 for none, then
+ * The number of refusal is the result: 0 for none, else the first of these that holds, wherever in the text:
  *
  *   FRONTIER_REFUSED_TEXT     the text is not in the format: a word is missing, is no number or stands behind the last
  *                             function; the largest domain size is not the one that is stated; a variable or a value is
@@ -314,13 +314,12 @@ uint8_t frontier_to_text(const uint8_t *problem, size_t problem_len, uint8_t *te
  *                             a value is negative; or a function of arity 0 has tuples
  *   FRONTIER_REFUSED_DIALECT  an arity, domain size, cost, upper bound or number of tuples is negative; a cost or the
  *                             upper bound is above 4294967295; a tuple is given twice in its function, or a variable in
- *                             its scope; or the problem would be outside the limits, which are also those of its bytes
+ *                             its scope; or the problem would be outside a limit, that of its bytes included
  *   FRONTIER_REFUSED_OUTPUT   problem_len is less than the problem has bytes
  *
- * The first that holds is told, wherever in the text it stands. But what stands behind the first negative arity, domain
- * size, cost, upper bound or number of tuples is not read, so that nothing there is told. *place becomes 0; *count
- * becomes how many bytes the problem has, and 0 after a refusal. Both are always written, whatever they held. What the
- * buffer holds afterwards:
+ * But what stands behind the first negative arity, domain size, cost, upper bound or number of tuples is not read, so
+ * that nothing there is told. *place becomes 0; *count becomes how many bytes the problem has, and 0 after a refusal.
+ * Both are always written, whatever they held. What the buffer holds afterwards:
  *
  *   result                 problem
  *   FRONTIER_ACCEPTED      the first *count bytes are the problem, the rest is unchanged

@@ -12,7 +12,7 @@ mod write;
 pub use fault::{quoted, Fault};
 pub use lines::behind;
 pub use names::{is_name, Module, Names, LONGEST_NAME};
-pub use parse::parse;
+pub use parse::{parse, STATEMENTS};
 pub use write::write;
 
 use frontier::Problem;

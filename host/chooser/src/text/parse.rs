@@ -12,7 +12,7 @@ use frontier::limits::{MAX_DOMAIN, MAX_OBJECTIVES, MAX_TABLES, MAX_VARIABLES};
 use frontier::Problem;
 
 /// The words that start a statement.
-const STATEMENTS: [&str; 3] = ["costs", "module", "table"];
+pub const STATEMENTS: [&str; 3] = ["costs", "module", "table"];
 
 /// Reads a text problem.
 pub fn parse(bytes: &[u8]) -> Result<Named, Fault> {
