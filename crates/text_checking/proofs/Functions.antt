@@ -4,7 +4,7 @@ use mathlib.Core.Logic.{⊎-elim}
 use mathlib.Core.List.{List, []}
 use Prim.Native.Nat.{ℕ, zero, suc, _+_, _*_, _≤_, _<_, min}
 use native.Mathlib.Omega.{arith}
-use lib.ListN.{length, getD, drop, replicate, length-map, length-set, length-replicate, length-append}
+use lib.ListN.{length, getD, drop, replicate, length-map, length-replicate, length-append}
 use lib.Seq.{drop-drop, getD-drop}
 use borrow.Author.Tests.{ltb-false}
 use Rattle.model.specs.Limits.{maxArity}
@@ -19,6 +19,7 @@ use Rattle.text_networks.specs.Networks.{repeated, repeatedTuple, arityFinding,
 use Rattle.text_networks.specs.Networks.{countFinding}
 use Rattle.text_networks.specs.Networks.{arityIn, scopeIn, defaultIn, countIn, tuplesIn, functionWidth, sizesOver}
 use Rattle.text_networks.specs.Networks.{tupleFinding, tuplesOf, functionFinding, withTuples, functionTable}
+use Rattle.text_networks.proofs.FineTables.{costs-count}
 use Rattle.text_networks.proofs.Entries.{product, size-product}
 use Rattle.text_networks.proofs.FineWords.{test-fine, field-fine}
 use Rattle.text_checking.specs.Codes.{codeOf, both}
@@ -89,11 +90,6 @@ module _ (ds : List ℕ) (ws : Words) where
       drop-drop (2 + a + valueAt (1 + a) us * suc a) 1 ws ∙ ap (λ (n : ℕ). drop n ws) e
 
   -- ## the bytes
-
-  costs-count : (k : ℕ) (es : List ℕ) (vs : Words) (costs : List ℕ) → length (withTuples k es vs costs) ≡ length costs
-  unfolding withTuples
-  costs-count zero es vs costs = refl
-  costs-count (suc k) es vs costs = costs-count k es _ _ ∙ length-set costs _ _
 
   table-bytes : length (tableBytes (functionTable ds ws)) ≡ recordBytes (sizesOver ds (scopeIn ws))
   unfolding tableBytes functionTable

@@ -29,7 +29,7 @@ tables-count (suc r) ds ws = ap suc (tables-count r ds (drop (functionWidth ws) 
 
 -- ## one table
 
-costs-count : (k : ℕ) (ds : List ℕ) (ws : Words) (costs : List ℕ) → length (withTuples k ds ws costs) ≡ length costs
+pub costs-count : (k : ℕ) (ds : List ℕ) (ws : Words) (costs : List ℕ) → length (withTuples k ds ws costs) ≡ length costs
 unfolding withTuples
 costs-count zero ds ws costs = refl
 costs-count (suc k) ds ws costs = costs-count k ds _ _ ∙ length-set costs _ _

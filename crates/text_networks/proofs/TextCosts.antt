@@ -41,14 +41,15 @@ sizes-fine m (suc n) ws h =
 
 -- ## the whole text
 
-record FineNetwork (ws : Words) : Type 0 where
-  variables : (1 ≤ valueAt 1 ws) × (valueAt 1 ws ≤ maxVariables)
-  functions : valueAt 3 ws ≤ maxTables
-  bound : Word (valueAt 4 ws)
-  sizes : All DomainSize (domainsIn ws)
-  tables : functionsFinding (valueAt 3 ws) (domainsIn ws) (functionsIn ws) ≡ fine
+-- what is so of it
+pub record FineNetwork (ws : Words) : Type 0 where
+  pub variables : (1 ≤ valueAt 1 ws) × (valueAt 1 ws ≤ maxVariables)
+  pub functions : valueAt 3 ws ≤ maxTables
+  pub bound : Word (valueAt 4 ws)
+  pub sizes : All DomainSize (domainsIn ws)
+  pub tables : functionsFinding (valueAt 3 ws) (domainsIn ws) (functionsIn ws) ≡ fine
 
-network-fine : (ws : Words) → networkFinding ws ≡ fine → FineNetwork ws
+pub network-fine : (ws : Words) → networkFinding ws ≡ fine → FineNetwork ws
 unfolding networkFinding
 network-fine [] h = absurd (found-fine fault tt h)
 network-fine (name ∷ rest) h =

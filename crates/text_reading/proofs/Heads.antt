@@ -17,40 +17,9 @@ use Rattle.text_networks.specs.Findings.{Words, fine, fault, valueAt}
 use Rattle.text_networks.specs.Networks.{functionsFinding, domainsIn, functionsIn, networkFinding, networkProblem}
 use Rattle.text_networks.proofs.FineWords.{found-fine, both-fine}
 use Rattle.text_networks.proofs.FineTables.{values-count, tables-count}
-use Rattle.text_networks.proofs.TextCosts.{text-rules}
+use Rattle.text_networks.proofs.TextCosts.{FineNetwork, network-fine}
 use Rattle.text_reading.specs.Heads.{HeadSays}
 use Rattle.text_reading.proofs.Numbers.{Passed, one-passed, passed-value}
-
--- ## what is so of it
-
-pub functions-fine : (ws : Words) → networkFinding ws ≡ fine
-    → functionsFinding (valueAt 3 ws) (domainsIn ws) (functionsIn ws) ≡ fine
-unfolding networkFinding
-functions-fine [] h = absurd (found-fine fault tt h)
-functions-fine (name ∷ rest) h =
-    let h₁ = both-fine _ _ h .1 in
-    let h₂ = both-fine _ _ h₁ .1 in
-    let h₃ = both-fine _ _ h₂ .1 in
-    let h₄ = both-fine _ _ h₃ .1 in
-    let h₅ = both-fine _ _ h₄ .1 in
-    both-fine _ _ h₅ .1
-
-pub record FineHead (ws : Words) : Type 0 where
-  pub variables : valueAt 1 ws ≤ maxVariables
-  pub functions : valueAt 3 ws ≤ maxTables
-  pub bound : Word (valueAt 4 ws)
-  pub sizes : All DomainSize (domainsIn ws)
-
-pub head-fine : (ws : Words) → networkFinding ws ≡ fine → FineHead ws
-unfolding networkProblem
-head-fine ws h =
-    let rules = text-rules ws h in
-    record {
-      variables = rw values-count at (rules .few-variables);
-      functions = rw tables-count at (rules .few-tables);
-      bound = rules .ceiling-words .0;
-      sizes = rules .domain-sizes;
-    }
 
 -- ## as it is read
 
@@ -83,8 +52,8 @@ module _ {s : List ℕ} {name : DW.Word} {n d r b : DN.Number} (l : FirstLine s 
   fourth : Passed s 0 4 (r .end)
   fourth = one-passed third r (l .functions)
 
-  line-fine : FineHead (wordsOf s)
-  line-fine = head-fine (wordsOf s) (l .right)
+  line-fine : FineNetwork (wordsOf s)
+  line-fine = network-fine (wordsOf s) (l .right)
 
   bound-read : b .value ≡ valueAt 4 (wordsOf s)
   bound-read = passed-value fourth b (l .bound) (omega (arith, line-fine .bound))
@@ -95,7 +64,7 @@ module _ {s : List ℕ} {name : DW.Word} {n d r b : DN.Number} (l : FirstLine s 
   pub head-says : HeadSays s (record { variables = n .value; functions = r .value; bound = b .value; end = b .end })
   head-says =
       record {
-        variables = passed-value first n (l .variables) (omega (arith, line-fine .variables));
+        variables = passed-value first n (l .variables) (omega (arith, line-fine .variables .1));
         functions = passed-value third r (l .functions) (omega (arith, line-fine .functions));
         bound = bound-read;
         within = l .bound .within;

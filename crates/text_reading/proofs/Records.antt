@@ -17,11 +17,11 @@ use Rattle.text_lines.proofs.Writing.{written-then}
 use Rattle.text_networks.specs.Findings.{Words, fine, valueAt, valuesIn}
 use Rattle.text_networks.specs.Networks.{domainsIn, functionsIn, networkFinding, functionTables, networkProblem}
 use Rattle.text_networks.proofs.FineTables.{values-count, tables-count}
+use Rattle.text_networks.proofs.TextCosts.{network-fine}
 use Rattle.text_reading.specs.Heads.{HeadSays, headForm, DomainsSay, domainList}
 use Rattle.text_reading.specs.Functions.{FunctionsAt}
 use Rattle.text_reading.specs.declared.Head as DH
 use Rattle.text_reading.specs.declared.Domains as DD
-use Rattle.text_reading.proofs.Heads.{functions-fine, head-fine}
 
 -- what is written from the start fills the buffer's front
 written-over : {form out out′ : List ℕ} {m : ℕ} → Written 0 form out out′ m → length form ≤ length out
@@ -44,14 +44,14 @@ pub record SizesRead (s : List ℕ) (h : DH.Head) (d : DD.Domains) : Type 0 wher
 module _ {s : List ℕ} {h : DH.Head} (read : HeadRead s h) where
   pub head-small : (h .variables ≤ maxVariables) × (h .functions ≤ maxTables)
   head-small =
-      let f = head-fine (wordsOf s) (read .right) in
-      (omega (arith, f .variables, read .says .variables), omega (arith, f .functions, read .says .functions))
+      let f = network-fine (wordsOf s) (read .right) in
+      (omega (arith, f .variables .1, read .says .variables), omega (arith, f .functions, read .says .functions))
 
   sizes-same : valuesIn (h .variables) (wordsAt s (h .end)) ≡ domainsIn (wordsOf s)
   sizes-same = rw (read .says .variables, read .says .rest)
 
   pub sizes-small : All DomainSize (valuesIn (h .variables) (wordsAt s (h .end)))
-  sizes-small = rw sizes-same (head-fine (wordsOf s) (read .right) .sizes)
+  sizes-small = rw sizes-same (network-fine (wordsOf s) (read .right) .sizes)
 
 module _ {s : List ℕ} {h : DH.Head} {d : DD.Domains} (read : SizesRead s h d) where
   h-says : HeadSays s h
@@ -102,9 +102,9 @@ module _ {s : List ℕ} {h : DH.Head} {d : DD.Domains} (read : SizesRead s h d) 
         → FunctionsAt s (d .end) (h .functions) d to
     functions-at to behind =
         record {
-          domains = record { few = domains-room .0; small = rw domains-same (head-fine ws (read .head .right) .sizes) };
+          domains = record { few = domains-room .0; small = rw domains-same (network-fine ws (read .head .right) .sizes) };
           within = d-says .within;
-          right = rw (h-says .functions, domains-same, tables-start) (functions-fine ws (read .head .right));
+          right = rw (h-says .functions, domains-same, tables-start) (network-fine ws (read .head .right) .tables);
           room = omega (arith, all-short);
         }
 

@@ -18,10 +18,9 @@ use Rattle.text_networks.specs.Networks.{arityIn, scopeIn, countIn, sizesOver, 
 use Rattle.text_networks.specs.Networks.{functionTable}
 use Rattle.text_networks.proofs.Entries.{product, index-below, sizes-over, size-product}
 use Rattle.text_networks.proofs.FineWords.{tuple-fine, function-fine}
-use Rattle.text_networks.proofs.FineTables.{values-count, sizes-count}
+use Rattle.text_networks.proofs.FineTables.{values-count, sizes-count, costs-count}
 use Rattle.text_reading.specs.Functions.{FunctionSays, tableHead, scopeSizes, TuplesPlace, TuplesPut, FunctionPut}
 use Rattle.text_reading.specs.declared.Function as DF
-use Rattle.text_reading.proofs.Tuples.{with-count}
 
 -- a function whose head is read, and room for its table
 pub record Begun (s : List ℕ) (at : ℕ) (ds : List ℕ) (f : DF.Function) (to : ℕ) : Type 0 where
@@ -75,7 +74,7 @@ module _ {s : List ℕ} {at : ℕ} {ds : List ℕ} {f : DF.Function} {to : ℕ} 
         length-append (tableHead (f .scope)) (wordBytes costs),
         head-length,
         length-wordBytes costs,
-        with-count (f .count) es (wordsAt s (f .end)) defaults,
+        costs-count (f .count) es (wordsAt s (f .end)) defaults,
         length-replicate (f .scope .size) (f .default),
       )
 

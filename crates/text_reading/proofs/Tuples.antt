@@ -5,7 +5,7 @@ use Prim.Native.Nat.{ℕ, zero, suc, _+_, _*_, _≤_, _<_}
 use native.Mathlib.Numerals.{add-one}
 use native.Mathlib.Omega.{arith}
 use native.Mathlib.Nat.{suc-mul, zero-mul, add-mul}
-use lib.ListN.{length, take, drop, set, length-set}
+use lib.ListN.{length, take, drop, set}
 use lib.Seq.{drop-drop, length-take-le}
 use Rattle.model.specs.Limits.{wordEnd}
 use Rattle.model.specs.Problems.{Word}
@@ -16,6 +16,7 @@ use Rattle.text_lines.specs.Written.{Written}
 use Rattle.text_networks.specs.Findings.{Words, Finding, fine, valueAt, valuesIn, runs}
 use Rattle.text_networks.specs.Networks.{tupleFinding, indexFrom, withTuples}
 use Rattle.text_networks.proofs.FineWords.{both-fine, tuple-fine}
+use Rattle.text_networks.proofs.FineTables.{costs-count}
 use Rattle.text_tuples.specs.Entries.{EntrySays}
 use Rattle.text_tuples.specs.declared.Entry as DE
 use Rattle.text_reading.specs.Functions.{scopeSizes, entryOf, TablePlace, TuplePlace, TuplePut}
@@ -62,11 +63,6 @@ tuple-more (suc k) ds ws costs =
     ∙ ap
     (λ (vs : Words). set (withTuples k ds us first) (indexFrom 0 ds (valuesIn a vs)) (valueAt a vs))
     (one-behind k (suc a) ws)
-
-pub with-count : (k : ℕ) (ds : List ℕ) (ws : Words) (costs : List ℕ) → length (withTuples k ds ws costs) ≡ length costs
-unfolding withTuples
-with-count zero ds ws costs = refl
-with-count (suc k) ds ws costs = with-count k ds _ _ ∙ length-set costs _ _
 
 -- ## k tuples are put
 
@@ -125,7 +121,7 @@ module _ {s : List ℕ} {p : DS.Scope} {from to k : ℕ} {out₀ out : List ℕ}
             set before (indexFrom 0 ds (valuesIn n vs)) (valueAt n vs)) wide
             ∙ ap (λ (vs : Words). set before (indexFrom 0 ds (valuesIn a vs)) (valueAt a vs)) (sym (w .words)) in
             let inside : entryOf p us < length before =
-            omega (arith, table .inside us tuple-due, with-count k ds ws costs) in
+            omega (arith, table .inside us tuple-due, costs-count k ds ws costs) in
             rw more
             (entry-over to behind (entryOf p us) (valueAt a us) _ before old out out′ inside
             (w .put costs old behind e v) (t .put));
