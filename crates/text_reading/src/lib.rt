@@ -73,12 +73,22 @@ fn put_two(x: u32, at: usize, out: &mut [u8]) -> usize
     put_pair((x % 256) as u8, (x / 256) as u8, at, out)
 }
 
+// One test for all four bytes: tables have nothing else.
 fn put_four(x: u32, at: usize, out: &mut [u8]) -> usize
     requires { ⌜ at + 4 ≤ wordEnd ⌝ }
     ensures { λ r. ⌜ Written at (fourBytes x) (now (out .entry)) (now (out .exit)) r ⌝ }
 {
-    let next = put_two(x % 65536, at, out);
-    put_two(x / 65536, next, out)
+    let next = at + 4;
+    if out.len() < next {
+        return next;
+    }
+    let low = x % 65536;
+    let high = x / 65536;
+    out[at] = (low % 256) as u8;
+    out[at + 1] = (low / 256) as u8;
+    out[at + 2] = (high % 256) as u8;
+    out[at + 3] = (high / 256) as u8;
+    next
 }
 
 // The first line: a name, how many variables, the largest domain size, how many functions, the upper bound.
