@@ -24,7 +24,8 @@ number-none stop h = absurd (omega arith)
 number-none fault h = absurd (omega arith)
 
 -- a number that is told is not changed by how long the records are
-number-told : (f : Finding) (long : Bool) → (numberOf f ≡ 0 → ⊥) → numberOf (andThen f (findIf long dialect)) ≡ numberOf f
+number-told : (f : Finding) (long : Bool) → (numberOf f ≡ 0 → ⊥)
+    → numberOf (andThen f (findIf long dialect)) ≡ numberOf f
 unfolding numberOf andThen
 number-told fine long h = absurd (h refl)
 number-told dialect true h = refl

@@ -102,7 +102,8 @@ module _ {s : List ℕ} {h : DH.Head} {d : DD.Domains} (read : SizesRead s h d) 
         → FunctionsAt s (d .end) (h .functions) d to
     functions-at to behind =
         record {
-          domains = record { few = domains-room .0; small = rw domains-same (network-fine ws (read .head .right) .sizes) };
+          domains =
+              record { few = domains-room .0; small = rw domains-same (network-fine ws (read .head .right) .sizes) };
           within = d-says .within;
           right = rw (h-says .functions, domains-same, tables-start) (network-fine ws (read .head .right) .tables);
           room = omega (arith, all-short);

@@ -313,7 +313,8 @@ fn refused(number: u8) -> text_networks::Converted
 
 // The records of a text, over the start of a buffer. All of the text is checked before anything is written.
 pub fn from_text(text: &[u8], problem: &mut [u8]) -> text_networks::Converted
-    ensures { λ r. ⌜ ConvertSays (fromTextOutcome (now (text .entry)) (now (problem .entry))) (now (problem .exit)) r ⌝ }
+    ensures { λ r. ⌜ ConvertSays (fromTextOutcome (now (text .entry)) (now (problem .entry)))
+        (now (problem .exit)) r ⌝ }
 {
     let network = text_checking::check_network(text);
     if network.number != 0 {

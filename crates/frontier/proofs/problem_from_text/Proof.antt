@@ -1,4 +1,4 @@
--- `problem_from_text` meets its contract: it promises what `from_text` does, and that the elements of what is read are bytes.
+-- `problem_from_text` meets its contract: it promises what `from_text` does, and that what is read are bytes.
 use native.Mathlib.Omega.{arith}
 use denote.Ref.{now}
 use borrow.Author.Needs.{needs}

@@ -71,7 +71,8 @@ returns-3 c =
     body-says (start .pre .0) (start .pre .1) (omega (arith, start .good .0 .0))
     (sized .check-sizes .last .1 .1 .1 .1 .0) _ (bare .bare .ensures .1 ∙ start .pre .0 .largest (start .pre .1))
     (sized .check-sizes .result) (sized .check-sizes .ensures) (sum .and-then .result)
-    (sum .and-then .ensures) (light .if1 .left) (front .front-bytes .result) (front .front-bytes .ensures) (not-false _ (met .if2 .left))
+    (sum .and-then .ensures) (light .if1 .left) (front .front-bytes .result) (front .front-bytes .ensures)
+    (not-false _ (met .if2 .left))
     (c .check-functions .result) (c .check-functions .ensures)
 
 pub check-body-spec : {M : Type 1} → statement M
