@@ -38,7 +38,7 @@
 /* The version of this header, and in one number: 1002003 is 1.2.3. frontier_version gives that of the library. */
 #define FRONTIER_VERSION_MAJOR 2
 #define FRONTIER_VERSION_MINOR 1
-#define FRONTIER_VERSION_PATCH 0
+#define FRONTIER_VERSION_PATCH 1
 #define FRONTIER_VERSION (FRONTIER_VERSION_MAJOR * 1000000 + FRONTIER_VERSION_MINOR * 1000 + FRONTIER_VERSION_PATCH)
 
 /* limits of a problem */

@@ -1,23 +1,25 @@
 -- A cost vector in every direction: its length, order, sums and limits, its costs in front, and its leading sum.
 use mathlib.Core.Path.{_≡_, refl, sym, ap, _∙_}
+use mathlib.Core.Bool.{_&&_}
 use mathlib.Core.List.{List, [], _∷_, _++_, append-nil}
 use Prim.Native.Nat.{ℕ, zero, suc, _+_, _≤_, _<_}
 use native.Mathlib.Omega.{arith}
 use lib.Dec.{eqb}
-use lib.ListN.{length, getD, take, length-append}
-use lib.Seq.{take-at, getD-at, getD-append-add}
+use lib.ListN.{length, getD, take, drop, length-append}
+use lib.Seq.{length-take-le, take-add, take-at, getD-at, getD-append-add}
 use borrow.Author.Tests.{ne-eqb}
 use Rattle.model.specs.Basics.{All, pick}
 use Rattle.model.specs.Core.{coreSumEnd}
-use Rattle.model.specs.Vectors.{added}
+use Rattle.model.specs.Vectors.{atMost, added}
 use Rattle.model.specs.Archive.{weighted}
-use Rattle.model.proofs.Vectors.{AtMost}
+use Rattle.model.proofs.Bits.{and-both}
+use Rattle.model.proofs.Vectors.{AtMost, at-most-true, at-most-test}
 use Rattle.model.proofs.Elements.{all-at, all-map, all-append}
 use Rattle.model.proofs.Sums.{added-at, added-append}
 use Rattle.branch_directions.specs.declared.Directions as DD
 use Rattle.branch_directions.specs.Directions.{directionEnd, weightsOf, sumsFrom, directionsOf, widthOf}
 use Rattle.branch_directions.specs.Directions.{leadWeights, leadAt, Sensible}
-use Rattle.branch_directions.proofs.AtMostAt.{at-most-append}
+use Rattle.model.proofs.AtMostAt.{at-most-parts}
 use Rattle.branch_directions.proofs.SumsOf.{sums-length, sums-at, sums-mono, sums-added, sums-limit}
 
 -- for any number of costs
@@ -33,7 +35,21 @@ pub directions-mono : (d : DD.Directions) (u v : List ℕ) → length u ≡ leng
     → AtMost (directionsOf d u) (directionsOf d v)
 unfolding directionsOf
 directions-mono d u v e h =
-    at-most-append u v (sumsFrom d (d .sums) 0 u) (sumsFrom d (d .sums) 0 v) e h (sums-mono d (d .sums) 0 u v e h)
+    let sums = sums-mono d (d .sums) 0 u v e h in
+    at-most-true _ _
+    (at-most-parts u v (sumsFrom d (d .sums) 0 u) (sumsFrom d (d .sums) 0 v) e
+    ∙ and-both (at-most-test _ _ h) (at-most-test _ _ sums))
+
+-- a bound is at most a vector in every direction if it is in the objectives and in the sums
+pub directions-parts : (d : DD.Directions) (b v : List ℕ) → d .objectives ≤ length b → length v ≡ d .objectives
+    → atMost (take (widthOf d) b) (directionsOf d v)
+    ≡ (atMost (take (d .objectives) b) v
+    && atMost (take (d .sums) (drop (d .objectives) b)) (sumsFrom d (d .sums) 0 v))
+unfolding directionsOf
+directions-parts d b v l e =
+    rw (take-add (d .objectives) (d .sums) b)
+    (at-most-parts (take (d .objectives) b) v (take (d .sums) (drop (d .objectives) b)) (sumsFrom d (d .sums) 0 v)
+    (length-take-le (d .objectives) b l ∙ sym e))
 
 whole-added : (d : DD.Directions) (u v : List ℕ) → length u ≡ length v
     → directionsOf d (added u v) ≡ added (directionsOf d u) (directionsOf d v)

@@ -1,5 +1,4 @@
 -- Laws of directions for the crates above, and what the functions' proofs share.
-pub mod AtMostAt
 pub mod SumsOf
 pub mod DirectionLaws
 pub mod TableRows

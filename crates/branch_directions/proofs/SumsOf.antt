@@ -1,10 +1,11 @@
--- The sums of a vector: how many they are, one more at the end, their order, that they add up, and their limit.
+-- The sums of a vector: how many they are, fewer of them, one more at the end, their order, that they add up, and their
+-- limit.
 use mathlib.Core.Path.{_≡_, refl, ap}
 use mathlib.Core.List.{List, [], _∷_, _++_, append-assoc}
 use Prim.Native.Nat.{ℕ, zero, suc, _+_, _-_, _*_, _≤_, _<_}
 use native.Mathlib.Omega.{arith}
 use native.Mathlib.Nat.{suc-mul, mul-le-mul}
-use lib.ListN.{length, getD, drop, set, length-append}
+use lib.ListN.{length, getD, take, drop, set, length-append}
 use Rattle.model.specs.Basics.{All}
 use Rattle.model.specs.Limits.{maxObjectives}
 use Rattle.model.specs.Core.{coreSumEnd}
@@ -41,6 +42,13 @@ module _ (d : DD.Directions) where
   sums-at (suc c) i v zero h = let e : i + 0 ≡ i = omega arith in rw e
   sums-at (suc c) i v (suc k) h =
       let e : i + suc k ≡ suc i + k = omega arith in rw e (sums-at c (suc i) v k (omega arith))
+
+  -- fewer of them
+  pub sums-front : (c n i : ℕ) (v : List ℕ) → c ≤ n → take c (sumsFrom d n i v) ≡ sumsFrom d c i v
+  unfolding sumsFrom
+  sums-front zero n i v h = refl
+  sums-front (suc c) zero i v h = absurd (omega arith)
+  sums-front (suc c) (suc n) i v h = ap (_∷_ (weighted (weightsOf d i) v)) (sums-front c n (suc i) v (omega arith))
 
   sums-more : (c i : ℕ) (v : List ℕ)
       → sumsFrom d (suc c) i v ≡ sumsFrom d c i v ++ (weighted (weightsOf d (i + c)) v ∷ [])

@@ -8,7 +8,7 @@ ghost use Rattle.model.specs.Core.{coreSumEnd};
 ghost use Rattle.model.specs.Calls.{padded};
 ghost use Rattle.model.specs.Archive.{weighted};
 ghost use Rattle.branch_archive.specs.Changes.{maxWeight};
-ghost use Rattle.branch_directions.specs.Directions.{maxSums, maxDirections, weightsOf, directionsOf};
+ghost use Rattle.branch_directions.specs.Directions.{maxSums, maxDirections, weightsOf, sumsFrom, directionsOf};
 ghost use Rattle.branch_directions.specs.Directions.{leadWeights, leadAt, Sensible};
 ghost use Rattle.branch_directions.specs.Shares.{maxShare, maxRange};
 
@@ -63,13 +63,26 @@ fn row_of(table: [u64; 16], i: usize) -> [u64; 4]
     [table[at], table[at + 1], table[at + 2], table[at + 3]]
 }
 
-// Sum `i` of the first costs of `v`.
-pub fn sum_at(v: [u64; 4], i: usize, d: Directions) -> u64
-    requires { ⌜ Sensible d × (i < d .sums) × All (λ c. c < coreSumEnd) (take (d .objectives) v) ⌝ }
+// The weights of row `i` with the first costs of `v`: where there are more than `i` sums, sum `i`.
+fn sum_at(v: [u64; 4], i: usize, d: Directions) -> u64
+    requires { ⌜ Sensible d × (i < maxSums) × All (λ c. c < coreSumEnd) (take (d .objectives) v) ⌝ }
     ensures { λ r. ⌜ r ≡ weighted (weightsOf d i) (take (d .objectives) v) ⌝ }
 {
     let weights = d.weights;
     branch_archive::sum_of(v, row_of(weights, i), d.objectives)
+}
+
+// The sums of the first costs of `v`. Always four, of which as many count as there are sums.
+pub fn sums_of(v: [u64; 4], d: Directions) -> [u64; 4]
+    requires { ⌜ Sensible d × All (λ c. c < coreSumEnd) (take (d .objectives) v) ⌝ }
+    ensures { λ r. ⌜ r ≡ sumsFrom d maxSums 0 (take (d .objectives) v) ⌝ }
+{
+    [
+        sum_at(v, 0, d),
+        sum_at(v, 1, d),
+        sum_at(v, 2, d),
+        sum_at(v, 3, d),
+    ]
 }
 
 // The first costs of `v` in every direction, and zeros.

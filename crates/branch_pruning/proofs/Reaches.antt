@@ -14,7 +14,7 @@ use Rattle.branch_candidates.specs.Sifted.{listWidth}
 use Rattle.branch_candidates.proofs.Sifting.{sifted-map}
 use Rattle.branch_directions.specs.Directions.{maxDirections, directionsOf, widthOf, Sensible}
 use Rattle.branch_directions.specs.declared.Directions as DD
-use Rattle.branch_directions.proofs.AtMostAt.{at-most-at, at-most-each}
+use Rattle.model.proofs.AtMostAt.{at-most-at, at-most-each}
 use Rattle.branch_directions.proofs.DirectionLaws.{directions-length}
 use Rattle.branch_directions.proofs.Widths.{width-few}
 use Rattle.branch_zones.specs.Zones.{cornerIn, Exceeds}

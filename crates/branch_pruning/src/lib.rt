@@ -3,14 +3,14 @@
 ghost use mathlib.Core.Path.{_≡_};
 ghost use mathlib.Core.Bool.{false};
 ghost use Prim.Native.Nat.{ℕ, _+_, _<_, _≤_};
-ghost use lib.ListN.{length, getD, take};
+ghost use lib.ListN.{length, take, drop};
 ghost use Rattle.model.specs.Basics.{All};
 ghost use Rattle.model.specs.Limits.{maxVariables, maxPoints};
 ghost use Rattle.model.specs.Core.{coreSumEnd};
-ghost use Rattle.model.specs.Archive.{weighted};
+ghost use Rattle.model.specs.Vectors.{atMost};
 ghost use Rattle.layout.specs.Layout.{listEnd};
 ghost use Rattle.rows.specs.Rows.{costsIn, EachCost};
-ghost use Rattle.branch_directions.specs.Directions.{weightsOf, Sensible};
+ghost use Rattle.branch_directions.specs.Directions.{sumsFrom, Sensible};
 ghost use Rattle.branch_candidates.specs.Sifted.{maxRows, listWidth, Sifted};
 ghost use Rattle.branch_pruning.specs.Tests.{Untied, Surpassed, Full, Reached, reachWidth, Searched, Dead};
 
@@ -39,20 +39,12 @@ pub fn front_of(b: [u64; 8]) -> [u64; 4]
 // Whether each sum of the bound is at most that of the costs.
 fn is_within(b: [u64; 8], costs: [u64; 4], d: branch_directions::Directions) -> bool
     requires { ⌜ Sensible d × All (λ c. c < coreSumEnd) (take (d .objectives) costs) ⌝ }
-    ensures { λ r. ⌜ (r ≡ false
-        → (k : ℕ) × (k < d .sums)
-        × (weighted (weightsOf d k) (take (d .objectives) costs) < getD b (d .objectives + k) 0)) ⌝ }
+    ensures { λ r. ⌜ r
+        ≡ atMost (take (d .sums) (drop (d .objectives) b)) (sumsFrom d (d .sums) 0 (take (d .objectives) costs)) ⌝ }
 {
     let p = d.objectives;
-    let sums = d.sums;
-    let mut k: usize = 0;
-    while k < sums {
-        if branch_directions::sum_at(costs, k, d) < b[p + k] {
-            return false;
-        }
-        k += 1;
-    }
-    true
+    let sums = branch_directions::sums_of(costs, d);
+    vectors::is_at_most(&b[p..], &sums, d.sums)
 }
 
 // Whether a completion of the choice may have the costs of the archived point in row `i`, and be earlier.
@@ -69,7 +61,7 @@ fn is_tied_at(
     ensures { λ r. ⌜ (r ≡ false → Untied d n (now (work .entry)) x b i) ⌝ }
 {
     let costs = rows::row_costs(i, work);
-    if !vectors::is_at_most(front_of(b), costs, d.objectives) {
+    if !vectors::is_at_most(&b, &costs, d.objectives) {
         return false;
     }
     if !branch_archive::is_earlier_at(x, i, n, work) {
@@ -111,7 +103,7 @@ fn is_above_at(i: usize, b: [u64; 8], d: branch_directions::Directions, work: &[
     ensures { λ r. ⌜ (r ≡ false → Surpassed d (now (work .entry)) b i) ⌝ }
 {
     let costs = rows::row_costs(i, work);
-    if !vectors::is_at_most(front_of(b), costs, d.objectives) {
+    if !vectors::is_at_most(&b, &costs, d.objectives) {
         return false;
     }
     is_within(b, costs, d)

@@ -20,7 +20,7 @@ use Rattle.groups.specs.Sources.{sourceIn}
 use Rattle.groups.specs.declared.Task as DT
 use Rattle.branch_directions.specs.Directions.{directionsOf, widthOf}
 use Rattle.branch_directions.specs.declared.Directions as DD
-use Rattle.branch_directions.proofs.AtMostAt.{at-most-each}
+use Rattle.model.proofs.AtMostAt.{at-most-each}
 use Rattle.branch_directions.proofs.DirectionLaws.{directions-length}
 use Rattle.layout.specs.Places.{positionIn}
 use Rattle.branch_buckets.specs.Bounds.{costsOver, Agree}

@@ -12,7 +12,7 @@ use Rattle.model.specs.Vectors.{atMost}
 use Rattle.model.specs.Archive.{below}
 use Rattle.model.proofs.Numbers.{equal-or}
 use Rattle.model.proofs.Vectors.{AtMost, at-most-true, at-most-test, at-most-refl, at-most-trans}
-use Rattle.branch_directions.proofs.AtMostAt.{at-most-each, at-most-at}
+use Rattle.model.proofs.AtMostAt.{at-most-each, at-most-at}
 use Rattle.branch_directions.specs.Directions.{Sensible}
 use Rattle.branch_directions.specs.declared.Directions as DD
 use Rattle.layout.specs.Layout.{zonesEnd}

@@ -1,14 +1,18 @@
--- The corners in memory: their length and numbers, which row one stands in, and the part of a row that is a corner.
+-- The corners in memory: their length and numbers, which row one stands in, the part of a row that is a corner, and a
+-- row by fours.
 use mathlib.Core.Path.{_≡_, refl, sym, ap, _∙_}
-use mathlib.Core.List.{List, [], List·Memᴰ as In}
+use mathlib.Core.Bool.{_&&_}
+use mathlib.Core.List.{List, [], _++_, List·Memᴰ as In}
 use Prim.Native.Nat.{ℕ, zero, suc, _+_, _*_, _≤_, _<_}
 use native.Mathlib.Omega.{arith}
 use native.Mathlib.Nat.{add-zero, zero-add}
 use lib.ListN.{length, getD, take, drop, length-drop}
-use lib.Seq.{length-take-le, getD-take, getD-drop, take-take}
+use lib.Seq.{length-take-le, getD-take, getD-drop, take-all, take-take, take-add, drop-drop}
 use Rattle.model.specs.Basics.{All}
 use Rattle.model.specs.Limits.{maxObjectives, wordEnd}
 use Rattle.model.specs.Problems.{Word}
+use Rattle.model.specs.Vectors.{atMost}
+use Rattle.model.proofs.AtMostAt.{at-most-parts}
 use Rattle.model.proofs.Elements.{all-in, all-drop, all-take, at-in, in-at}
 use Rattle.branch_directions.specs.Directions.{Sensible}
 use Rattle.branch_directions.specs.declared.Directions as DD
@@ -24,6 +28,22 @@ corner-long p zones i few long l =
 pub front-number : (n : ℕ) (zones : List ℕ) (i j : ℕ) → j < n
     → getD (take n (drop (zoneWidth * i) zones)) j 0 ≡ getD zones (zoneWidth * i + j) 0
 front-number n zones i j l = getD-take n (drop (zoneWidth * i) zones) j 0 l ∙ getD-drop (zoneWidth * i) zones j 0
+
+-- eight numbers are at most a row if four are at most its first four, and four at most the others
+pub row-fours : (least zones : List ℕ) (at : ℕ) → length least ≡ zoneWidth → at + zoneWidth ≤ length zones
+    → atMost least (take zoneWidth (drop at zones))
+    ≡ (atMost (take 4 least) (take 4 (drop at zones)) && atMost (take 4 (drop 4 least)) (take 4 (drop (at + 4) zones)))
+row-fours least zones at e l =
+    let long = length-drop at zones in
+    let all : least ≡ take 4 least ++ take 4 (drop 4 least) =
+    sym (take-all zoneWidth least (omega arith)) ∙ take-add 4 4 least in
+    let row : take zoneWidth (drop at zones) ≡ take 4 (drop at zones) ++ take 4 (drop (at + 4) zones) =
+    take-add 4 4 (drop at zones)
+    ∙ ap (λ (r : List ℕ). take 4 (drop at zones) ++ take 4 r) (drop-drop 4 at zones) in
+    ap (λ (u : List ℕ). atMost u (take zoneWidth (drop at zones))) all
+    ∙ ap (atMost (take 4 least ++ take 4 (drop 4 least))) row
+    ∙ at-most-parts (take 4 least) (take 4 (drop at zones)) (take 4 (drop 4 least)) (take 4 (drop (at + 4) zones))
+    (length-take-le 4 least (omega arith) ∙ sym (length-take-le 4 (drop at zones) (omega (arith, long))))
 
 -- the first p of a corner's four numbers
 pub front-corner : (p : ℕ) (zones : List ℕ) (i : ℕ) (t : List ℕ) → p ≤ maxObjectives

@@ -1,7 +1,7 @@
 -- The steps of a split, row by row.
 use mathlib.Core.Path.{_≡_}
 use mathlib.Core.Logic.{_⊎_}
-use mathlib.Core.Bool.{true}
+use mathlib.Core.Bool.{true, false}
 use mathlib.Core.List.{List}
 use Prim.Native.Nat.{ℕ, _+_, _*_, _≤_, _<_}
 use lib.ListN.{length, getD, take, drop}
@@ -18,7 +18,7 @@ rowIn zones i = take zoneWidth (drop (zoneWidth * i) zones)
 
 -- a number of row i is below that of a clamped bound
 abbrev pub Under : List ℕ → List ℕ → ℕ → Type 0
-Under zones least i = (j : ℕ) × (getD zones (zoneWidth * i + j) 0 < getD least j 0)
+Under zones least i = atMost least (rowIn zones i) ≡ false
 
 -- row i has the corner t in every direction, and the other rows are kept
 pub record Written (d : DD.Directions) (zones : List ℕ) (i : ℕ) (t zones′ : List ℕ) : Type 0 where

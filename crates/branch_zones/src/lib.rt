@@ -3,7 +3,7 @@
 ghost use mathlib.Core.Path.{_≡_};
 ghost use mathlib.Core.Bool.{true, false};
 ghost use Prim.Native.Nat.{ℕ, _+_, _-_, _<_, _≤_};
-ghost use lib.ListN.{length, getD, take};
+ghost use lib.ListN.{length, getD, take, drop};
 ghost use Rattle.model.specs.Basics.{All};
 ghost use Rattle.model.specs.Limits.{maxObjectives};
 ghost use Rattle.model.specs.Problems.{Word};
@@ -37,38 +37,41 @@ fn clamp(x: u64) -> u32
     4294967295
 }
 
+// A row's number in eight bytes, as costs and bounds are.
+fn wide(x: u32) -> u64
+    ensures { λ r. ⌜ r ≡ x ⌝ }
+{
+    x as u64
+}
+
 // The first `width` numbers of a bound, clamped, and zeros, than which no number of a row is smaller. Always so many
 // rounds, so that all stay in registers.
-fn clamp_bound(b: [u64; 8], width: usize) -> [u32; 8]
+fn clamp_bound(b: [u64; 8], width: usize) -> [u64; 8]
     requires { ⌜ width ≤ maxDirections ⌝ }
-    ensures { λ r. ⌜ ((j : ℕ) → j < width → getD r j 0 ≡ clamped (getD b j 0))
+    ensures { λ r. ⌜ (length r ≡ maxDirections) × ((j : ℕ) → j < width → getD r j 0 ≡ clamped (getD b j 0))
         × ((j : ℕ) → width ≤ j → getD r j 0 ≡ 0) ⌝ }
 {
-    let mut least = [0u32; 8];
+    let mut least = [0u64; 8];
     let mut i: usize = 0;
     while i < ZONE_WIDTH {
         if i < width {
-            least[i] = clamp(b[i]);
+            least[i] = wide(clamp(b[i]));
         }
         i += 1;
     }
     least
 }
 
-// Whether no number is above that of the row that starts at `at`. No early end, so that all are compared at once.
-fn is_under(least: [u32; 8], at: usize, zones: &[u32]) -> bool
+// Whether no number is above that of the row that starts at `at`. By four and four, and not as many as there are
+// directions, so that all stay in registers.
+fn is_under(least: [u64; 8], at: usize, zones: &[u32]) -> bool
     requires { ⌜ at + zoneWidth ≤ length (now zones) ⌝ }
-    ensures { λ r. ⌜ (r ≡ false → (j : ℕ) × (getD (now (zones .entry)) (at + j) 0 < getD least j 0)) ⌝ }
+    ensures { λ r. ⌜ r ≡ atMost least (take zoneWidth (drop at (now (zones .entry)))) ⌝ }
 {
-    let mut under = true;
-    let mut j: usize = 0;
-    while j < ZONE_WIDTH {
-        if zones[at + j] < least[j] {
-            under = false;
-        }
-        j += 1;
+    if !vectors::is_at_most(&least, &vectors::numbers_at(zones, at), 4) {
+        return false;
     }
-    under
+    vectors::is_at_most(&least[4..], &vectors::numbers_at(zones, at + 4), 4)
 }
 
 // Lists those of the candidates that are reached: zones in which a vector with this bound, in every direction, may lie.
@@ -151,10 +154,10 @@ fn is_part_of(t: [u64; 4], z: [u64; 4], k: usize, p: usize, zones: &[u32]) -> bo
     ensures { λ r. ⌜ (r ≡ true → atMost (take p t) (cornerIn p (now (zones .entry)) k) ≡ true) ⌝ }
 {
     let corner = corner_at(k, zones);
-    if vectors::is_at_most(z, corner, p) {
+    if vectors::is_at_most(&z, &corner, p) {
         return false;
     }
-    vectors::is_at_most(t, corner, p)
+    vectors::is_at_most(&t, &corner, p)
 }
 
 // Whether one of `m` zones that `z` does not match has all of the zone with the corner `t`;
@@ -243,7 +246,7 @@ fn split_zone(
     if m + p > MAX_ZONES + 1 {
         return m;
     }
-    if !vectors::is_at_most(z, t, p) {
+    if !vectors::is_at_most(&z, &t, p) {
         return m;
     }
     let mut s = Places { count: m, free: i };

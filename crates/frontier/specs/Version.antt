@@ -8,7 +8,7 @@ abbrev pub minor : ℕ
 minor = 1
 
 abbrev pub patch : ℕ
-patch = 0
+patch = 1
 
 abbrev pub version : ℕ
 version = major * 1000000 + minor * 1000 + patch

@@ -11,7 +11,7 @@ const VERSION_MAJOR: u32 = 2;
 
 const VERSION_MINOR: u32 = 1;
 
-const VERSION_PATCH: u32 = 0;
+const VERSION_PATCH: u32 = 1;
 
 #[no_mangle]
 pub extern "C" fn frontier_version() -> u32

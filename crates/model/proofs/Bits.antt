@@ -37,6 +37,10 @@ and-false true b (inl e) = absurd (false≢true (sym e))
 and-false true b (inr e) = e
 and-false false b e = refl
 
+pub and-assoc : (a b c : Bool) → (a && (b && c)) ≡ ((a && b) && c)
+and-assoc true b c = refl
+and-assoc false b c = refl
+
 pub and-again : (a b : Bool) → (a && (a && b)) ≡ (a && b)
 and-again true b = refl
 and-again false b = refl

@@ -6,6 +6,7 @@ pub mod Lists
 pub mod Elements
 pub mod Zeros
 pub mod Vectors
+pub mod AtMostAt
 pub mod Sums
 pub mod Totals
 pub mod Scopes

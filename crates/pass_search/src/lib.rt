@@ -43,7 +43,7 @@ pub fn is_matched(c: [u64; 4], n: usize, work: &[u32], k: usize, p: usize) -> bo
 {
     let mut i: usize = 0;
     while i < k {
-        if vectors::is_at_most(rows::row_costs(i, work), c, p) {
+        if vectors::is_at_most(&rows::row_costs(i, work), &c, p) {
             return true;
         }
         i += 1;

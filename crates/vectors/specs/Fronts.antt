@@ -1,4 +1,5 @@
--- A cost vector is four numbers, of which the first p count, whatever stands beyond them.
+-- Two vectors by their first p numbers, whatever stands beyond them: four costs of which p count, or a bound in every
+-- direction.
 use mathlib.Core.Bool.{Bool}
 use mathlib.Core.List.{List}
 use Prim.Native.Nat.{ℕ, _<_}

@@ -23,10 +23,11 @@ pub fn is_under(a: [u64; 4], ceilings: [u64; 4], p: usize) -> bool
     true
 }
 
-// Whether `a` matches or beats `b`: each of the first `p` costs is at most the other's.
-pub fn is_at_most(a: [u64; 4], b: [u64; 4], p: usize) -> bool
-    requires { ⌜ p ≤ maxObjectives ⌝ }
-    ensures { λ r. ⌜ r ≡ frontAtMost p a b ⌝ }
+// Whether `a` matches or beats `b`: each of the first `p` numbers is at most the other's, whatever stands beyond them.
+// The one such test, of costs and of bounds in every direction. It is lent both, so that no caller copies them.
+pub fn is_at_most(a: &[u64], b: &[u64], p: usize) -> bool
+    requires { ⌜ (p ≤ length (now a)) × (p ≤ length (now b)) ⌝ }
+    ensures { λ r. ⌜ r ≡ frontAtMost p (now (a .entry)) (now (b .entry)) ⌝ }
 {
     let mut i: usize = 0;
     while i < p {

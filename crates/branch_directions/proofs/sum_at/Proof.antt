@@ -11,7 +11,7 @@ use Rattle.branch_directions.proofs.sum_at.Statement.{statement}
 use Rattle.branch_directions.proofs.sum_at.Tie as tie
 
 row-of-requires : tie.Need-row-of-requires
-row-of-requires c κs = omega (arith, c .before .pre .0 .few-sums, c .before .pre .1)
+row-of-requires c κs = omega (arith, c .before .pre .1)
 
 sum-of-requires : tie.Need-sum-of-requires
 sum-of-requires c κs =

@@ -1,51 +1,39 @@
--- `branch_pruning::is_within` meets its contract: the sum at which it stops.
-use mathlib.Core.Path.{refl}
-use Prim.Native.Nat.{_≤_, _-_}
+-- `branch_pruning::is_within` meets its contract: the bound's sums stand behind its costs.
+use mathlib.Core.Path.{ap, _∙_}
+use mathlib.Core.List.{List}
+use Prim.Native.Nat.{ℕ, _-_}
 use native.Mathlib.Omega.{arith}
-use Rattle.model.proofs.Bits.{true-false}
+use borrow.Author.Needs.{needs}
+use lib.ListN.{take, drop}
+use lib.Seq.{take-take}
+use Rattle.model.specs.Vectors.{atMost}
+use Rattle.branch_directions.specs.Directions.{maxSums, maxDirections, sumsFrom}
+use Rattle.branch_directions.proofs.SumsOf.{sums-front}
 use Rattle.branch_pruning.proofs.is_within.Statement.{statement}
 use Rattle.branch_pruning.proofs.is_within.Tie as tie
 
-abbrev Inv-loop : tie.InvT-loop
-Inv-loop costs d b p sums k₀ k = k ≤ sums
-
-abbrev μ-loop : tie.MeasureT-loop
-μ-loop costs d b p sums k₀ k = sums - k
-
-sum-at-requires : tie.Need-sum-at-requires Inv-loop μ-loop
-sum-at-requires c κs =
-    let s = c .before .before in
-    (s .pre .0, omega arith, s .pre .1)
-
-add-if1 : tie.Need-add-if1 Inv-loop μ-loop
-add-if1 c = omega (arith, c .before .before .before .pre .0 .few, c .before .before .before .pre .0 .few-sums)
-
-mul-if1 : tie.Need-mul-if1 Inv-loop μ-loop
-mul-if1 c = omega (arith, c .before .before .before .pre .0 .few, c .before .before .before .pre .0 .few-sums)
-
-array-read-if1 : tie.Need-array-read-if1 Inv-loop μ-loop
-array-read-if1 c = omega (arith, c .before .before .before .pre .0 .few, c .before .before .before .pre .0 .few-sums)
-
-returns : tie.Need-returns Inv-loop μ-loop
+returns : tie.Need-returns
 returns c =
-    λ e. (c .before .before .before .loop .k, omega arith, omega (arith, c .if1 .taken, c .before .sum-at .ensures))
-
-add-k : tie.Need-add-k Inv-loop μ-loop
-add-k c = omega (arith, c .before .before .before .before .pre .0 .few-sums)
+    let summed = c .before .before .before .before in
+    let s = summed .before in
+    let d = s .args .d in
+    let p = d .objectives in
+    let behind = take-take (d .sums) (maxDirections - p) (drop p (s .args .t1))
+    (omega (arith, s .pre .0 .few, s .pre .0 .few-sums)) in
+    let costs = take p (s .args .costs) in
+    c .is-at-most .ensures
+    ∙ rw (summed .sums-of .ensures, sums-front d (d .sums) maxSums 0 costs (s .pre .0 .few-sums))
+    (ap (λ (u : List ℕ). atMost u (sumsFrom d (d .sums) 0 costs)) behind)
 
 pub is-within-spec : {M : Type 1} → statement M
 is-within-spec =
     tie.close
     (tie.spec
-    Inv-loop
-    μ-loop
-    (λ c. omega arith)  -- loop-holds
-    sum-at-requires
-    add-if1
-    mul-if1
-    array-read-if1
-    returns
-    add-k
-    (λ c. omega arith)  -- loop-less
-    (λ c. omega arith)  -- loop-again
-    (λ c e. absurd (true-false refl e)))  -- returns-2
+    (λ c κs. search needs)  -- sums-of-requires
+    (λ c. search needs)  -- mul-is-at-most
+    (λ c. search needs)  -- sub-is-at-most
+    (λ c. search needs)  -- part-is-at-most-start
+    (λ c. search needs)  -- part-is-at-most-end
+    (λ c. search needs)  -- slice-aggregate-is-at-most
+    (λ c κs. search needs)  -- is-at-most-requires
+    returns)

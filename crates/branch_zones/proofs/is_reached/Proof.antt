@@ -1,6 +1,6 @@
 -- `branch_zones::is_reached` meets its contract. The invariant: in the row of each candidate passed a number is below
 -- that of the bound.
-use mathlib.Core.Path.{sym}
+use mathlib.Core.Path.{sym, _∙_}
 use mathlib.Core.Bool.{false≢true}
 use Prim.Native.Nat.{ℕ, _-_, _≤_, _<_}
 use native.Mathlib.Omega.{arith}
@@ -77,7 +77,7 @@ is-under-requires c κs =
 loop-again : tie.Need-loop-again Inv-loop μ-loop
 loop-again c =
     let w = c .before .before .before .before .loop in
-    (omega arith, below-more _ (w .j) (w .inv .1) (c .before .is-under .ensures (c .if1 .left)))
+    (omega arith, below-more _ (w .j) (w .inv .1) (sym (c .before .is-under .ensures) ∙ c .if1 .left))
 
 returns-2 : tie.Need-returns-2 Inv-loop μ-loop
 returns-2 c =
@@ -86,7 +86,8 @@ returns-2 c =
     let least = clamped (c .before) .clamp-bound in
     λ f. sifted-none (s .pre .2)
     (λ j l. not-reached (s .pre .0) (s .pre .1) (s .args .b) (least .result)
-    (array-length w64 maxDirections (s .args .b) _ (s .good .0)) (least .ensures .0) (least .ensures .1) _
+    (array-length w64 maxDirections (s .args .b) _ (s .good .0)) (least .ensures .0) (least .ensures .1)
+    (least .ensures .2) _
     (s .pre .2 .inside j l) (w .inv .1 j (omega arith)))
 
 pub is-reached-spec : {M : Type 1} → statement M

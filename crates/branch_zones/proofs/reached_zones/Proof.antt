@@ -1,6 +1,6 @@
 -- `branch_zones::reached_zones` meets its contract. The invariant, `Sifting`: of the candidates passed those are kept
 -- in whose rows no number is below that of the bound.
-use mathlib.Core.Path.{_≡_, refl}
+use mathlib.Core.Path.{_≡_, refl, sym, _∙_}
 use mathlib.Core.Logic.{⊎-elim}
 use Prim.Native.Nat.{_-_, _≤_, _<_}
 use native.Mathlib.Omega.{arith}
@@ -99,7 +99,7 @@ loop-again c =
     let room : w .loop .kept < maxRows = omega (arith, s .pre .2 .few, h .fewer) in
     ⊎-elim
     (λ t. rw (t .1, t .2) (omega arith, sifting-kept h _ refl below room))
-    (λ t. rw (t .1, t .2) (omega arith, sifting-out h (c .before .is-under .ensures (t .0 .left))))
+    (λ t. rw (t .1, t .2) (omega arith, sifting-out h (sym (c .before .is-under .ensures) ∙ t .0 .left)))
     (c .if1 .came)
 
 cast-to : tie.Need-cast-to Inv-loop μ-loop
@@ -123,7 +123,8 @@ returns c =
     let all : w .j ≡ countIn (now (s .args .from)) = omega (arith, w .inv .0) in
     sifting-end (s .pre .2)
     (not-reached (s .pre .0) (s .pre .1) (s .args .b) (least .result)
-    (array-length w64 maxDirections (s .args .b) _ (s .good .0)) (least .ensures .0) (least .ensures .1))
+    (array-length w64 maxDirections (s .args .b) _ (s .good .0)) (least .ensures .0) (least .ensures .1)
+    (least .ensures .2))
     (rw all at (w .inv .1))
 
 pub reached-zones-spec : {M : Type 1} → statement M

@@ -17,23 +17,23 @@ use Rattle.pass_search.proofs.is_matched.Statement.{statement}
 use Rattle.pass_search.proofs.is_matched.Tie as tie
 
 abbrev Inv-loop : tie.InvT-loop
-Inv-loop c n work k p i₀ i = (i ≤ k) × (matchedFrom c n work k p i ≡ matched (take p c) (listIn p n work 0 k))
+Inv-loop n work k p c i₀ i = (i ≤ k) × (matchedFrom c n work k p i ≡ matched (take p c) (listIn p n work 0 k))
 
 abbrev μ-loop : tie.MeasureT-loop
-μ-loop c n work k p i₀ i = k - i
+μ-loop n work k p c i₀ i = k - i
 
 -- the rows from i on, by what is read and tested of row i
 step : (s : tie.Start Inv-loop μ-loop) (i : ℕ) → i < s .args .k → (row : List ℕ)
     → row ≡ costsIn maxObjectives (now (s .args .work)) i → (met : Bool)
-    → met ≡ frontAtMost (s .args .p) row (s .args .c)
-    → matchedFrom (s .args .c) (s .args .n) (now (s .args .work)) (s .args .k) (s .args .p) i
-    ≡ (met || matchedFrom (s .args .c) (s .args .n) (now (s .args .work)) (s .args .k) (s .args .p) (i + 1))
-step s i l = matched-step (s .args .c) (s .args .n) (now (s .args .work)) (s .args .k) (s .args .p) i l (s .pre .2)
+    → met ≡ frontAtMost (s .args .p) row (s .args .t1)
+    → matchedFrom (s .args .t1) (s .args .n) (now (s .args .work)) (s .args .k) (s .args .p) i
+    ≡ (met || matchedFrom (s .args .t1) (s .args .n) (now (s .args .work)) (s .args .k) (s .args .p) (i + 1))
+step s i l = matched-step (s .args .t1) (s .args .n) (now (s .args .work)) (s .args .k) (s .args .p) i l (s .pre .2)
 
 returns : tie.Need-returns Inv-loop μ-loop
 returns c =
     let tested = c .before in
-    let read = tested .before in
+    let read = tested .before .before .before in
     let turn = read .before in
     let w = turn .before .loop in
     let s = turn .before .before .before in
@@ -44,7 +44,7 @@ returns c =
 loop-again : tie.Need-loop-again Inv-loop μ-loop
 loop-again c =
     let tested = c .before in
-    let read = tested .before in
+    let read = tested .before .before .before in
     let turn = read .before in
     let w = turn .before .loop in
     let s = turn .before .before .before in
@@ -56,7 +56,7 @@ returns-2 : tie.Need-returns-2 Inv-loop μ-loop
 returns-2 c =
     let s = c .before .before .before in
     let w = c .before .loop in
-    sym (matched-end (s .args .c) (s .args .n) (now (s .args .work)) (s .args .k) (s .args .p) (w .i) (omega arith))
+    sym (matched-end (s .args .t1) (s .args .n) (now (s .args .work)) (s .args .k) (s .args .p) (w .i) (omega arith))
     ∙ w .inv .1
 
 pub is-matched-spec : {M : Type 1} → statement M
@@ -67,6 +67,8 @@ is-matched-spec =
     μ-loop
     (λ c. (omega arith, rw sub-zero refl))  -- loop-holds
     (λ c κs. search needs)  -- row-costs-requires
+    (λ c. search needs)  -- slice-aggregate-is-at-most
+    (λ c. search needs)  -- slice-aggregate-is-at-most-2
     (λ c κs. search needs)  -- is-at-most-requires
     returns
     (λ c. search needs)  -- add-i
