@@ -1,7 +1,8 @@
-//! A worker: a second process of the same program, for calls that cannot be interrupted. It keeps
-//! its buffers from question to question; one that is too slow is killed.
+//! A worker: a second process of the same program, or of another build of it, for calls that cannot be
+//! interrupted. It keeps its buffers from question to question; one that is too slow is killed.
 
 use std::io::{self, BufRead, BufReader, Write};
+use std::path::Path;
 use std::process::{Child, ChildStdin, ChildStdout, Command, Stdio};
 use std::sync::mpsc::{self, Receiver, RecvTimeoutError, Sender};
 use std::thread;
@@ -43,11 +44,19 @@ impl Worker {
 
     /// Starts the program with these words, which must make it a worker.
     pub fn start_with(words: &[&str]) -> Result<Worker, String> {
-        Worker::spawn(words).map_err(|error| format!("a second process cannot start: {error}"))
+        Worker::spawn(Path::new(THIS_PROGRAM), words)
+            .map_err(|error| format!("a second process cannot start: {error}"))
     }
 
-    fn spawn(words: &[&str]) -> io::Result<Worker> {
-        let mut process = Command::new(THIS_PROGRAM)
+    /// Starts another build of the program as a worker.
+    pub fn start_other(program: &Path) -> Result<Worker, String> {
+        let named = program.display();
+        Worker::spawn(program, &[WORKER])
+            .map_err(|error| format!("the program {named} cannot start: {error}"))
+    }
+
+    fn spawn(program: &Path, words: &[&str]) -> io::Result<Worker> {
+        let mut process = Command::new(program)
             .args(words)
             .stdin(Stdio::piped())
             .stdout(Stdio::piped())

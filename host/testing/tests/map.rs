@@ -22,7 +22,7 @@ const DEMANDS: Table = Table {
 
 const REQUESTS: Table = Table {
     head: "| Request |",
-    rows: 1,
+    rows: 2,
     columns: [(2, ""), (3, ""), (4, "")],
 };
 

@@ -127,6 +127,20 @@ fn the_chooser_is_measured_beside_plain_rust() {
     assert!(last.ends_with(" 0 faults"), "{text}");
 }
 
+/// Against itself the chooser has the same answers, and there are no nodes to tell.
+#[test]
+fn the_chooser_is_measured_against_another_build() {
+    let program = env!("CARGO_BIN_EXE_speed");
+    let output = speed(&["--only", "tight", "--against", program]);
+    let text = text_of(&output.stdout);
+    assert_eq!(output.status.code(), Some(0), "{text}");
+    assert!(text.contains("| Other over |"), "{text}");
+    assert!(text.contains("speed over the other library's"), "{text}");
+    assert!(!text.to_lowercase().contains("nodes"), "{text}");
+    let last = text.lines().last().unwrap_or_default();
+    assert_eq!(last, "12 problems, 24 answers compared, 0 faults", "{text}");
+}
+
 /// A stand-in for toulbar2 that always finds the same optimum.
 #[cfg(unix)]
 #[test]
@@ -184,6 +198,7 @@ fn help_names_the_options() {
         "--sets",
         "--growth",
         "--generated",
+        "--against",
         "numbers=N",
     ] {
         assert!(text.contains(option), "{option}");
@@ -192,7 +207,7 @@ fn help_names_the_options() {
 
 #[test]
 fn what_cannot_be_run_is_complained_about() {
-    let complaints: [(&[&str], &str); 7] = [
+    let complaints: [(&[&str], &str); 10] = [
         (
             &["--only", "nothing"],
             "there is no family 'nothing'; the families are comp, ",
@@ -205,6 +220,15 @@ fn what_cannot_be_run_is_complained_about() {
         ),
         (&["--settings"], "--settings takes settings"),
         (&["--generated", "x"], "--generated takes a number from 0"),
+        (&["--against"], "--against takes a program"),
+        (
+            &["--against", "no/such/program"],
+            "the program no/such/program cannot start",
+        ),
+        (
+            &["--plain-only", "--against", "speed"],
+            "with --plain-only nothing is measured against another library",
+        ),
         (&["--fast"], "there is no option '--fast'"),
     ];
     for (arguments, complaint) in complaints {

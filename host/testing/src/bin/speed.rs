@@ -1,8 +1,8 @@
-//! Measures the search on the repository's problems, the chooser and plain Rust in the same run, and
-//! prints a table. See `docs/PERFORMANCE.md`.
+//! Measures the search on the repository's problems, the chooser and plain Rust, or two libraries, in the
+//! same run, and prints a table. See `docs/PERFORMANCE.md`.
 
 use std::env;
-use std::path::Path;
+use std::path::{Path, PathBuf};
 use std::process::ExitCode;
 use std::time::Duration;
 
@@ -16,23 +16,30 @@ use testing::speed::cases::{only_family, read_cases, read_set, Case};
 use testing::speed::growth::growth_cases;
 use testing::speed::nights::night_cases;
 use testing::speed::report::{Columns, Report, Runs, SLOW};
-use testing::speed::sides::{serve_chooser, Calls, ChooserSide, Form, PlainSide, Run};
+use testing::speed::sides::{serve_chooser, Baseline, Calls, ChooserSide, Form, PlainSide, Run};
 use testing::speed::toulbar2;
 
 const USAGE: &str = "usage: speed [--limit SECONDS] [--only FAMILY] [--plain-only | --first-form]
-             [--sets | --growth | --generated SEED] [--work NUMBERS] [--settings NAME=VALUE,..]
+             [--against PROGRAM] [--sets | --growth | --generated SEED] [--work NUMBERS]
+             [--settings NAME=VALUE,..]
 Runs the problems of data/nightly and data/stress through the chooser and through plain Rust, each
 for at most SECONDS of processor time (default 2), compares the answers with the expected ones, and
 prints a table with a row for each family: the first part of a problem's name that is no number.
   --only FAMILY  runs one family
   --plain-only   leaves the chooser out
   --first-form   lets the chooser search by the first form: most problems are then given up
+  --against PROGRAM
+                 measures against the library of another build of this program, not plain Rust,
+                 in turns of which the quickest counts
   --work NUMBERS lends the chooser so much work memory (default 8192, the least)
   --sets         runs three nights, the largest problems and the harder ones instead, a row for each
   --growth       runs generated problems of growing size instead: n, d and p in turn
   --generated SEED
                  runs a generated night and generated problems of the largest size instead
   --settings     changes how plain Rust works:";
+
+/// Two libraries take so many turns at a problem, and the least time of each counts.
+const TURNS: usize = 5;
 
 /// The folders of problems.
 const FOLDERS: [&str; 2] = ["nightly", "stress"];
@@ -55,6 +62,8 @@ struct Options {
     only: Option<String>,
     settings: Settings,
     plain_only: bool,
+    /// Another build of this program, with another library.
+    against: Option<PathBuf>,
     calls: Calls,
     source: Source,
 }
@@ -66,6 +75,7 @@ fn asked_options(arguments: &[String]) -> Result<Options, String> {
         only: None,
         settings: Settings::default(),
         plain_only: false,
+        against: None,
         calls: Calls {
             form: Form::Second,
             work: LEAST_WORK,
@@ -82,6 +92,10 @@ fn asked_options(arguments: &[String]) -> Result<Options, String> {
                 options.settings = Settings::parse(text)?;
             }
             "--plain-only" => options.plain_only = true,
+            "--against" => {
+                let program = rest.next().ok_or("--against takes a program")?;
+                options.against = Some(program.into());
+            }
             "--first-form" => options.calls.form = Form::First,
             "--work" => options.calls.work = asked_work(rest.next())?,
             "--sets" => options.source = Source::Sets,
@@ -89,6 +103,9 @@ fn asked_options(arguments: &[String]) -> Result<Options, String> {
             "--generated" => options.source = Source::Generated(asked_seed(rest.next())?),
             other => return Err(format!("there is no option '{other}'")),
         }
+    }
+    if options.plain_only && options.against.is_some() {
+        return Err("with --plain-only nothing is measured against another library".into());
     }
     Ok(options)
 }
@@ -132,6 +149,7 @@ impl Options {
     fn columns(&self) -> Columns {
         Columns {
             chooser: !self.plain_only,
+            other: self.against.is_some(),
             toulbar2: toulbar2::is_installed(),
         }
     }
@@ -140,7 +158,7 @@ impl Options {
 /// The sides that run.
 struct Sides {
     chooser: Option<ChooserSide>,
-    plain: PlainSide,
+    baseline: Baseline,
     toulbar2: bool,
     limit: Duration,
 }
@@ -148,28 +166,56 @@ struct Sides {
 impl Sides {
     fn start(options: &Options, columns: Columns) -> Result<Sides, String> {
         let chooser = match columns.chooser {
-            true => Some(ChooserSide::start(options.calls, options.limit)?),
+            true => Some(ChooserSide::start(None, options.calls, options.limit)?),
             false => None,
+        };
+        let baseline = match &options.against {
+            Some(program) => Baseline::Other(ChooserSide::start(
+                Some(program),
+                options.calls,
+                options.limit,
+            )?),
+            None => Baseline::Plain(PlainSide::new(options.settings, options.limit)),
         };
         Ok(Sides {
             chooser,
-            plain: PlainSide::new(options.settings, options.limit),
+            baseline,
             toulbar2: columns.toulbar2,
             limit: options.limit,
         })
     }
 
     fn run(&mut self, case: &Case) -> Result<Runs, String> {
-        let chooser = self.chooser.as_mut().map(|side| side.run(&case.bytes));
-        let plain = self.plain.run(&case.bytes);
+        let (chooser, baseline) = self.run_in_turns(case)?;
         let toulbar2 = self.run_toulbar2(case).transpose()?;
         let (toulbar2, toulbar2_own) = toulbar2.unzip();
         Ok(Runs {
-            chooser: chooser.transpose()?,
-            plain,
+            chooser,
+            baseline,
             toulbar2,
             toulbar2_own: toulbar2_own.flatten(),
         })
+    }
+
+    /// The chooser and the baseline, once each, or in turns where the baseline is another library.
+    fn run_in_turns(&mut self, case: &Case) -> Result<(Option<Run>, Run), String> {
+        let Some(side) = &mut self.chooser else {
+            return Ok((None, self.baseline.run(&case.bytes)?));
+        };
+        let mut chooser = side.run(&case.bytes)?;
+        let mut baseline = self.baseline.run(&case.bytes)?;
+        let turns = match self.baseline {
+            Baseline::Plain(_) => 1,
+            Baseline::Other(_) => TURNS,
+        };
+        for _ in 1..turns {
+            if !(chooser.is_answered() && baseline.is_answered()) {
+                break;
+            }
+            chooser = chooser.quicker(side.run(&case.bytes)?);
+            baseline = baseline.quicker(self.baseline.run(&case.bytes)?);
+        }
+        Ok((Some(chooser), baseline))
     }
 
     /// toulbar2 knows problems with one objective only.
@@ -198,9 +244,13 @@ fn run_speed(options: &Options) -> Result<bool, String> {
 fn print_report(options: &Options, columns: Columns, report: &Report) {
     let (slow, limit) = (SLOW.as_secs_f64(), options.limit.as_secs_f64());
     println!("Processor time in seconds. A problem is given up after {limit} s.");
-    println!("Over: more than {slow} s, or given up. Nodes: values tried.");
+    let (nodes, baseline) = match columns.other {
+        true => ("", "the other library's"),
+        false => (" Nodes: values tried.", "plain Rust's"),
+    };
+    println!("Over: more than {slow} s, or given up.{nodes}");
     if columns.chooser {
-        println!("Ratio: the chooser's speed over plain Rust's, 1 is equal and less is slower.");
+        println!("Ratio: the chooser's speed over {baseline}, 1 is equal and less is slower.");
     }
     let toulbar2 = match columns.toulbar2 {
         true => "toulbar2 runs on problems with one objective; its times are what passes.",

@@ -22,7 +22,7 @@ const SPARSE: &str = "single_m";
 /// What the sides made of one problem; a side that did not run has none.
 pub struct Runs {
     pub chooser: Option<Run>,
-    pub plain: Run,
+    pub baseline: Run,
     pub toulbar2: Option<Run>,
     /// What toulbar2 says of its own time.
     pub toulbar2_own: Option<Duration>,
@@ -43,7 +43,7 @@ struct Total {
 
 impl Total {
     fn add(&mut self, run: &Run) {
-        let unanswered = !matches!(run.ending, Ending::Answered(_));
+        let unanswered = !run.is_answered();
         self.problems += 1;
         self.over += usize::from(unanswered || run.time > SLOW);
         self.unanswered += usize::from(unanswered);
@@ -83,37 +83,37 @@ impl Total {
 #[derive(Clone, Default)]
 struct Ratio {
     chooser: Duration,
-    plain: Duration,
+    baseline: Duration,
     /// A side gave a problem up that the other one answered, so its time is longer than known.
     chooser_longer: bool,
-    plain_longer: bool,
+    baseline_longer: bool,
 }
 
 impl Ratio {
-    fn add(&mut self, chooser: &Run, plain: &Run) {
-        let [one, other] = [chooser, plain].map(|run| matches!(run.ending, Ending::Answered(_)));
+    fn add(&mut self, chooser: &Run, baseline: &Run) {
+        let [one, other] = [chooser, baseline].map(Run::is_answered);
         if one || other {
             self.chooser += chooser.time;
-            self.plain += plain.time;
+            self.baseline += baseline.time;
             self.chooser_longer |= !one;
-            self.plain_longer |= !other;
+            self.baseline_longer |= !other;
         }
     }
 
     fn join(&mut self, other: &Ratio) {
         self.chooser += other.chooser;
-        self.plain += other.plain;
+        self.baseline += other.baseline;
         self.chooser_longer |= other.chooser_longer;
-        self.plain_longer |= other.plain_longer;
+        self.baseline_longer |= other.baseline_longer;
     }
 
-    /// The chooser's speed divided by plain Rust's.
+    /// The chooser's speed divided by the baseline's.
     fn text(&self) -> String {
-        if self.chooser.is_zero() || (self.chooser_longer && self.plain_longer) {
+        if self.chooser.is_zero() || (self.chooser_longer && self.baseline_longer) {
             return "-".to_string();
         }
-        let ratio = self.plain.as_secs_f64() / self.chooser.as_secs_f64();
-        match (self.chooser_longer, self.plain_longer) {
+        let ratio = self.baseline.as_secs_f64() / self.chooser.as_secs_f64();
+        match (self.chooser_longer, self.baseline_longer) {
             (true, _) => format!("<{ratio:.4}"),
             (_, true) => format!(">{ratio:.4}"),
             _ => format!("{ratio:.4}"),
@@ -147,17 +147,17 @@ impl Searches {
 struct Row {
     name: String,
     chooser: Total,
-    plain: Total,
+    baseline: Total,
     toulbar2: Total,
     ratio: Ratio,
 }
 
 impl Row {
     fn add(&mut self, runs: &Runs) {
-        self.plain.add(&runs.plain);
+        self.baseline.add(&runs.baseline);
         if let Some(chooser) = &runs.chooser {
             self.chooser.add(chooser);
-            self.ratio.add(chooser, &runs.plain);
+            self.ratio.add(chooser, &runs.baseline);
         }
         if let Some(toulbar2) = &runs.toulbar2 {
             self.toulbar2.add(toulbar2);
@@ -166,16 +166,18 @@ impl Row {
 
     fn join(&mut self, other: &Row) {
         self.chooser.join(&other.chooser);
-        self.plain.join(&other.plain);
+        self.baseline.join(&other.baseline);
         self.toulbar2.join(&other.toulbar2);
         self.ratio.join(&other.ratio);
     }
 }
 
-/// Which sides have columns besides plain Rust.
+/// Which sides have columns.
 #[derive(Clone, Copy)]
 pub struct Columns {
     pub chooser: bool,
+    /// The baseline is the chooser with another library, and not plain Rust.
+    pub other: bool,
     pub toulbar2: bool,
 }
 
@@ -238,8 +240,7 @@ impl Report {
     fn add_sparse(&mut self, case: &Case, runs: &Runs) {
         if let (Some(chooser), Some(own)) = (&runs.chooser, runs.toulbar2_own) {
             if case.name.starts_with(SPARSE) {
-                let answered = matches!(chooser.ending, Ending::Answered(_));
-                self.sparse[0] += usize::from(answered && chooser.time <= own);
+                self.sparse[0] += usize::from(chooser.is_answered() && chooser.time <= own);
                 self.sparse[1] += 1;
             }
         }
@@ -286,7 +287,11 @@ impl Report {
     /// Compares the answers with the expected text, or with each other where none is known.
     fn compare(&mut self, case: &Case, runs: &Runs) {
         let chooser = runs.chooser.as_ref();
-        let sides = [("plain Rust", Some(&runs.plain)), ("the chooser", chooser)];
+        let baseline = match self.columns.other {
+            true => "the other library",
+            false => "plain Rust",
+        };
+        let sides = [(baseline, Some(&runs.baseline)), ("the chooser", chooser)];
         let mut known = case.expected.clone();
         for (side, run) in sides {
             let answer = run.and_then(|run| self.answer(case, side, run));
@@ -344,7 +349,10 @@ impl Report {
         if self.columns.chooser {
             header.extend(["Chooser over", "worst", "total"]);
         }
-        header.extend(["Plain over", "worst", "total", "nodes"]);
+        header.extend(match self.columns.other {
+            true => vec!["Other over", "worst", "total"],
+            false => vec!["Plain over", "worst", "total", "nodes"],
+        });
         if self.columns.chooser {
             header.push("Ratio");
         }
@@ -355,12 +363,14 @@ impl Report {
     }
 
     fn cells(&self, row: &Row) -> Vec<String> {
-        let mut cells = vec![row.name.clone(), row.plain.problems.to_string()];
+        let mut cells = vec![row.name.clone(), row.baseline.problems.to_string()];
         if self.columns.chooser {
             cells.extend(row.chooser.cells());
         }
-        cells.extend(row.plain.cells());
-        cells.push(row.plain.at_least(row.plain.nodes.to_string()));
+        cells.extend(row.baseline.cells());
+        if !self.columns.other {
+            cells.push(row.baseline.at_least(row.baseline.nodes.to_string()));
+        }
         if self.columns.chooser {
             cells.push(row.ratio.text());
         }
@@ -373,7 +383,7 @@ impl Report {
 
     /// The last line: how many answers were compared.
     pub fn summary(&self) -> String {
-        let problems: usize = self.rows.iter().map(|row| row.plain.problems).sum();
+        let problems: usize = self.rows.iter().map(|row| row.baseline.problems).sum();
         format!(
             "{problems} problems, {} answers compared, {} faults",
             self.compared,

@@ -1,8 +1,9 @@
 //! The sides: the chooser over its C interface, in a worker because its call cannot be interrupted,
-//! and plain Rust. Both get junk in their buffers before each call; the call alone is timed. A call
+//! and what it is measured against: plain Rust, or the chooser with another library. All get junk in their buffers before each call; the call alone is timed. A call
 //! that takes less than a millisecond is made again, and the least time counts: the first one also
 //! pays for caches that hold what the other side has just done.
 
+use std::path::{Path, PathBuf};
 use std::time::Duration;
 
 use crate::owned::answer_text;
@@ -23,6 +24,20 @@ pub struct Run {
     pub nodes: Option<u64>,
     /// What the chooser's search took, where it answered by the plain call.
     pub measures: Option<Measures>,
+}
+
+impl Run {
+    pub fn is_answered(&self) -> bool {
+        matches!(self.ending, Ending::Answered(_))
+    }
+
+    /// The one of two runs that took less time.
+    pub fn quicker(self, other: Run) -> Run {
+        match other.time < self.time {
+            true => other,
+            false => self,
+        }
+    }
 }
 
 #[derive(Debug, PartialEq, Eq)]
@@ -73,18 +88,24 @@ pub struct Calls {
     pub work: usize,
 }
 
-/// The chooser, each problem with this limit.
+/// The chooser, each problem with this limit. Where a program is named, its worker is asked: another build
+/// of this one, with another library.
 pub struct ChooserSide {
+    program: Option<PathBuf>,
     worker: Worker,
     calls: Calls,
     limit: Duration,
 }
 
 impl ChooserSide {
-    pub fn start(calls: Calls, limit: Duration) -> Result<ChooserSide, String> {
-        let worker = Worker::start()?;
+    pub fn start(
+        program: Option<&Path>,
+        calls: Calls,
+        limit: Duration,
+    ) -> Result<ChooserSide, String> {
         Ok(ChooserSide {
-            worker,
+            program: program.map(Path::to_owned),
+            worker: worker_of(program)?,
             calls,
             limit,
         })
@@ -110,8 +131,16 @@ impl ChooserSide {
             worker::Ending::TooSlow => Ending::GivenUp,
             worker::Ending::Died => Ending::Died,
         };
-        self.worker = Worker::start()?;
+        self.worker = worker_of(self.program.as_deref())?;
         Ok(run(ended, self.limit, None))
+    }
+}
+
+/// A worker of this program, or of the one that is named.
+fn worker_of(program: Option<&Path>) -> Result<Worker, String> {
+    match program {
+        Some(program) => Worker::start_other(program),
+        None => Worker::start(),
     }
 }
 
@@ -206,6 +235,22 @@ impl PlainSide {
             time,
             nodes: Some(outcome.nodes),
             measures: None,
+        }
+    }
+}
+
+/// What the chooser is measured against.
+pub enum Baseline {
+    Plain(PlainSide),
+    /// The chooser with another library.
+    Other(ChooserSide),
+}
+
+impl Baseline {
+    pub fn run(&mut self, bytes: &[u8]) -> Result<Run, String> {
+        match self {
+            Baseline::Plain(side) => Ok(side.run(bytes)),
+            Baseline::Other(side) => side.run(bytes),
         }
     }
 }
