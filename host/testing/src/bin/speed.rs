@@ -16,7 +16,7 @@ use testing::speed::cases::{only_family, read_cases, read_set, Case};
 use testing::speed::growth::growth_cases;
 use testing::speed::nights::night_cases;
 use testing::speed::report::{Columns, Report, Runs, SLOW};
-use testing::speed::sides::{serve_chooser, Baseline, Calls, ChooserSide, Form, PlainSide, Run};
+use testing::speed::sides::{serve_chooser, Calls, ChooserSide, Form, PlainSide, Run};
 use testing::speed::toulbar2;
 
 const USAGE: &str = "usage: speed [--limit SECONDS] [--only FAMILY] [--plain-only | --first-form]
@@ -38,7 +38,7 @@ prints a table with a row for each family: the first part of a problem's name th
                  runs a generated night and generated problems of the largest size instead
   --settings     changes how plain Rust works:";
 
-/// Two libraries take so many turns at a problem, and the least time of each counts.
+/// Two libraries take so many turns at a problem.
 const TURNS: usize = 5;
 
 /// The folders of problems.
@@ -158,35 +158,29 @@ impl Options {
 /// The sides that run.
 struct Sides {
     chooser: Option<ChooserSide>,
-    baseline: Baseline,
+    /// The chooser with another library, in place of plain Rust.
+    other: Option<ChooserSide>,
+    plain: PlainSide,
     toulbar2: bool,
     limit: Duration,
 }
 
 impl Sides {
     fn start(options: &Options, columns: Columns) -> Result<Sides, String> {
-        let chooser = match columns.chooser {
-            true => Some(ChooserSide::start(None, options.calls, options.limit)?),
-            false => None,
-        };
-        let baseline = match &options.against {
-            Some(program) => Baseline::Other(ChooserSide::start(
-                Some(program),
-                options.calls,
-                options.limit,
-            )?),
-            None => Baseline::Plain(PlainSide::new(options.settings, options.limit)),
-        };
+        let start = |program| ChooserSide::start(program, options.calls, options.limit);
+        let chooser = columns.chooser.then(|| start(None)).transpose()?;
+        let other = options.against.as_deref();
         Ok(Sides {
             chooser,
-            baseline,
+            other: other.map(|program| start(Some(program))).transpose()?,
+            plain: PlainSide::new(options.settings, options.limit),
             toulbar2: columns.toulbar2,
             limit: options.limit,
         })
     }
 
     fn run(&mut self, case: &Case) -> Result<Runs, String> {
-        let (chooser, baseline) = self.run_in_turns(case)?;
+        let (chooser, baseline) = self.run_both(case)?;
         let toulbar2 = self.run_toulbar2(case).transpose()?;
         let (toulbar2, toulbar2_own) = toulbar2.unzip();
         Ok(Runs {
@@ -197,25 +191,17 @@ impl Sides {
         })
     }
 
-    /// The chooser and the baseline, once each, or in turns where the baseline is another library.
-    fn run_in_turns(&mut self, case: &Case) -> Result<(Option<Run>, Run), String> {
-        let Some(side) = &mut self.chooser else {
-            return Ok((None, self.baseline.run(&case.bytes)?));
+    /// The chooser and what it is measured against.
+    fn run_both(&mut self, case: &Case) -> Result<(Option<Run>, Run), String> {
+        let Some(chooser) = &mut self.chooser else {
+            return Ok((None, self.plain.run(&case.bytes)));
         };
-        let mut chooser = side.run(&case.bytes)?;
-        let mut baseline = self.baseline.run(&case.bytes)?;
-        let turns = match self.baseline {
-            Baseline::Plain(_) => 1,
-            Baseline::Other(_) => TURNS,
+        let Some(other) = &mut self.other else {
+            let run = chooser.run(&case.bytes)?;
+            return Ok((Some(run), self.plain.run(&case.bytes)));
         };
-        for _ in 1..turns {
-            if !(chooser.is_answered() && baseline.is_answered()) {
-                break;
-            }
-            chooser = chooser.quicker(side.run(&case.bytes)?);
-            baseline = baseline.quicker(self.baseline.run(&case.bytes)?);
-        }
-        Ok((Some(chooser), baseline))
+        let (one, two) = run_in_turns(chooser, other, &case.bytes)?;
+        Ok((Some(one), two))
     }
 
     /// toulbar2 knows problems with one objective only.
@@ -224,6 +210,24 @@ impl Sides {
         let asked = self.toulbar2 && problem.objectives() == 1;
         asked.then(|| toulbar2::run(&case.bytes, self.limit))
     }
+}
+
+/// Two libraries take turns at a problem, each time in new processes, and the least time of each counts; one turn where
+/// one of them gives up.
+fn run_in_turns(
+    chooser: &mut ChooserSide,
+    other: &mut ChooserSide,
+    bytes: &[u8],
+) -> Result<(Run, Run), String> {
+    let mut least = (chooser.run(bytes)?, other.run(bytes)?);
+    for _ in 1..TURNS {
+        if !(least.0.is_answered() && least.1.is_answered()) {
+            break;
+        }
+        let again = (chooser.run_anew(bytes)?, other.run_anew(bytes)?);
+        least = (least.0.quicker(again.0), least.1.quicker(again.1));
+    }
+    Ok(least)
 }
 
 /// Runs all problems and prints the table; whether all is as expected.

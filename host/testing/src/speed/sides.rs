@@ -111,6 +111,19 @@ impl ChooserSide {
         })
     }
 
+    /// Goes on with a new process.
+    fn renew(&mut self) -> Result<(), String> {
+        self.worker = worker_of(self.program.as_deref())?;
+        Ok(())
+    }
+
+    /// The same in a new process: how the memory of a process happens to lie can matter more than what two libraries
+    /// differ in.
+    pub fn run_anew(&mut self, bytes: &[u8]) -> Result<Run, String> {
+        self.renew()?;
+        self.run(bytes)
+    }
+
     pub fn run(&mut self, bytes: &[u8]) -> Result<Run, String> {
         let run = |ending, time, measures| Run {
             ending,
@@ -131,7 +144,7 @@ impl ChooserSide {
             worker::Ending::TooSlow => Ending::GivenUp,
             worker::Ending::Died => Ending::Died,
         };
-        self.worker = worker_of(self.program.as_deref())?;
+        self.renew()?;
         Ok(run(ended, self.limit, None))
     }
 }
@@ -235,22 +248,6 @@ impl PlainSide {
             time,
             nodes: Some(outcome.nodes),
             measures: None,
-        }
-    }
-}
-
-/// What the chooser is measured against.
-pub enum Baseline {
-    Plain(PlainSide),
-    /// The chooser with another library.
-    Other(ChooserSide),
-}
-
-impl Baseline {
-    pub fn run(&mut self, bytes: &[u8]) -> Result<Run, String> {
-        match self {
-            Baseline::Plain(side) => Ok(side.run(bytes)),
-            Baseline::Other(side) => side.run(bytes),
         }
     }
 }
