@@ -1,4 +1,5 @@
--- A cost vector in every direction: its length, order, sums and limits, its costs in front, and its leading sum.
+-- A cost vector in every direction: its length, order and limits, its costs in front, its leading sum, that it adds up,
+-- and a bound that is at most it, in two parts.
 use mathlib.Core.Path.{_≡_, refl, sym, ap, _∙_}
 use mathlib.Core.Bool.{_&&_}
 use mathlib.Core.List.{List, [], _∷_, _++_, append-nil}
@@ -6,7 +7,7 @@ use Prim.Native.Nat.{ℕ, zero, suc, _+_, _≤_, _<_}
 use native.Mathlib.Omega.{arith}
 use lib.Dec.{eqb}
 use lib.ListN.{length, getD, take, drop, length-append}
-use lib.Seq.{length-take-le, take-add, take-at, getD-at, getD-append-add}
+use lib.Seq.{length-take-le, take-add, take-at, getD-at}
 use borrow.Author.Tests.{ne-eqb}
 use Rattle.model.specs.Basics.{All, pick}
 use Rattle.model.specs.Core.{coreSumEnd}
@@ -14,13 +15,13 @@ use Rattle.model.specs.Vectors.{atMost, added}
 use Rattle.model.specs.Archive.{weighted}
 use Rattle.model.proofs.Bits.{and-both}
 use Rattle.model.proofs.Vectors.{AtMost, at-most-true, at-most-test}
+use Rattle.model.proofs.AtMostAt.{at-most-parts}
 use Rattle.model.proofs.Elements.{all-at, all-map, all-append}
 use Rattle.model.proofs.Sums.{added-at, added-append}
 use Rattle.branch_directions.specs.declared.Directions as DD
-use Rattle.branch_directions.specs.Directions.{directionEnd, weightsOf, sumsFrom, directionsOf, widthOf}
+use Rattle.branch_directions.specs.Directions.{directionEnd, sumsFrom, directionsOf, widthOf}
 use Rattle.branch_directions.specs.Directions.{leadWeights, leadAt, Sensible}
-use Rattle.model.proofs.AtMostAt.{at-most-parts}
-use Rattle.branch_directions.proofs.SumsOf.{sums-length, sums-at, sums-mono, sums-added, sums-limit}
+use Rattle.branch_directions.proofs.SumsOf.{sums-length, sums-mono, sums-added, sums-limit}
 
 -- for any number of costs
 width : (d : DD.Directions) (v : List ℕ) → length (directionsOf d v) ≡ length v + d .sums
@@ -67,14 +68,6 @@ pub directions-costs : (d : DD.Directions) (v : List ℕ) → length v ≡ d .ob
     → take (d .objectives) (directionsOf d v) ≡ v
 unfolding directionsOf
 directions-costs d v e = take-at v (sumsFrom d (d .sums) 0 v) (d .objectives) e
-
--- the sums stand behind the costs
-pub directions-sum : (d : DD.Directions) (v : List ℕ) → length v ≡ d .objectives → (k : ℕ) → k < d .sums
-    → getD (directionsOf d v) (d .objectives + k) 0 ≡ weighted (weightsOf d k) v
-unfolding directionsOf
-directions-sum d v e k h =
-    let same : 0 + k ≡ k = omega arith in
-    (rw e at (getD-append-add v (sumsFrom d (d .sums) 0 v) k 0)) ∙ (rw same at (sums-at d (d .sums) 0 v k h))
 
 -- one objective alone, with the weight 1
 alone-sum : (v : List ℕ) → length v ≡ 1 → getD v 0 0 ≡ weighted (1 ∷ []) v

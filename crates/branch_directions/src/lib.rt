@@ -63,7 +63,7 @@ fn row_of(table: [u64; 16], i: usize) -> [u64; 4]
     [table[at], table[at + 1], table[at + 2], table[at + 3]]
 }
 
-// The weights of row `i` with the first costs of `v`: where there are more than `i` sums, sum `i`.
+// The first costs of `v`, weighted with row `i` of the weights: sum `i`, where there are so many.
 fn sum_at(v: [u64; 4], i: usize, d: Directions) -> u64
     requires { ⌜ Sensible d × (i < maxSums) × All (λ c. c < coreSumEnd) (take (d .objectives) v) ⌝ }
     ensures { λ r. ⌜ r ≡ weighted (weightsOf d i) (take (d .objectives) v) ⌝ }

@@ -1,7 +1,7 @@
 -- A bound that is not at most a zone's row, clamped as the row is: nothing in the zone is that large.
 use mathlib.Core.Path.{_≡_, sym, _∙_}
 use mathlib.Core.Logic.{⊎-elim}
-use mathlib.Core.Bool.{true, false}
+use mathlib.Core.Bool.{true}
 use mathlib.Core.List.{List}
 use Prim.Native.Nat.{ℕ, _*_, _≤_, _<_}
 use native.Mathlib.Omega.{arith}
@@ -44,7 +44,7 @@ module _ {d : DD.Directions} {zones : List ℕ} {m : ℕ} (sensible : Sensible d
   -- what is as large as the bound in every direction is so when clamped
   clamped-at-most : atMost (take (widthOf d) b) dirs ≡ true → (j : ℕ) → j < zoneWidth
       → getD least j 0 ≤ getD (rowIn zones i) j 0
-  clamped-at-most t j l8 =
+  clamped-at-most t j few =
       ⊎-elim
       (λ u. number (ltb-true j (widthOf d) u))
       (λ u. omega (arith, zeros j (ltb-false j (widthOf d) u)))
@@ -60,7 +60,7 @@ module _ {d : DD.Directions} {zones : List ℕ} {m : ℕ} (sensible : Sensible d
             clamped-mono (getD b j 0) (getD dirs j 0) most,
             numbers j h,
             old .numbers i j l h,
-            front-number zoneWidth zones i j l8,
+            front-number zoneWidth zones i j few,
           )
 
   pub not-reached : Under zones least i → Missed d zones b i

@@ -17,8 +17,8 @@ use testing::stored::nightly;
 /// How many random problems get one more objective.
 const CASES: u64 = 5_000;
 
-/// Of the night's problems those with at most so many variables are asked. The plans have no use for an objective
-/// that tells nothing, and larger problems take long with it.
+/// Of the night's problems those with at most so many variables are asked. The plans have no use for
+/// an objective that tells nothing, and larger problems take long with it.
 const MOST_VARIABLES: usize = 18;
 
 /// The problem with its first three objectives, or all if it has fewer.

@@ -1,6 +1,4 @@
 -- `branch_pruning::is_above_at` meets its contract: a cost or a sum tells.
-use mathlib.Core.Path.{_≡_, sym, _∙_}
-use mathlib.Core.Bool.{Bool, false}
 use Prim.Native.Nat.{_≤_}
 use native.Mathlib.Omega.{arith}
 use lib.ListN.{length, take, drop}

@@ -1,5 +1,5 @@
-//! Measures the search on the repository's problems, the chooser and plain Rust, or two libraries, in the
-//! same run, and prints a table. See `docs/PERFORMANCE.md`.
+//! Measures the search on the repository's problems, the chooser and plain Rust, or two libraries, in
+//! the same run, and prints a table. See `docs/PERFORMANCE.md`.
 
 use std::env;
 use std::path::{Path, PathBuf};
@@ -212,8 +212,8 @@ impl Sides {
     }
 }
 
-/// Two libraries take turns at a problem, each time in new processes, and the least time of each counts; one turn where
-/// one of them gives up.
+/// Two libraries take turns at a problem, each time in new processes, and the least time of each
+/// counts; no further turn where one of them gives up.
 fn run_in_turns(
     chooser: &mut ChooserSide,
     other: &mut ChooserSide,

@@ -1,7 +1,8 @@
 //! The sides: the chooser over its C interface, in a worker because its call cannot be interrupted,
-//! and what it is measured against: plain Rust, or the chooser with another library. All get junk in their buffers before each call; the call alone is timed. A call
-//! that takes less than a millisecond is made again, and the least time counts: the first one also
-//! pays for caches that hold what the other side has just done.
+//! and what it is measured against: plain Rust, or the chooser with another library. All get junk in
+//! their buffers before each call; the call alone is timed. A call that takes less than a millisecond
+//! is made again, and the least time counts: the first one also pays for caches that hold what the
+//! other side has just done.
 
 use std::path::{Path, PathBuf};
 use std::time::Duration;
@@ -31,9 +32,9 @@ impl Run {
         matches!(self.ending, Ending::Answered(_))
     }
 
-    /// The one of two runs that took less time.
+    /// The one of two runs that took less time, or the second if its process died.
     pub fn quicker(self, other: Run) -> Run {
-        match other.time < self.time {
+        match other.ending == Ending::Died || other.time < self.time {
             true => other,
             false => self,
         }
@@ -88,8 +89,8 @@ pub struct Calls {
     pub work: usize,
 }
 
-/// The chooser, each problem with this limit. Where a program is named, its worker is asked: another build
-/// of this one, with another library.
+/// The chooser, each problem with this limit. Where a program is named, its worker is asked: another
+/// build of this one, with another library.
 pub struct ChooserSide {
     program: Option<PathBuf>,
     worker: Worker,
@@ -117,8 +118,8 @@ impl ChooserSide {
         Ok(())
     }
 
-    /// The same in a new process: how the memory of a process happens to lie can matter more than what two libraries
-    /// differ in.
+    /// Runs in a new process: how the memory of a process happens to lie can matter more than what
+    /// two libraries differ in.
     pub fn run_anew(&mut self, bytes: &[u8]) -> Result<Run, String> {
         self.renew()?;
         self.run(bytes)
