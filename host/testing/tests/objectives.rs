@@ -99,7 +99,7 @@ impl Added {
     }
 }
 
-/// All calls that list points, with every objective that can be added.
+/// The plain call by both forms of the search, and the cut, with every objective that can be added.
 fn check_added(case: &mut Case) -> Verdict {
     let problem = narrowed(&case.problem);
     let sides = uncrossed_sides(&mut case.rng, &problem);
