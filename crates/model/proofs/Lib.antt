@@ -42,6 +42,10 @@ pub mod Prefixes
 pub mod LeastEntry
 pub mod Bounded
 pub mod SumLimits
+-- the order of the cost records does not matter
+pub mod Alike
+pub mod Rearranged
+pub mod Rearrangements
 -- the search
 pub mod Passes
 pub mod Tree

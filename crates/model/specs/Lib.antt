@@ -16,5 +16,6 @@ pub mod Views
 pub mod Merging
 pub mod Suffixes
 pub mod Archive
+pub mod Rearrangements
 pub mod Calls
 pub mod Demands
