@@ -22,4 +22,5 @@ pub mod ByReader
 -- the whole
 pub mod Parts
 pub mod Accepted
+pub mod AcceptedTables
 pub mod Readings

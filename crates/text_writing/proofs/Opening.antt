@@ -4,17 +4,16 @@ use mathlib.Core.List.{List, [], _∷_}
 use Prim.Native.Nat.{ℕ, _≤_, _<_}
 use native.Mathlib.Omega.{arith}
 use lib.ListN.{length, getD, take}
-use lib.Seq.{length-take-le}
 use Rattle.model.specs.Basics.{All}
 use Rattle.model.specs.Limits.{maxObjectives}
 use Rattle.model.specs.Encoding.{Byte}
-use Rattle.model.specs.Reading.{headTables, domainsOf, tablesStart, tablesAt, problemOf}
+use Rattle.model.specs.Reading.{headTables, domainsOf, tablesStart, problemOf}
 use Rattle.model.specs.Calls.{padded}
 use Rattle.model.proofs.Reading.{accepted-encoded}
 use Rattle.model.proofs.TableRecords.{length-tablesAt}
 use Rattle.problem.specs.declared.Reading as DG
-use Rattle.problem.specs.Says.{startOf}
 use Rattle.problem.proofs.Accepted.{AcceptedReading}
+use Rattle.problem.proofs.AcceptedTables.{taken, sizes-held, tables-held}
 use Rattle.text_networks.specs.NetworkTexts.{networkText}
 use Rattle.text_networks.proofs.TextLength.{text-fits}
 use Rattle.text_writing.specs.Opened.{Opened}
@@ -26,13 +25,6 @@ first-padded [] = refl
 first-padded (x ∷ xs) = refl
 
 module _ (s : List ℕ) (r : DG.Reading) (a : AcceptedReading s r) where
-  -- the domain sizes are the first n of the array
-  pub within : r .head .variables ≤ length (r .sizes)
-  within = omega (arith, a .room, a .few-variables)
-
-  pub taken : r .head .variables ≡ length (take (r .head .variables) (r .sizes))
-  taken = sym (length-take-le (r .head .variables) (r .sizes) within)
-
   pub more-objectives : 1 < r .head .objectives → 1 < problemOf s .objectives
   unfolding problemOf
   more-objectives h = omega (arith, a .objectives)
@@ -41,19 +33,9 @@ module _ (s : List ℕ) (r : DG.Reading) (a : AcceptedReading s r) where
   unfolding problemOf
   one-objective few = omega (arith, a .objectives, a .few-objectives .0)
 
-  -- the cost records are the problem's tables
-  tables-held : tablesAt (r .head .tables) (take (r .head .variables) (r .sizes)) s (startOf (r .head))
-      ≡ problemOf s .tables
-  unfolding problemOf
-  tables-held = rw (a .domains, a .variables, a .objectives, a .tables) refl
-
   tables-many : r .head .tables ≡ length (problemOf s .tables)
   unfolding problemOf
   tables-many = a .tables ∙ sym (length-tablesAt (headTables s) (domainsOf s) s (tablesStart s))
-
-  sizes-held : take (r .head .variables) (r .sizes) ≡ problemOf s .domains
-  unfolding problemOf
-  sizes-held = a .domains
 
   -- the place behind its text is a 32-bit number
   pub text-placed : All Byte s → r .head .objectives ≤ 1 → length (networkText (problemOf s)) ≤ 255000
@@ -62,10 +44,10 @@ module _ (s : List ℕ) (r : DG.Reading) (a : AcceptedReading s r) where
   pub opened : All Byte s → r .head .objectives ≤ 1 → Opened s (r .head) (take (r .head .variables) (r .sizes))
   opened bytes few =
       record {
-        domains = sizes-held;
-        variables = taken;
-        some = omega (arith, taken, a .few-variables .0);
-        tables = tables-held;
+        domains = sizes-held s r a;
+        variables = taken s r a;
+        some = omega (arith, taken s r a, a .few-variables .0);
+        tables = tables-held s r a;
         many = tables-many;
         bound = ap (λ (l : List ℕ). getD l 0 0) (a .ceilings) ∙ first-padded (problemOf s .ceilings);
         whole = a .whole;

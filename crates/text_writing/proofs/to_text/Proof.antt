@@ -12,8 +12,9 @@ use Rattle.model.specs.Reading.{problemOf}
 use Rattle.model.proofs.Elements.{all-each}
 use Rattle.model.proofs.Places.{place-limit}
 use Rattle.problem.proofs.Accepted.{AcceptedReading, read-accepted}
+use Rattle.problem.proofs.AcceptedTables.{within, taken}
 use Rattle.text_writing.specs.Opened.{Opened}
-use Rattle.text_writing.proofs.Opening.{within, taken, more-objectives, one-objective, text-placed, opened}
+use Rattle.text_writing.proofs.Opening.{more-objectives, one-objective, text-placed, opened}
 use Rattle.text_writing.proofs.TextAnswers.{refused-answer, many-answer, short-answer, text-answer}
 use Rattle.text_writing.proofs.to_text.Statement.{statement}
 use Rattle.text_writing.proofs.to_text.Tie as tie
