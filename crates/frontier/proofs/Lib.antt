@@ -8,5 +8,7 @@ pub mod Demand2
 pub mod Demand3
 pub mod BoundLaws
 pub mod TextBack
+pub mod EqualForms
+pub mod CachedRuns
 -- walks by hand
 pub mod Lent

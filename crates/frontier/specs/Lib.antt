@@ -1,4 +1,5 @@
 -- What the public calls promise, what a caller has by these promises, and the version.
 pub mod Says
+pub mod Runs
 pub mod Demands
 pub mod Version

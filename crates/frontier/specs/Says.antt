@@ -4,12 +4,14 @@
 use mathlib.Core.Path.{_≡_}
 use mathlib.Core.List.{List, [], _∷_}
 use Prim.Native.Nat.{ℕ}
-use Rattle.model.specs.Basics.{All}
+use Rattle.model.specs.Basics.{All, when}
 use Rattle.model.specs.Encoding.{Byte}
 use Rattle.model.specs.Frontiers.{Point, point}
 use Rattle.model.specs.Calls.{SolveOutcome, ListOutcome, CutOutcome, BoundOutcome}
 use Rattle.model.specs.declared.Point as DP
 use Rattle.text_networks.specs.Conversions.{ConvertOutcome}
+use Rattle.form_canonical.specs.Canonical.{CanonicalOutcome}
+use Rattle.cache_answers.specs.Outcomes.{CachedOutcome}
 
 -- the plain call
 pub record SolveExports (s : List ℕ) (o : SolveOutcome) (costs′ choices′ work′ : List ℕ) (result at points : ℕ)
@@ -67,3 +69,26 @@ pub record ConvertExports (s : List ℕ) (o : ConvertOutcome) (output′ : List 
   pub place : at ≡ o .verdict .place
   pub count : written ≡ o .count
   pub output : output′ ≡ o .output
+
+-- the call for the canonical form and its key
+pub record CanonicalExports (s : List ℕ) (o : CanonicalOutcome) (form′ : List ℕ) (result at written told : ℕ)
+    : Type 0 where
+  pub bytes : All Byte s
+  pub number : result ≡ o .verdict .number
+  pub place : at ≡ o .verdict .place
+  pub count : written ≡ o .count
+  pub key : told ≡ o .key
+  pub form : form′ ≡ o .form
+
+-- the plain call with a store: a hit is told as 1, else 0
+pub record CachedExports (s : List ℕ) (o : CachedOutcome) (costs′ choices′ work′ store′ : List ℕ)
+    (result at points told : ℕ) : Type 0 where
+  pub bytes : All Byte s
+  pub number : result ≡ o .verdict .number
+  pub place : at ≡ o .verdict .place
+  pub count : points ≡ o .count
+  pub hit : told ≡ when (o .hit) 1
+  pub costs : costs′ ≡ o .costs
+  pub choices : choices′ ≡ o .choices
+  pub work : work′ ≡ o .work
+  pub store : store′ ≡ o .store

@@ -5,10 +5,10 @@ abbrev pub major : ℕ
 major = 2
 
 abbrev pub minor : ℕ
-minor = 1
+minor = 2
 
 abbrev pub patch : ℕ
-patch = 1
+patch = 0
 
 abbrev pub version : ℕ
 version = major * 1000000 + minor * 1000 + patch

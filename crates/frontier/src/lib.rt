@@ -1,17 +1,20 @@
 // The public calls, and their exports for C; the version.
 ghost use mathlib.Core.Path.{_≡_};
+ghost use Rattle.model.specs.Basics.{when};
 ghost use Rattle.model.specs.Calls.{solveOutcome, listOutcome, cutOutcome, boundOutcome};
 ghost use Rattle.text_networks.specs.Conversions.{toTextOutcome, fromTextOutcome};
 ghost use Rattle.frontier.specs.Says.{asPoints, SolveExports, ListExports, CutExports, BoundExports};
-ghost use Rattle.frontier.specs.Says.{ConvertExports};
+ghost use Rattle.form_canonical.specs.Canonical.{canonicalOutcome};
+ghost use Rattle.cache_answers.specs.Outcomes.{cachedOutcome};
+ghost use Rattle.frontier.specs.Says.{ConvertExports, CanonicalExports, CachedExports};
 ghost use Rattle.frontier.specs.Version.{version};
 
 // The version of the interface; include/frontier.h has the same three numbers.
 const VERSION_MAJOR: u32 = 2;
 
-const VERSION_MINOR: u32 = 1;
+const VERSION_MINOR: u32 = 2;
 
-const VERSION_PATCH: u32 = 1;
+const VERSION_PATCH: u32 = 0;
 
 #[no_mangle]
 pub extern "C" fn frontier_version() -> u32
@@ -253,4 +256,67 @@ pub extern "C" fn frontier_from_text(
 {
     let converted = problem_from_text(text, problem);
     text_networks::tell(converted, place, count)
+}
+
+// The canonical form of a problem, and its key.
+pub fn problem_canonical(problem: &[u8], form: &mut [u8]) -> form_canonical::Canonical
+    ensures { λ r. ⌜ CanonicalExports (now (problem .entry))
+        (canonicalOutcome (now (problem .entry)) (now (form .entry)))
+        (now (form .exit)) (r .number) (r .place) (r .count) (r .key) ⌝ }
+{
+    form_call::canonical_form(problem, form)
+}
+
+#[no_mangle]
+pub extern "C" fn frontier_canonical(
+    problem: &[u8],
+    form: &mut [u8],
+    place: &mut u32,
+    count: &mut u32,
+    key: &mut u64,
+) -> u8
+    ensures { λ r. ⌜ CanonicalExports (now (problem .entry))
+        (canonicalOutcome (now (problem .entry)) (now (form .entry)))
+        (now (form .exit)) r (now (place .exit)) (now (count .exit)) (now (key .exit)) ⌝ }
+{
+    let canonical = problem_canonical(problem, form);
+    form_canonical::tell(canonical, place, count, key)
+}
+
+// The plain call with a store of solved problems.
+pub fn solve_cached(
+    problem: &[u8],
+    costs: &mut [u32],
+    choices: &mut [u8],
+    work: &mut [u32],
+    store: &mut [u8],
+) -> cache_answers::Cached
+    ensures { λ r. ⌜ CachedExports (now (problem .entry))
+        (cachedOutcome (now (problem .entry)) (now (costs .entry)) (now (choices .entry)) (now (work .entry))
+        (now (store .entry)))
+        (now (costs .exit)) (now (choices .exit)) (now (work .exit)) (now (store .exit))
+        (r .number) (r .place) (r .count) (when (r .hit) 1) ⌝ }
+{
+    cache_call::solve_cached(problem, costs, choices, work, store)
+}
+
+#[no_mangle]
+pub extern "C" fn frontier_solve_cached(
+    problem: &[u8],
+    costs: &mut [u32],
+    choices: &mut [u8],
+    work: &mut [u32],
+    store: &mut [u8],
+    place: &mut u32,
+    count: &mut u32,
+    hit: &mut u8,
+) -> u8
+    ensures { λ r. ⌜ CachedExports (now (problem .entry))
+        (cachedOutcome (now (problem .entry)) (now (costs .entry)) (now (choices .entry)) (now (work .entry))
+        (now (store .entry)))
+        (now (costs .exit)) (now (choices .exit)) (now (work .exit)) (now (store .exit))
+        r (now (place .exit)) (now (count .exit)) (now (hit .exit)) ⌝ }
+{
+    let cached = solve_cached(problem, costs, choices, work, store);
+    cache_answers::tell(cached, place, count, hit)
 }

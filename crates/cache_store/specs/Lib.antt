@@ -1,0 +1,1 @@
+-- What the functions of the store rely on and ensure.

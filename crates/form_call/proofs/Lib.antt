@@ -1,0 +1,5 @@
+-- The laws behind the canonical call.
+pub mod TurnedRecords
+pub mod FormBytes
+pub mod Opening
+pub mod FormAnswers

@@ -1,0 +1,2 @@
+-- What writing the canonical form relies on.
+pub mod Opened

@@ -1,0 +1,2 @@
+-- A product modulo 2^64.
+pub mod Halves

@@ -1,0 +1,2 @@
+-- The key of some bytes.
+pub mod Keys

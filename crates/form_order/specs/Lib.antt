@@ -1,0 +1,2 @@
+-- Parts of a buffer of bytes.
+pub mod Parts
