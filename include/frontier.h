@@ -1,9 +1,11 @@
 /* The variant chooser's version, limits, numbers of refusal and calls, for C99, C++11 and later. Link libfrontier.a; it
- * needs nothing but the C library. There are six calls: frontier_solve lists the frontier of a problem; frontier_cut
+ * needs nothing but the C library. There are eight calls: frontier_solve lists the frontier of a problem; frontier_cut
  * lists it by way of two halves of the problem; frontier_bound bounds what a partial choice leads to; frontier_points
  * lists the frontier into point records; frontier_to_text writes a problem as WCSP text, which other solvers read;
- * frontier_from_text makes a problem of such a text. What a later version may change is in docs/INTERFACE.md; calls for
- * measurements are in frontier_measure.h.
+ * frontier_from_text makes a problem of such a text; frontier_canonical writes the canonical form of a problem, with a
+ * key, by which equal problems are found; frontier_solve_cached lists the frontier as frontier_solve does, and keeps
+ * answers in a store, from which it takes them when a problem comes again. What a later version may change is in
+ * docs/INTERFACE.md; calls for measurements are in frontier_measure.h.
  *
  * A problem is a string of bytes. Numbers in it are unsigned and little-endian, at any address, with nothing between
  * them. It is made of records, each of which starts with a mark of two letters:
@@ -37,8 +39,8 @@
 
 /* The version of this header, and in one number: 1002003 is 1.2.3. frontier_version gives that of the library. */
 #define FRONTIER_VERSION_MAJOR 2
-#define FRONTIER_VERSION_MINOR 1
-#define FRONTIER_VERSION_PATCH 1
+#define FRONTIER_VERSION_MINOR 2
+#define FRONTIER_VERSION_PATCH 0
 #define FRONTIER_VERSION (FRONTIER_VERSION_MAJOR * 1000000 + FRONTIER_VERSION_MINOR * 1000 + FRONTIER_VERSION_PATCH)
 
 /* limits of a problem */
@@ -52,6 +54,10 @@
 /* the most points of a list, and the least length of a work buffer, in 32-bit numbers */
 #define FRONTIER_MAX_POINTS 64
 #define FRONTIER_LEAST_WORK 8192
+
+/* the bytes of a slot, each of which keeps an answer, and the most slots of a store that count */
+#define FRONTIER_SLOT_BYTES 63000
+#define FRONTIER_MAX_SLOTS 32
 
 /* lengths of buffers that do for every problem, in elements, each named after the parameter that it is handed to */
 #define FRONTIER_COSTS_LEN (FRONTIER_MAX_POINTS * FRONTIER_MAX_OBJECTIVES)
@@ -80,7 +86,8 @@
 #define FRONTIER_REFUSED_PREFIX 16    /* prefix longer than n, or a value not in its domain */
 #define FRONTIER_REFUSED_TEXT 17      /* not WCSP text, a false largest domain, an undeclared variable or value */
 #define FRONTIER_REFUSED_DIALECT 18   /* p above 1; of a text: outside the limits, negative, too large, given twice */
-#define FRONTIER_REFUSED_OUTPUT 19    /* the buffer is shorter than the text, or the problem, that it is for */
+#define FRONTIER_REFUSED_OUTPUT 19    /* the buffer is shorter than the text, problem or form that it is for */
+#define FRONTIER_REFUSED_STORE 20     /* store under one slot, 63,000 bytes */
 
 /* The word for what a call returned, in letters and spaces; "unknown" for a number that this version does not name. The
  * string is constant and not null. */
@@ -88,6 +95,7 @@ static inline const char *frontier_word(uint8_t number) {
     static const char *const words[] = {
         "accepted", "oversize", "cut short", "stray mark", "variables", "objectives", "tables", "domain", "owner",
         "arity", "scope", "leftover", "work", "sides", "linked", "full", "prefix", "text", "dialect", "output",
+        "store",
     };
     return number < sizeof words / sizeof words[0] ? words[number] : "unknown";
 }
@@ -329,6 +337,95 @@ uint8_t frontier_to_text(const uint8_t *problem, size_t problem_len, uint8_t *te
  * stack, and that much only for a text with more than FRONTIER_MAX_VARIABLES variables. */
 uint8_t frontier_from_text(const uint8_t *text, size_t text_len, uint8_t *problem, size_t problem_len, uint32_t *place,
                            uint32_t *count);
+
+/* Writes the canonical form of a problem into the buffer that it is lent, and tells a key of it.
+ *
+ *   pointer  valid for                         null  may overlap
+ *   problem  problem_len bytes, read           no    nothing
+ *   form     form_len bytes, written           no    nothing
+ *   place    one number, written               no    nothing
+ *   count    one number, written               no    nothing
+ *   key      one number, written               no    nothing
+ *
+ * The form is a problem too: the same HD and DO records, then each CF record with its scope in rising order and its
+ * table turned to fit, so that it charges every choice what it did; and these records in rising order of their bytes.
+ * That is the order of a dictionary: of two records the first byte in which they differ decides, from the mark on over
+ * objective, arity and scope to the entries as they stand, with the lowest byte first. Records that are there twice
+ * stay so: nothing is left out, and no tables are added up.
+ *
+ * So problems that differ in nothing but the order of their CF records and the layout of scopes and tables have the
+ * same form, the form of a form is itself, and a problem has the frontier of its form. The key is the 64-bit FNV-1a of
+ * the form's bytes: from 14695981039346656037 on, for each byte an exclusive or with it and then a product with
+ * 1099511628211 modulo 2^64. Equal forms have equal keys. Different forms seldom have the same key, but it can happen,
+ * and can be brought about: a program for which that matters compares the forms.
+ *
+ * The form has exactly problem_len bytes, so FRONTIER_MAX_BYTES do for every problem. Nothing in the answer depends on
+ * what the buffer held before.
+ *
+ * The number of refusal is the result: 0 for none, 1 to 11 for the problem, then FRONTIER_REFUSED_OUTPUT if form_len is
+ * less than problem_len. *place becomes the place of the refusal, 0 with the last and without one; *count becomes how
+ * many bytes the form has, and *key its key; after a refusal both are 0. All three are always written, whatever they
+ * held. What the buffer holds afterwards:
+ *
+ *   result                 form
+ *   FRONTIER_ACCEPTED      the first *count bytes are the form, the rest is unchanged
+ *   another number         unchanged
+ *
+ * The call takes about 61 KB of stack. */
+uint8_t frontier_canonical(const uint8_t *problem, size_t problem_len, uint8_t *form, size_t form_len, uint32_t *place,
+                           uint32_t *count, uint64_t *key);
+
+/* Lists the frontier of a problem as frontier_solve does, and keeps answers in the store that it is lent: a problem
+ * that comes again, in whatever layout, has its answer from there, in a part of the time.
+ *
+ *   pointer  valid for                         null  may overlap
+ *   problem  problem_len bytes, read           no    nothing
+ *   costs    costs_len numbers, written        no    nothing
+ *   choices  choices_len bytes, written        no    nothing
+ *   work     work_len numbers, written         no    nothing
+ *   store    store_len bytes, written          no    nothing
+ *   place    one number, written               no    nothing
+ *   count    one number, written               no    nothing
+ *   hit      one byte, written                 no    nothing
+ *
+ * A store begins cleared: all its bytes are 0. From then on it is lent to this call alone, always with the same length,
+ * and nobody else writes to it. It has store_len / FRONTIER_SLOT_BYTES slots, rounded down, of which at most
+ * FRONTIER_MAX_SLOTS count; what lies behind them is not touched. A slot keeps a problem, in its canonical form, and
+ * its answer. If all are taken, the problem that was stored first of them gives way.
+ *
+ * Then any run of calls answers as frontier_solve would, with the same numbers, places, counts and points and the same
+ * work memory, whatever the problems and the buffers are; FRONTIER_REFUSED_FULL is told by the room of this call, and
+ * not of the one that stored the answer. *hit becomes 1 if the canonical form of the problem is that of one of the last
+ * problems stored, as many as there are slots, and else 0. It tells so also with FRONTIER_REFUSED_FULL; after any other
+ * refusal it is 0.
+ *
+ * A problem that is answered and was no hit is stored. So is one that is refused only because this call has too little
+ * room, and one without an allowed choice. One whose frontier has more than FRONTIER_MAX_POINTS points is not, and
+ * neither is one that is refused otherwise. A hit stores nothing, and leaves the order in which problems give way as it
+ * was.
+ *
+ * The bytes of a store may be kept, in a file for example, and lent again later; they are the same in all versions with
+ * the same major number, to the byte as docs/REFERENCE.md, section 15, has them. A store that did not begin cleared, or
+ * that something else was written to, does no harm: nothing is read or written outside of what is lent. But what it
+ * holds is taken for answers, which may then be wrong.
+ *
+ * The number of refusal is the result: 0 for none, 1 to 11 for the problem, then FRONTIER_REFUSED_WORK if work is too
+ * short, then FRONTIER_REFUSED_STORE if store_len is less than FRONTIER_SLOT_BYTES, then FRONTIER_REFUSED_FULL if the
+ * frontier has more points than room. *place becomes the place of the refusal, and 0 without one; *count becomes the
+ * number of points listed, and 0 after a refusal. All three are always written, whatever they held. What the buffers
+ * hold afterwards:
+ *
+ *   result                 costs and choices                                      work       store
+ *   FRONTIER_ACCEPTED      the first *count * p costs and *count * n choices are  all 0      unchanged after a hit,
+ *                          the points, the rest is unchanged                                 else with the problem
+ *   FRONTIER_REFUSED_FULL  unchanged                                              all 0      the same, but unchanged if
+ *                                                                                            there are too many points
+ *   another number         unchanged                                              unchanged  unchanged
+ *
+ * The call takes about 125 KB of stack. Without a hit it takes as long as frontier_solve, which can be long. */
+uint8_t frontier_solve_cached(const uint8_t *problem, size_t problem_len, uint32_t *costs, size_t costs_len,
+                              uint8_t *choices, size_t choices_len, uint32_t *work, size_t work_len, uint8_t *store,
+                              size_t store_len, uint32_t *place, uint32_t *count, uint8_t *hit);
 
 #ifdef __cplusplus
 }

@@ -5,6 +5,9 @@ use std::collections::BTreeMap;
 /// The names of the columns, as the first line has them.
 pub const COLUMNS: &str = "name,bytes,number,place,count,microseconds,digest";
 
+/// The name of the further column that a run with a cache has.
+pub const HIT_COLUMN: &str = "hit";
+
 /// What stands in the column of the number where a problem was given up or its process died.
 const NO_ANSWER: &str = "none";
 
@@ -18,6 +21,8 @@ pub struct Told {
     pub microseconds: u64,
     /// FNV-1a of the listed costs and choices.
     pub digest: u64,
+    /// Whether the cache held the problem; none in a run without one.
+    pub hit: Option<bool>,
 }
 
 /// A problem of a run: its name, its file's length, and the answer, if there was one.
@@ -37,18 +42,27 @@ fn quoted(field: &str) -> String {
     }
 }
 
-/// The table of these rows.
-pub fn write_rows(rows: &[Row]) -> String {
-    let mut text = format!("{COLUMNS}\n");
+/// The table of these rows, of a run with a cache or without.
+pub fn write_rows(rows: &[Row], cached: bool) -> String {
+    let mut text = COLUMNS.to_string();
+    if cached {
+        text.push_str(&format!(",{HIT_COLUMN}"));
+    }
+    text.push('\n');
     for Row { name, bytes, told } in rows {
-        let told = match told {
+        let shown = match told {
             None => format!("{NO_ANSWER},,,,"),
             Some(told) => format!(
                 "{},{},{},{},{:016x}",
                 told.number, told.place, told.count, told.microseconds, told.digest
             ),
         };
-        text.push_str(&format!("{},{bytes},{told}\n", quoted(name)));
+        text.push_str(&format!("{},{bytes},{shown}", quoted(name)));
+        if cached {
+            let hit = told.and_then(|told| told.hit);
+            text.push_str(hit.map_or(",", |hit| if hit { ",1" } else { ",0" }));
+        }
+        text.push('\n');
     }
     text
 }
@@ -57,7 +71,12 @@ pub fn write_rows(rows: &[Row]) -> String {
 pub fn parse_rows(text: &str) -> Result<BTreeMap<String, Row>, String> {
     let mut rest = text;
     let mut line = 1;
-    if take_record(&mut rest, &mut line)?.map(|fields| fields.join(",")) != Some(COLUMNS.into()) {
+    let columns = take_record(&mut rest, &mut line)?.unwrap_or_default();
+    let (cached, named) = match columns.split_last() {
+        Some((last, before)) if last == HIT_COLUMN => (true, before),
+        _ => (false, &columns[..]),
+    };
+    if named.join(",") != COLUMNS {
         return Err(format!("line 1: the columns {COLUMNS} are due"));
     }
     let mut rows = BTreeMap::new();
@@ -66,7 +85,11 @@ pub fn parse_rows(text: &str) -> Result<BTreeMap<String, Row>, String> {
         let Some(fields) = take_record(&mut rest, &mut line)? else {
             return Ok(rows);
         };
-        let row = parse_row(&fields).map_err(|complaint| format!("line {first}: {complaint}"))?;
+        let row = match cached {
+            true => parse_cached_row(&fields),
+            false => parse_row(&fields),
+        };
+        let row = row.map_err(|complaint| format!("line {first}: {complaint}"))?;
         let name = row.name.clone();
         if rows.insert(name.clone(), row).is_some() {
             return Err(format!("line {first}: '{name}' stands a second time"));
@@ -121,6 +144,7 @@ fn parse_row(fields: &[String]) -> Result<Row, String> {
             microseconds: parse_field(microseconds, "microseconds")?,
             digest: u64::from_str_radix(digest, 16)
                 .map_err(|_| format!("'{digest}' in the column digest is no digest"))?,
+            hit: None,
         })
     };
     Ok(Row {
@@ -128,6 +152,29 @@ fn parse_row(fields: &[String]) -> Result<Row, String> {
         bytes: parse_field(bytes, "bytes")?,
         told,
     })
+}
+
+/// A row with a further field, which says of an answer whether it was a hit.
+fn parse_cached_row(fields: &[String]) -> Result<Row, String> {
+    let [fields @ .., hit] = fields else {
+        return Err("0 fields instead of 8".into());
+    };
+    if fields.len() != 7 {
+        return Err(format!("{} fields instead of 8", fields.len() + 1));
+    }
+    let mut row = parse_row(fields)?;
+    if let Some(told) = &mut row.told {
+        told.hit = Some(match hit.as_str() {
+            "0" => false,
+            "1" => true,
+            _ => {
+                return Err(format!(
+                    "'{hit}' in the column {HIT_COLUMN} is neither 0 nor 1"
+                ))
+            }
+        });
+    }
+    Ok(row)
 }
 
 fn parse_field<T: std::str::FromStr>(text: &str, column: &str) -> Result<T, String> {
@@ -147,7 +194,7 @@ pub struct Comparison {
     pub same: usize,
 }
 
-/// Compares the rows of a run with those of an earlier one. Times may differ.
+/// Compares the rows of a run with those of an earlier one. Times and hits may differ.
 pub fn compare_rows(rows: &[Row], mut earlier: BTreeMap<String, Row>) -> Comparison {
     let mut found = Comparison::default();
     for row in rows {
@@ -174,6 +221,7 @@ fn compare_row(found: &mut Comparison, row: &Row, before: &Row) {
     };
     let timeless = |told: Told| Told {
         microseconds: 0,
+        hit: None,
         ..told
     };
     if timeless(told) == timeless(earlier) {

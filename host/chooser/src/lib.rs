@@ -3,6 +3,7 @@
 
 pub mod batch_csv;
 pub mod batch_worker;
+pub mod cache_file;
 pub mod clock;
 pub mod columns;
 pub mod command;

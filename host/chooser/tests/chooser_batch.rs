@@ -149,7 +149,7 @@ fn every_difference_is_named() {
     rows[3].told = None; // given up in the earlier run
     rows[4].bytes = 5;
     rows[5].name = "gone".into();
-    fs::write(folder.join("old.csv"), write_rows(&rows)).expect("a table can be written");
+    fs::write(folder.join("old.csv"), write_rows(&rows, false)).expect("a table can be written");
     let text = printed(&folder, &["in", "--compare", "old.csv"], 1);
     for difference in [
         "\na: another answer, 2 points with digest ",
@@ -264,7 +264,7 @@ fn a_table_that_is_written_is_read_back() {
         told: None,
     };
     let rows = ["", "a\nb", "a,b", "\"", "plain"].map(row).to_vec();
-    let read = parse_rows(&write_rows(&rows)).expect("rows");
+    let read = parse_rows(&write_rows(&rows, false)).expect("rows");
     let mut sorted = rows.clone();
     sorted.sort_by(|one, other| one.name.cmp(&other.name));
     assert_eq!(read.into_values().collect::<Vec<_>>(), sorted);

@@ -27,6 +27,7 @@ fn reading(file: &str) -> Vec<Vec<&str>> {
         vec!["pack", file],
         vec!["unpack", file],
         vec!["wcsp", file],
+        vec!["key", file],
     ]
 }
 

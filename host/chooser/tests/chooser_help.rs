@@ -20,7 +20,7 @@ fn helps() -> Vec<String> {
 fn all_subcommands_are_listed() {
     let listed = subcommands();
     for name in [
-        "solve", "cut", "bound", "pack", "unpack", "wcsp", "plot", "batch", "help",
+        "solve", "cut", "bound", "pack", "unpack", "wcsp", "key", "plot", "batch", "help",
     ] {
         assert!(
             listed.iter().any(|listed| listed == name),

@@ -1,6 +1,6 @@
 //! The buffers that a flat call is lent, and flat calls as values.
 
-use crate::lent::{Answer, Halves};
+use crate::lent::{Answer, CachedAnswer, Halves};
 use crate::limits::{LEAST_WORK, MAX_OBJECTIVES, MAX_POINTS, MAX_VARIABLES};
 use crate::list::Frontier;
 use crate::problem::sizes;
@@ -11,6 +11,9 @@ pub type SolveCall = fn(&[u8], &mut [u32], &mut [u8], &mut [u32]) -> Answer;
 
 /// A cut call, as `solve_cut` is: problem, sides, costs, choices, work.
 pub type CutCall = fn(&[u8], &[u8], &mut [u32], &mut [u8], &mut [u32]) -> Halves;
+
+/// A cached call, as `solve_cached` is: problem, costs, choices, work, store.
+pub type CachedCall = fn(&[u8], &mut [u32], &mut [u8], &mut [u32], &mut [u8]) -> CachedAnswer;
 
 /// The three buffers that a flat call is lent.
 #[derive(Clone, Debug, PartialEq, Eq)]
@@ -51,6 +54,17 @@ impl Buffers {
     ) -> Halves {
         let (costs, choices) = (&mut self.costs, &mut self.choices);
         call(bytes, sides, costs, choices, &mut self.work)
+    }
+
+    /// Lends the buffers to a cached call, with a store beside them.
+    pub fn lend_cached(
+        &mut self,
+        call: impl Fn(&[u8], &mut [u32], &mut [u8], &mut [u32], &mut [u8]) -> CachedAnswer,
+        bytes: &[u8],
+        store: &mut [u8],
+    ) -> CachedAnswer {
+        let (costs, choices) = (&mut self.costs, &mut self.choices);
+        call(bytes, costs, choices, &mut self.work, store)
     }
 
     /// The points that an answer to this problem has left in the buffers, or its refusal.

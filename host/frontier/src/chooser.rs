@@ -1,11 +1,12 @@
 //! The chooser with buffers of its own.
 
-use crate::lent::{bound_prefix, solve_cut, solve_problem, Buffers};
+use crate::lent::{bound_prefix, solve_cached, solve_cut, solve_problem, Buffers};
 use crate::limits::{MAX_OBJECTIVES, MAX_POINTS};
 use crate::list::Frontier;
 use crate::measure::{solve_measured, Measures};
 use crate::problem::sizes;
 use crate::refusal::{check, Refusal};
+use crate::store::{Cached, Store};
 
 /// The proved calls with one set of buffers, which is used again for problem after problem. An answer
 /// does not depend on the problems before it.
@@ -59,6 +60,29 @@ impl Chooser {
         self.make_room(problem);
         let answer = self.lent.lend(solve_problem, problem);
         self.lent.listed(problem, answer)
+    }
+
+    /// Lists the frontier of a problem, from the store if that holds it. A problem that was not there is
+    /// stored, and the one that was stored first gives way if all slots are taken.
+    ///
+    /// With a store that began cleared and that other calls than this one do not write to, the answer is always
+    /// that of [`solve`](Chooser::solve). Choosers with any room may share a store: a frontier is stored whole.
+    ///
+    /// A refusal does not say whether the store held the problem; [`lent::solve_cached`](crate::lent::solve_cached)
+    /// does.
+    pub fn solve_cached(
+        &mut self,
+        problem: &[u8],
+        store: &mut Store,
+    ) -> Result<Cached<'_>, Refusal> {
+        self.make_room(problem);
+        let found = self
+            .lent
+            .lend_cached(solve_cached, problem, store.bytes_mut());
+        Ok(Cached {
+            frontier: self.lent.listed(problem, found.answer)?,
+            hit: found.hit != 0,
+        })
     }
 
     /// Lists the frontier of a problem, and tells what its search took.

@@ -102,6 +102,32 @@ extern "C" {
         place: *mut u32,
         count: *mut u32,
     ) -> u8;
+
+    pub fn frontier_canonical(
+        problem: *const u8,
+        problem_len: usize,
+        form: *mut u8,
+        form_len: usize,
+        place: *mut u32,
+        count: *mut u32,
+        key: *mut u64,
+    ) -> u8;
+
+    pub fn frontier_solve_cached(
+        problem: *const u8,
+        problem_len: usize,
+        costs: *mut u32,
+        costs_len: usize,
+        choices: *mut u8,
+        choices_len: usize,
+        work: *mut u32,
+        work_len: usize,
+        store: *mut u8,
+        store_len: usize,
+        place: *mut u32,
+        count: *mut u32,
+        hit: *mut u8,
+    ) -> u8;
 }
 
 /// What a call is to the linker that makes one form of a problem of another.

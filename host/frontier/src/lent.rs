@@ -2,22 +2,23 @@
 //! `include/frontier.h` declares, with the same meaning. Numbers of refusal are those of
 //! [`refusal`](crate::refusal), 0 is none.
 
+use crate::ffi::frontier_solve_cached;
 use crate::ffi::{frontier_bound, frontier_cut, frontier_points, frontier_solve};
-use crate::ffi::{frontier_from_text, frontier_to_text, Convert, Solve};
+use crate::ffi::{frontier_canonical, frontier_from_text, frontier_to_text, Convert, Solve};
 use crate::limits::{MAX_OBJECTIVES, MAX_VARIABLES};
 use crate::refusal::Refusal;
 
-pub use crate::buffers::{Buffers, CutCall, SolveCall};
+pub use crate::buffers::{Buffers, CachedCall, CutCall, SolveCall};
 
-/// What a call answers: number 0 and the count of points (of bytes, from the calls that convert), or a
-/// refusal with count 0.
+/// What a call answers: number 0 and the count of points (of bytes, from the calls that write a form of the
+/// problem), or a refusal with count 0.
 #[derive(Clone, Copy, Debug, PartialEq, Eq)]
 pub struct Answer {
     /// The number of refusal, or 0.
     pub number: u8,
     /// The place of the refusal; 0 where it has none.
     pub place: u32,
-    /// How many points are listed, or how many bytes of a text or a problem are written.
+    /// How many points are listed, or how many bytes of a text, a problem or a canonical form are written.
     pub count: u32,
 }
 
@@ -108,6 +109,42 @@ impl From<Refusal> for Least {
             number: refusal.number(),
             place: refusal.place(),
             least: [0; MAX_OBJECTIVES],
+        }
+    }
+}
+
+/// What the canonical call answers: also the key of the form, 0 after a refusal.
+#[derive(Clone, Copy, Debug, PartialEq, Eq)]
+pub struct Keyed {
+    /// Number, place, and how many bytes of the form are written.
+    pub answer: Answer,
+    /// The key of the form: 64-bit FNV-1a over its bytes.
+    pub key: u64,
+}
+
+impl From<Refusal> for Keyed {
+    fn from(refusal: Refusal) -> Keyed {
+        Keyed {
+            answer: refusal.into(),
+            key: 0,
+        }
+    }
+}
+
+/// What the cached call answers: also whether the store held it.
+#[derive(Clone, Copy, Debug, PartialEq, Eq)]
+pub struct CachedAnswer {
+    /// What the plain call would answer.
+    pub answer: Answer,
+    /// 1 if the store held the problem, also with [`Refusal::Full`]; else 0.
+    pub hit: u8,
+}
+
+impl From<Refusal> for CachedAnswer {
+    fn from(refusal: Refusal) -> CachedAnswer {
+        CachedAnswer {
+            answer: refusal.into(),
+            hit: 0,
         }
     }
 }
@@ -364,4 +401,105 @@ pub fn read_text(text: &[u8], problem: &mut [u8], place: &mut u32, count: &mut u
 /// text.
 pub fn from_text(text: &[u8], problem: &mut [u8]) -> Answer {
     converted(frontier_from_text, text, problem)
+}
+
+/// The canonical call as C has it: the number of refusal is the result, and `place`, `count` and `key` are
+/// written whatever they held. Callers that only want the answer use [`canonical`].
+pub fn write_canonical(
+    problem: &[u8],
+    form: &mut [u8],
+    place: &mut u32,
+    count: &mut u32,
+    key: &mut u64,
+) -> u8 {
+    // SAFETY: as in `write_bound`; the four that are written are exclusive.
+    unsafe {
+        frontier_canonical(
+            problem.as_ptr(),
+            problem.len(),
+            form.as_mut_ptr(),
+            form.len(),
+            place,
+            count,
+            key,
+        )
+    }
+}
+
+/// Writes the canonical form of a problem, and tells its key. As many bytes as the problem has do.
+pub fn canonical(problem: &[u8], form: &mut [u8]) -> Keyed {
+    let (mut place, mut count, mut key) = (0, 0, 0);
+    let number = write_canonical(problem, form, &mut place, &mut count, &mut key);
+    let answer = Answer {
+        number,
+        place,
+        count,
+    };
+    Keyed { answer, key }
+}
+
+/// Where the cached call writes its numbers.
+#[derive(Debug)]
+pub struct CachedNumbers<'a> {
+    /// The place of the refusal.
+    pub place: &'a mut u32,
+    /// How many points are listed.
+    pub count: &'a mut u32,
+    /// Whether the store held the problem.
+    pub hit: &'a mut u8,
+}
+
+/// The cached call as C has it: the number of refusal is the result, and the other numbers are written
+/// whatever they held. Callers that only want the answer use [`solve_cached`].
+pub fn write_cached(
+    problem: &[u8],
+    costs: &mut [u32],
+    choices: &mut [u8],
+    work: &mut [u32],
+    store: &mut [u8],
+    numbers: CachedNumbers,
+) -> u8 {
+    // SAFETY: as in `lend`, with the store as a fourth buffer; the seven that are written are exclusive. The
+    // call may be lent any bytes as a store.
+    unsafe {
+        frontier_solve_cached(
+            problem.as_ptr(),
+            problem.len(),
+            costs.as_mut_ptr(),
+            costs.len(),
+            choices.as_mut_ptr(),
+            choices.len(),
+            work.as_mut_ptr(),
+            work.len(),
+            store.as_mut_ptr(),
+            store.len(),
+            numbers.place,
+            numbers.count,
+            numbers.hit,
+        )
+    }
+}
+
+/// Lists the frontier into the flat buffers, from the store if that holds it, and else into the store too. A
+/// store begins with zeros alone, and is then lent to this call alone and at one length.
+pub fn solve_cached(
+    problem: &[u8],
+    costs: &mut [u32],
+    choices: &mut [u8],
+    work: &mut [u32],
+    store: &mut [u8],
+) -> CachedAnswer {
+    let (mut place, mut count, mut hit) = (0, 0, 0);
+    let numbers = CachedNumbers {
+        place: &mut place,
+        count: &mut count,
+        hit: &mut hit,
+    };
+    let number = write_cached(problem, costs, choices, work, store, numbers);
+    let answer = Answer {
+        number,
+        place,
+        count,
+    };
+    CachedAnswer { answer, hit }
 }

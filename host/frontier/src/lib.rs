@@ -27,12 +27,15 @@
 //! ```
 //!
 //! [`Chooser`] owns one set of buffers and is used again for problem after problem. [`to_text`] writes
-//! a problem with one objective as text for other solvers, and [`from_text`] reads such a text. Those who
-//! bring their own buffers, as C programs do, find the calls in [`lent`].
+//! a problem with one objective as text for other solvers, and [`from_text`] reads such a text.
+//! [`canonical`] gives a form and a key that are the same for a problem in every layout. A [`Store`] keeps
+//! answers for problems that come again. Those who bring their own buffers, as C programs do, find the calls
+//! in [`lent`].
 
 #![warn(missing_docs)]
 
 mod buffers;
+mod canonical;
 mod chooser;
 mod ffi;
 pub mod lent;
@@ -41,12 +44,15 @@ mod list;
 pub mod measure;
 mod problem;
 pub mod refusal;
+mod store;
 mod version;
 mod wcsp;
 
+pub use canonical::{canonical, Canonical};
 pub use chooser::{Bound, Chooser, Cut};
 pub use list::{Frontier, Point, Points};
 pub use problem::{Problem, Table, FORBIDDEN};
 pub use refusal::Refusal;
+pub use store::{Cached, Store};
 pub use version::version;
 pub use wcsp::{from_text, to_text};

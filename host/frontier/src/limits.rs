@@ -25,5 +25,11 @@ pub const MAX_BYTES: usize = 60_000;
 /// The work buffer has at least this many numbers.
 pub const LEAST_WORK: usize = 8_192;
 
+/// A slot of a store, which keeps a problem and its answer, has this many bytes.
+pub const SLOT_BYTES: usize = 63_000;
+
+/// A store has 1 to this many slots. What is behind them is not touched.
+pub const MAX_SLOTS: usize = 32;
+
 /// A problem as WCSP text has at most this many bytes: 17 for 4 of the problem's.
 pub const TEXT_LEN: usize = 255_000;

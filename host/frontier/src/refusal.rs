@@ -5,7 +5,7 @@ use std::error::Error;
 use std::fmt;
 
 use crate::limits::{LEAST_WORK, MAX_ARITY, MAX_BYTES, MAX_DOMAIN, MAX_OBJECTIVES};
-use crate::limits::{MAX_POINTS, MAX_TABLES, MAX_VARIABLES};
+use crate::limits::{MAX_POINTS, MAX_TABLES, MAX_VARIABLES, SLOT_BYTES};
 
 /// [`Refusal::Oversize`].
 pub const OVERSIZE: u8 = 1;
@@ -45,6 +45,8 @@ pub const TEXT: u8 = 17;
 pub const DIALECT: u8 = 18;
 /// [`Refusal::Output`].
 pub const OUTPUT: u8 = 19;
+/// [`Refusal::Store`].
+pub const STORE: u8 = 20;
 
 /// Why there is no answer. Where a record of the problem is at fault, its place is beside it: the
 /// record's first byte, counted from 0.
@@ -101,8 +103,10 @@ pub enum Refusal {
     /// Number 18: the other form cannot have it. A problem has p above 1; or a text has what a problem may
     /// not have, a negative number, or something twice.
     Dialect,
-    /// Number 19: the buffer for the text, or for the problem, is shorter than that.
+    /// Number 19: the buffer for the text, the problem or the canonical form is shorter than that.
     Output,
+    /// Number 20: the store has not one slot.
+    Store,
 }
 
 /// What there is to say of a refusal: its number and word, and how to make it with a place.
@@ -113,7 +117,7 @@ struct Row {
 }
 
 /// A row for each number, from 1 on.
-const ROWS: [Row; 19] = [
+const ROWS: [Row; 20] = [
     row(OVERSIZE, "oversize", |_| Refusal::Oversize),
     row(CUT_SHORT, "cut short", Refusal::CutShort),
     row(STRAY_MARK, "stray mark", Refusal::StrayMark),
@@ -133,6 +137,7 @@ const ROWS: [Row; 19] = [
     row(TEXT, "text", |_| Refusal::Text),
     row(DIALECT, "dialect", |_| Refusal::Dialect),
     row(OUTPUT, "output", |_| Refusal::Output),
+    row(STORE, "store", |_| Refusal::Store),
 ];
 
 const fn row(number: u8, word: &'static str, make: fn(u32) -> Refusal) -> Row {
@@ -194,6 +199,7 @@ impl Refusal {
             Refusal::Text => TEXT,
             Refusal::Dialect => DIALECT,
             Refusal::Output => OUTPUT,
+            Refusal::Store => STORE,
         }
     }
 
@@ -223,7 +229,8 @@ impl Refusal {
             | Refusal::Prefix
             | Refusal::Text
             | Refusal::Dialect
-            | Refusal::Output => None,
+            | Refusal::Output
+            | Refusal::Store => None,
         }
     }
 
@@ -270,6 +277,7 @@ impl Refusal {
                     .into()
             }
             Refusal::Output => "the buffer is shorter than what is to be written".into(),
+            Refusal::Store => format!("the store has fewer than {SLOT_BYTES} bytes"),
         }
     }
 }

@@ -104,7 +104,7 @@ pub(crate) fn read_with_work(bytes: &[u8], work: &[u32]) -> Result<Reading, Refu
 }
 
 /// Room (reference, section 7): how many points the lent flat buffers can take, at most 64.
-fn flat_room(problem: &Problem, costs: &[u32], choices: &[u8]) -> usize {
+pub(crate) fn flat_room(problem: &Problem, costs: &[u32], choices: &[u8]) -> usize {
     let by_costs = costs.len() / problem.objectives();
     let by_choices = choices.len() / problem.variables();
     by_costs.min(by_choices).min(MAX_POINTS)

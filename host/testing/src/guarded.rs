@@ -5,11 +5,12 @@ use std::io;
 
 use crate::guard::{End, Pages, Plain};
 use frontier::lent::{
-    read_text, write_bound, write_cut, write_points, write_solve, write_text, Answer, CutNumbers,
-    Halves, Least, PointRecord,
+    read_text, write_bound, write_cached, write_canonical, write_cut, write_points, write_solve,
+    write_text, Answer, CachedAnswer, CachedNumbers, CutNumbers, Halves, Keyed, Least, PointRecord,
 };
 use frontier::limits::{
-    LEAST_WORK, MAX_BYTES, MAX_OBJECTIVES, MAX_POINTS, MAX_VARIABLES, TEXT_LEN,
+    LEAST_WORK, MAX_BYTES, MAX_OBJECTIVES, MAX_POINTS, MAX_SLOTS, MAX_VARIABLES, SLOT_BYTES,
+    TEXT_LEN,
 };
 
 /// Lent buffers may be longer than is of use by so much.
@@ -29,8 +30,13 @@ pub struct Guarded {
     choices: Pages,
     work: Pages,
     points: Pages,
+    /// A text, or a canonical form.
     text: Pages,
     least: Pages,
+    key: Pages,
+    /// A store of a few slots, and a longer one: what is beside a buffer is compared after every call.
+    stores: [Pages; 2],
+    hit: Pages,
     numbers: [Pages; 4],
     /// The first buffer that a call has misused.
     fault: Option<String>,
@@ -48,6 +54,12 @@ impl Guarded {
             points: Pages::new(size_of::<PointRecord>() * MAX_POINTS + OVER)?,
             text: Pages::new(TEXT_LEN + OVER)?,
             least: Pages::new(size_of::<u64>() * MAX_OBJECTIVES)?,
+            key: Pages::new(size_of::<u64>())?,
+            stores: [
+                Pages::new(SLOT_BYTES * 4)?,
+                Pages::new(SLOT_BYTES * (MAX_SLOTS + 1) + OVER)?,
+            ],
+            hit: Pages::new(1)?,
             numbers: [number()?, number()?, number()?, number()?],
             fault: None,
         })
@@ -205,6 +217,69 @@ impl Guarded {
             place,
             count,
         }
+    }
+
+    /// The canonical call.
+    pub fn canonical(&mut self, problem: &[u8], form: &mut [u8]) -> Keyed {
+        let end = self.end;
+        let mut key = [u64::from(JUNK)];
+        let [place, count, _, _] = &mut self.numbers;
+        let number = write_canonical(
+            self.problem.lend(problem, end),
+            self.text.lend(form, end),
+            &mut place.lend(&[JUNK], end)[0],
+            &mut count.lend(&[JUNK], end)[0],
+            &mut self.key.lend(&key, end)[0],
+        );
+        self.check_problem(problem);
+        take(&mut self.fault, "form", &mut self.text, form);
+        take(&mut self.fault, "key", &mut self.key, &mut key);
+        let [place, count] = self.take_numbers();
+        let answer = Answer {
+            number,
+            place,
+            count,
+        };
+        let [key] = key;
+        Keyed { answer, key }
+    }
+
+    /// The cached call.
+    pub fn cached(
+        &mut self,
+        problem: &[u8],
+        costs: &mut [u32],
+        choices: &mut [u8],
+        work: &mut [u32],
+        store: &mut [u8],
+    ) -> CachedAnswer {
+        let end = self.end;
+        let mut hit = [JUNK as u8];
+        let [place, count, _, _] = &mut self.numbers;
+        let pages = &mut self.stores[usize::from(store.len() > SLOT_BYTES * 4)];
+        let number = write_cached(
+            self.problem.lend(problem, end),
+            self.costs.lend(costs, end),
+            self.choices.lend(choices, end),
+            self.work.lend(work, end),
+            pages.lend(store, end),
+            CachedNumbers {
+                place: &mut place.lend(&[JUNK], end)[0],
+                count: &mut count.lend(&[JUNK], end)[0],
+                hit: &mut self.hit.lend(&hit, end)[0],
+            },
+        );
+        take(&mut self.fault, "store", pages, store);
+        take(&mut self.fault, "hit", &mut self.hit, &mut hit);
+        self.take_flat(problem, costs, choices, work);
+        let [place, count] = self.take_numbers();
+        let answer = Answer {
+            number,
+            place,
+            count,
+        };
+        let [hit] = hit;
+        CachedAnswer { answer, hit }
     }
 
     fn check_problem(&mut self, problem: &[u8]) {

@@ -7,6 +7,8 @@
 pub mod bound;
 pub mod brute;
 pub mod c_compiler;
+pub mod cache;
+pub mod canonical;
 pub mod checker;
 pub mod chooser_run;
 pub mod cut;
@@ -14,6 +16,7 @@ pub mod examples;
 pub mod fence;
 pub mod guard;
 pub mod guarded;
+pub mod layouts;
 pub mod mixed;
 pub mod night;
 pub mod owned;

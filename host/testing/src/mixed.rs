@@ -120,7 +120,7 @@ pub fn compare_cut(
 }
 
 /// Compares what a call and the brute force, in this order, have answered and left in the buffers.
-fn compare_outcomes<T: Debug + PartialEq>(
+pub(crate) fn compare_outcomes<T: Debug + PartialEq>(
     problem: &[u8],
     [answer, expected]: [T; 2],
     [left, right]: [Buffers; 2],

@@ -1,6 +1,8 @@
 //! Texts that a call writes: which bytes it is asked for, buffers of every length that matters, and the
 //! comparison with the independent converter.
 
+use std::fmt::Debug;
+
 use crate::fence::{assert_fences, fenced, inside};
 use crate::mixed::Mixed;
 use crate::random::damage;
@@ -19,8 +21,8 @@ fn junk_bytes(rng: &mut Rng, length: usize) -> Vec<u8> {
 /// What stands beside the lent bytes.
 const FENCE: u8 = 0x5c;
 
-/// A converting call on a buffer between fences, which must stand afterwards.
-pub fn fenced_call(call: fn(&[u8], &mut [u8]) -> Answer) -> impl Fn(&[u8], &mut [u8]) -> Answer {
+/// A call that writes bytes, on a buffer between fences, which must stand afterwards.
+pub fn fenced_call<T>(call: fn(&[u8], &mut [u8]) -> T) -> impl Fn(&[u8], &mut [u8]) -> T {
     move |form, made| {
         let mut buffer = fenced(made, FENCE);
         let answer = call(form, inside(&mut buffer));
@@ -60,20 +62,20 @@ pub fn compare_text(
     back.map_err(|difference| format!("{difference}, length {length}, bytes {bytes}"))
 }
 
-/// Compares a converting call with the independent one, each lent a copy of the buffer; what it answers and
-/// leaves there, or the difference.
-pub fn compare_forms(
+/// Compares a call that writes bytes with the independent one, each lent a copy of the buffer; what it answers
+/// and leaves there, or the difference.
+pub fn compare_forms<T: Debug + PartialEq>(
     form: &[u8],
     lent: &[u8],
-    call: impl Fn(&[u8], &mut [u8]) -> Answer,
-    converter: fn(&[u8], &mut [u8]) -> Answer,
-) -> Result<(Answer, Vec<u8>), String> {
+    call: impl Fn(&[u8], &mut [u8]) -> T,
+    independent: fn(&[u8], &mut [u8]) -> T,
+) -> Result<(T, Vec<u8>), String> {
     let (mut left, mut right) = (lent.to_vec(), lent.to_vec());
     let answer = call(form, &mut left);
-    let expected = converter(form, &mut right);
+    let expected = independent(form, &mut right);
     if answer != expected {
         return Err(format!(
-            "the call answers {answer:?}, the converter {expected:?}"
+            "the call answers {answer:?}, the independent one {expected:?}"
         ));
     }
     match (0..lent.len()).find(|&i| left[i] != right[i]) {
@@ -81,7 +83,7 @@ pub fn compare_forms(
         Some(i) => {
             let (left, right) = (left[i], right[i]);
             Err(format!(
-                "after {answer:?} byte {i} is {left}, with the converter {right}"
+                "after {answer:?} byte {i} is {left}, by the independent call {right}"
             ))
         }
     }
@@ -121,7 +123,7 @@ impl Mixed {
         })
     }
 
-    /// Compares a converting call on each input, with a buffer of one of the lengths around what it needs.
+    /// Compares a call that writes bytes on each input, with a buffer of one of the lengths around what it needs.
     pub fn compare_each(
         &self,
         inputs: Vec<Vec<u8>>,

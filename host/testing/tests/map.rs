@@ -22,7 +22,7 @@ const DEMANDS: Table = Table {
 
 const REQUESTS: Table = Table {
     head: "| Request |",
-    rows: 2,
+    rows: 3,
     columns: [(2, ""), (3, ""), (4, "")],
 };
 

@@ -5,13 +5,16 @@ use std::fs;
 
 use chooser::hex::from_hex;
 use frontier::lent::{self, bound_prefix, list_points, solve_cut, solve_problem, to_text};
-use frontier::lent::{Buffers, PointRecord};
+use frontier::lent::{Buffers, CachedCall, PointRecord};
 use frontier::limits::{
-    LEAST_WORK, MAX_ARITY, MAX_BYTES, MAX_DOMAIN, MAX_OBJECTIVES, MAX_POINTS, MAX_TABLES,
-    MAX_VARIABLES, TEXT_LEN,
+    LEAST_WORK, MAX_ARITY, MAX_BYTES, MAX_DOMAIN, MAX_OBJECTIVES, MAX_POINTS, MAX_SLOTS,
+    MAX_TABLES, MAX_VARIABLES, SLOT_BYTES, TEXT_LEN,
 };
 use frontier::refusal::word_of;
 use frontier::Refusal;
+use testing::brute;
+use testing::cache::{self, CHOICES_AT, COSTS_AT, COUNT_AT, LENGTH_AT, NEXT_AT};
+use testing::canonical;
 use testing::examples::{colours, lone, pair, three, turned};
 use testing::owned::{cut_by, list_text, list_text_by, listed, Listed};
 use testing::places::root;
@@ -51,6 +54,11 @@ fn the_limits_are_those_of_the_library() {
             &number(LEAST_WORK),
             String::new(),
         ),
+        (
+            "slots of a store, of 63,000 bytes each",
+            "1",
+            number(MAX_SLOTS),
+        ),
     ];
     let rows = rows("| What | Least |");
     assert_eq!(rows.len(), due.len());
@@ -69,7 +77,7 @@ fn the_limits_are_those_of_the_library() {
 fn refusals_have_the_words_of_the_library() {
     let rows = rows("| Number | Word |");
     let told: Vec<(&str, &str)> = rows.iter().map(|row| (row[0], row[1])).collect();
-    let numbers: Vec<String> = (1..=19).map(|number: u8| number.to_string()).collect();
+    let numbers: Vec<String> = (1..=20).map(|number: u8| number.to_string()).collect();
     let due: Vec<(&str, &str)> = (1..)
         .zip(&numbers)
         .map(|(n, text)| (&text[..], word_of(n)))
@@ -284,6 +292,27 @@ fn text(bytes: &[u8], lent: usize) -> String {
     lines.replace('\n', "; ")
 }
 
+/// The canonical call with so many bytes lent.
+fn form(bytes: &[u8], lent: usize) -> String {
+    let found = lent::canonical(bytes, &mut vec![7; lent]);
+    match Refusal::new(found.answer.number, found.answer.place) {
+        Some(refusal) => refused(refusal),
+        None => format!("{:016x}", found.key),
+    }
+}
+
+/// The cached call with so many costs lent: what it ends with, and its hit.
+fn cached(call: CachedCall, bytes: &[u8], costs: usize, store: &mut [u8]) -> (String, u8) {
+    let mut lent = Buffers {
+        costs: vec![7; costs],
+        ..Buffers::full()
+    };
+    let found = lent.lend_cached(call, bytes, store);
+    let list = listed(&lent, bytes, found.answer);
+    let told = list.map_or_else(refused, |list| points(&list));
+    (told, found.hit)
+}
+
 /// What a call of the table gives for a problem.
 fn outcome(call: &str, bytes: &[u8]) -> String {
     let full = MAX_POINTS * MAX_OBJECTIVES;
@@ -294,10 +323,18 @@ fn outcome(call: &str, bytes: &[u8]) -> String {
         ("bound", prefix) => bound(bytes, &numbers(prefix)),
         ("text", "") => text(bytes, TEXT_LEN),
         ("text", lent) => text(bytes, numbers(lent)[0]),
+        ("form", "") => form(bytes, MAX_BYTES),
+        ("form", lent) => form(bytes, numbers(lent)[0]),
         ("any", "") => {
             let told = plain(bytes, full);
-            let others = [cut(bytes, &[]), bound(bytes, &[]), text(bytes, 0)];
-            assert_eq!(others, [&told; 3].map(String::clone));
+            let others = [
+                cut(bytes, &[]),
+                bound(bytes, &[]),
+                text(bytes, 0),
+                form(bytes, 0),
+                cached(lent::solve_cached, bytes, 0, &mut []).0,
+            ];
+            assert_eq!(others, [&told; 5].map(String::clone));
             told
         }
         _ => panic!("'{call}' is no call"),
@@ -330,4 +367,53 @@ fn texts_are_read_as_told() {
             }
         }
     }
+}
+
+/// The form of Turned, by the library and by the independent call, and the keys of bytes that are no problem.
+#[test]
+fn forms_and_keys_are_as_told() {
+    let told = fenced(REFERENCE, "form").expect("a form");
+    let told: Vec<u8> = told.lines().flat_map(Example::line_bytes).collect();
+    for call in [lent::canonical, canonical::canonical] {
+        let mut form = vec![7; told.len()];
+        let found = call(&bytes_of("Turned"), &mut form);
+        assert_eq!((found.answer.number, found.answer.count), (0, 80));
+        assert_eq!(form, told);
+        assert_eq!(found.key, canonical::key_of(&told));
+    }
+    let rows = rows("| Bytes | Key |");
+    assert_eq!(rows.len(), 3);
+    for row in rows {
+        let bytes = row[0].strip_prefix("none").unwrap_or(row[0]);
+        let key = canonical::key_of(bytes.as_bytes());
+        assert_eq!(row[1], format!("{key:016x}"), "{}", row[0]);
+    }
+}
+
+/// The run on a store of two slots, by the library and by the independent call.
+#[test]
+fn a_run_on_a_store_is_as_told() {
+    let independent: CachedCall = |bytes, costs, choices, work, store| {
+        let fresh = brute::solve_problem;
+        cache::solve_cached(fresh, bytes, costs, choices, work, store)
+    };
+    let rows = rows("| Problem | Costs lent |");
+    assert_eq!(rows.len(), 10);
+    for call in [lent::solve_cached, independent] {
+        let mut store = vec![0; 2 * SLOT_BYTES];
+        for row in &rows {
+            let costs = row[1].parse().expect("a number of costs");
+            let (told, hit) = cached(call, &case_bytes(row[0]), costs, &mut store);
+            let hit = ["no", "yes"][usize::from(hit)];
+            assert_eq!((&told[..], hit), (row[2], row[3]), "{}", row[0]);
+        }
+    }
+}
+
+#[test]
+fn the_parts_of_a_slot_stand_where_it_is_told() {
+    let rows = rows("| From byte |");
+    let told = rows.iter().map(|row| row[0].replace(',', ""));
+    let due = [0, COSTS_AT, CHOICES_AT, LENGTH_AT, COUNT_AT, NEXT_AT];
+    assert_eq!(told.collect::<Vec<_>>(), due.map(|place| place.to_string()));
 }

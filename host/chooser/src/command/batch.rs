@@ -4,28 +4,32 @@
 use std::collections::BTreeMap;
 use std::ffi::{OsStr, OsString};
 use std::fs::{self, File};
-use std::io::Read;
+use std::io::{ErrorKind, Read};
 use std::num::NonZero;
 use std::path::{Path, PathBuf};
 use std::sync::atomic::{AtomicUsize, Ordering};
 use std::sync::mpsc::{self, Receiver, RecvTimeoutError, Sender};
+use std::sync::Mutex;
 use std::thread;
 use std::time::{Duration, Instant};
 
 use super::batch_summary::{seconds, summary};
 use super::{
-    check_target, print_out, read_file, sort_words, write_file, Asked, Failure, Known, Outcome,
+    check_target, print_error, print_out, read_file, sort_words, write_file, Asked, Failure, Known,
+    Outcome, STANDARD_STREAM,
 };
 use crate::batch_csv::{compare_rows, parse_rows, write_rows, Row, Told};
-use crate::batch_worker::{parse_answer, question, serve_batch, TWICE};
+use crate::batch_worker::{question, serve_batch, store_line, Reply, TWICE};
+use crate::cache_file::{read_cache, write_cache, FILE_BYTES, STORE_BYTES};
 use crate::folder;
 use crate::progress::show_progress;
 use crate::worker::{parse_limit, Ending, Worker, WORKER};
 use frontier::limits::MAX_BYTES;
+use frontier::version;
 
 pub const HELP: &str = "\
 usage: chooser batch DIR [--jobs N] [--limit SECONDS] [--csv OUT]
-                     [--compare FILE] [--twice]
+                     [--compare FILE] [--twice] [--cache FILE]
 
 Runs every problem of the folder DIR (files NAME.bin, in the order of their
 names) and tells the slowest ten, the refusals by number, and the total. Each
@@ -38,6 +42,8 @@ worker takes all its problems through one set of buffers.
                      costs and choices) of every problem to the file OUT
     --compare FILE   name every difference from an earlier run's CSV
     --twice          call again from other junk in all buffers, and compare
+    --cache FILE     keep the answers of the last 32 problems in FILE for later
+                     runs too, and tell hits; there is one worker then
 
 The exit status is 0 if every problem was answered or refused; 1 if one was
 given up, differs in the second call, or is missing, new or different in
@@ -53,11 +59,13 @@ const OPTIONS: &[Known] = &[
     (CSV, "OUT"),
     (COMPARE, "FILE"),
     (TWICE, ""),
+    (CACHE, "FILE"),
 ];
 const JOBS: &str = "--jobs";
 const LIMIT: &str = "--limit";
 const CSV: &str = "--csv";
 const COMPARE: &str = "--compare";
+const CACHE: &str = "--cache";
 
 const MOST_JOBS: usize = 256;
 const DEFAULT_LIMIT: Duration = Duration::from_secs(60);
@@ -81,7 +89,7 @@ pub fn run(words: &[OsString]) -> Result<Outcome, Failure> {
     let start = Instant::now();
     let mut batch = Batch::default();
     plan.run_all(&problems, &mut batch);
-    let rows = batch.rows(&problems);
+    let (rows, cached) = (batch.rows(&problems), plan.cache.is_some());
     let compared = plan.earlier.map(|earlier| compare_rows(&rows, earlier));
     let is_right = batch.faults.is_empty()
         && compared
@@ -89,14 +97,18 @@ pub fn run(words: &[OsString]) -> Result<Outcome, Failure> {
             .is_none_or(|found| found.differences.is_empty());
     let text = summary(
         &rows,
+        cached,
         batch.faults.values(),
         compared.as_ref(),
         start.elapsed(),
     );
     print_out(&text)?;
-    if let Some(out) = asked.value(CSV) {
-        write_file(out, write_rows(&rows).as_bytes())?;
-    }
+    let table = asked.value(CSV).map_or(Ok(()), |out| {
+        write_file(out, write_rows(&rows, cached).as_bytes())
+    });
+    // The answers are kept also where the table cannot be written.
+    plan.cache.map_or(Ok(()), |cache| cache.write())?;
+    table?;
     Ok(match is_right {
         true => Outcome::Answered,
         false => Outcome::Refused,
@@ -109,6 +121,7 @@ struct Plan {
     limit: Duration,
     twice: bool,
     earlier: Option<BTreeMap<String, Row>>,
+    cache: Option<Cache>,
 }
 
 impl Plan {
@@ -122,13 +135,20 @@ impl Plan {
         if let Some(out) = asked.value(CSV) {
             check_csv(out, asked.value(COMPARE))?;
         }
+        let jobs = asked.number(JOBS, 1..=MOST_JOBS)?;
+        let jobs = match asked.value(CACHE) {
+            None => jobs.unwrap_or_else(processors),
+            Some(file) => {
+                check_cache(file, jobs, asked)?;
+                1
+            }
+        };
         Ok(Plan {
-            jobs: asked
-                .number(JOBS, 1..=MOST_JOBS)?
-                .unwrap_or_else(processors),
+            jobs,
             limit,
             twice: asked.has(TWICE),
             earlier: asked.value(COMPARE).map(read_earlier).transpose()?,
+            cache: asked.value(CACHE).map(Cache::read).transpose()?,
         })
     }
 
@@ -165,25 +185,97 @@ impl Plan {
     /// Asks a worker about a problem; one that does not answer is replaced by the next question.
     fn ask(&self, kept: &mut Option<Worker>, problem: &Listed) -> Result<End, String> {
         let (bytes, _) = read_problem(&problem.path)?;
-        let words = ["batch", WORKER, TWICE];
-        let (words, limit) = match self.twice {
-            true => (&words[..], self.limit.saturating_mul(2)),
-            false => (&words[..2], self.limit),
+        let limit = match self.twice {
+            true => self.limit.saturating_mul(2),
+            false => self.limit,
         };
         let mut worker = match kept.take() {
             Some(worker) => worker,
-            None => Worker::start_with(words)?,
+            None => self.start_worker()?,
         };
         Ok(match worker.ask(&question(&bytes), limit) {
             Ending::TooSlow => End::GivenUp(self.limit),
             Ending::Died => End::Died,
             Ending::Answered { text, .. } => {
+                let reply = Reply::parse(&text).ok_or("a worker's answer cannot be understood")?;
+                if let Some(cache) = self.cache.as_ref().filter(|_| !reply.changes.is_empty()) {
+                    cache.take_changes(&reply.changes)?;
+                }
                 *kept = Some(worker);
-                let answer = parse_answer(&text);
-                let (told, fault) = answer.ok_or("a worker's answer cannot be understood")?;
-                End::Told(told, fault)
+                End::Told(reply.told, reply.fault)
             }
         })
+    }
+
+    /// Starts a worker, with the store as the last answer has left it.
+    fn start_worker(&self) -> Result<Worker, String> {
+        let words = ["batch", WORKER, TWICE];
+        let mut worker = Worker::start_with(&words[..2 + usize::from(self.twice)])?;
+        if let Some(cache) = &self.cache {
+            // The limit is for problems.
+            let Ending::Answered { .. } = worker.ask(&cache.line(), Duration::MAX) else {
+                return Err("a second process has not taken the cache".into());
+            };
+        }
+        Ok(worker)
+    }
+}
+
+/// The store of the cached call, and the file in which it is kept between runs. A worker has a store of its own, and
+/// this one follows it answer by answer, so that a worker that is ended takes nothing with it.
+struct Cache {
+    file: OsString,
+    store: Mutex<Vec<u8>>,
+}
+
+impl Cache {
+    /// The store in a file; a cleared one where there is none, and where the file is of no use, which is told.
+    fn read(file: &OsStr) -> Result<Cache, Failure> {
+        let cleared = || vec![0; STORE_BYTES];
+        let is_new = fs::metadata(file).is_err_and(|error| error.kind() == ErrorKind::NotFound);
+        let store = match is_new {
+            true => cleared(),
+            false => {
+                let bytes = read_file(file, |_| FILE_BYTES)?;
+                read_cache(version(), &bytes).unwrap_or_else(|complaint| {
+                    let shown = Path::new(file).display();
+                    print_error(&format!(
+                        "chooser: the cache {shown} is not used: {complaint}; the run begins with an \
+                         empty one, which replaces {shown} at the end\n"
+                    ));
+                    cleared()
+                })
+            }
+        };
+        Ok(Cache {
+            file: file.into(),
+            store: Mutex::new(store),
+        })
+    }
+
+    /// The line that hands the store to a worker.
+    fn line(&self) -> String {
+        store_line(&self.store.lock().expect("no thread has panicked"))
+    }
+
+    /// Takes over what a worker has changed in its store: all of it, or nothing.
+    fn take_changes(&self, changes: &[(usize, Vec<u8>)]) -> Result<(), String> {
+        let mut store = self.store.lock().expect("no thread has panicked");
+        let mut changed = store.clone();
+        for (place, bytes) in changes {
+            let part = changed.get_mut(*place..);
+            let part = part.and_then(|rest| rest.get_mut(..bytes.len()));
+            let part = part.ok_or("a worker has changed what is outside of the cache")?;
+            part.copy_from_slice(bytes);
+        }
+        *store = changed;
+        Ok(())
+    }
+
+    /// Writes the file for later runs.
+    fn write(&self) -> Result<(), Failure> {
+        let store = self.store.lock().expect("no thread has panicked");
+        write_file(&self.file, &write_cache(version(), &store))
     }
 }
 
@@ -251,12 +343,41 @@ fn read_earlier(file: &OsStr) -> Result<BTreeMap<String, Row>, Failure> {
     })
 }
 
+/// Whether two words name the same file, which is there.
+fn name_one_file(one: &OsStr, other: &OsStr) -> bool {
+    let whole = |word: &OsStr| fs::canonicalize(word).ok();
+    whole(one).is_some() && whole(one) == whole(other)
+}
+
+/// Asks that a cache can be written after the run, that it is a file of its own, and that there is one worker.
+fn check_cache(file: &OsStr, jobs: Option<usize>, asked: &Asked) -> Result<(), Failure> {
+    if file == STANDARD_STREAM {
+        let complaint = format!("{CACHE} takes a file, which is read and written; name one");
+        return Err(Failure::misuse(complaint));
+    }
+    check_target(file)?;
+    for option in [CSV, COMPARE] {
+        let other = asked.value(option);
+        if other.is_some_and(|other| other == file || name_one_file(other, file)) {
+            return Err(Failure::misuse(format!(
+                "{CACHE} and {option} name the same file; name another file behind {CACHE}"
+            )));
+        }
+    }
+    match jobs {
+        None | Some(1) => Ok(()),
+        Some(_) => Err(Failure::misuse(format!(
+            "{CACHE} works with one worker, since each answer may rest on the one before; leave \
+             {JOBS} out"
+        ))),
+    }
+}
+
 /// Asks, before a run that may take hours, that its table can be written afterwards and does not
 /// replace the one that it is compared with.
 fn check_csv(out: &OsStr, earlier: Option<&OsStr>) -> Result<(), Failure> {
     check_target(out)?;
-    let whole = |word: &OsStr| fs::canonicalize(word).ok();
-    if earlier.is_some_and(|earlier| whole(earlier).is_some() && whole(earlier) == whole(out)) {
+    if earlier.is_some_and(|earlier| name_one_file(earlier, out)) {
         return Err(Failure::misuse(format!(
             "{CSV} and {COMPARE} name the same file, so the earlier run would be lost; name \
              another file behind {CSV}"

@@ -14,16 +14,22 @@ pub fn seconds(microseconds: u64) -> String {
     format!("{:.6}", Duration::from_micros(microseconds).as_secs_f64())
 }
 
-/// What is told at the end: of each problem its row, what went wrong, the comparison with an earlier
-/// run, and the time that has passed.
+/// What is told at the end: of each problem its row, in a run with a cache how many were there, what went
+/// wrong, the comparison with an earlier run, and the time that has passed.
 pub fn summary<'a>(
     rows: &[Row],
+    cached: bool,
     faults: impl Iterator<Item = &'a String>,
     compared: Option<&Comparison>,
     time: Duration,
 ) -> String {
     let mut text = slowest_lines(rows);
     text.push_str(&refusal_lines(rows));
+    if cached {
+        let told = rows.iter().filter_map(|row| row.told);
+        let hits = told.filter(|told| told.hit == Some(true)).count();
+        text.push_str(&format!("{hits:>12} x  hit in the cache\n"));
+    }
     for fault in faults {
         text.push_str(&format!("{fault}\n"));
     }

@@ -11,6 +11,7 @@ mod bound;
 mod cut;
 mod files;
 mod help;
+mod key;
 mod pack;
 mod plot;
 mod refused;
@@ -102,6 +103,12 @@ const SUBCOMMANDS: &[Subcommand] = &[
         summary: "change a problem with one cost to text for other solvers, or back",
         help: wcsp::HELP,
         run: wcsp::run,
+    },
+    Subcommand {
+        name: "key",
+        summary: "tell equal problems by the key of their canonical form",
+        help: key::HELP,
+        run: key::run,
     },
     Subcommand {
         name: "plot",

@@ -36,7 +36,10 @@ impl Question<'_> {
     /// Tells a refusal, as text on standard error or as JSON on standard output.
     pub fn refuse(&self, refusal: Refusal, json: bool) -> Result<Outcome, Failure> {
         match json {
-            true => print_out(&format!("{}\n", self.refusal_json(refusal)))?,
+            true => {
+                let told = Json::Object(vec![("refused", self.refusal_json(refusal))]);
+                print_out(&format!("{told}\n"))?;
+            }
             false => print_error(&self.refusal_text(refusal)),
         }
         Ok(Outcome::Refused)
@@ -67,7 +70,8 @@ impl Question<'_> {
         }
     }
 
-    fn refusal_json(&self, refusal: Refusal) -> Json {
+    /// What JSON has as the member `refused`.
+    pub fn refusal_json(&self, refusal: Refusal) -> Json {
         let (wrong, mend) = self.advice(refusal);
         let record = self.record(refusal).map_or(Json::Null, |record| {
             let (mark, number) = match refusal {
@@ -77,15 +81,14 @@ impl Question<'_> {
             let bytes = Json::text(to_hex(shown(record.bytes)));
             Json::Object(vec![("mark", mark), ("number", number), ("bytes", bytes)])
         });
-        let told = Json::Object(vec![
+        Json::Object(vec![
             ("number", Json::Number(refusal.number().into())),
             ("word", Json::text(refusal.word())),
             ("place", Json::Number(refusal.place().into())),
             ("wrong", Json::text(wrong)),
             ("record", record),
             ("mend", Json::text(mend)),
-        ]);
-        Json::Object(vec![("refused", told)])
+        ])
     }
 
     /// The record at the place of the refusal; for bytes left over, a record without a mark.

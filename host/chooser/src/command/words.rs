@@ -107,6 +107,14 @@ impl Asked {
         }
     }
 
+    /// The operands, of which there must be one at least; they all have this name.
+    pub fn some_operands(&self, name: &str) -> Result<&[OsString], Failure> {
+        match self.operands.is_empty() {
+            true => Err(Failure::misuse(format!("{name} is missing; see --help"))),
+            false => Ok(&self.operands),
+        }
+    }
+
     /// The operands, of which there must be one for each name.
     pub fn operands<const COUNT: usize>(
         &self,

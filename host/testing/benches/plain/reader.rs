@@ -152,6 +152,7 @@ impl<'a> Cursor<'a> {
 }
 
 /// A number of four bytes.
+#[allow(dead_code, reason = "the canonical call moves entries as they stand")]
 #[inline]
 pub fn number(bytes: &[u8]) -> u32 {
     u32::from_le_bytes([bytes[0], bytes[1], bytes[2], bytes[3]])

@@ -15,7 +15,7 @@ use testing::mixed::Mixed;
 
 const USAGE: &str = "usage: fuzz [--seed S] [N]
 Runs the N mixed inputs (default 10000) with seeds S (default 0), S + 1, and so on. Each goes through
-all six calls with every buffer against a closed page above it, every fourth one again with every
+all eight calls with every buffer against a closed page above it, every fourth one again with every
 buffer against a closed page below. The status is 0 if no call has touched a byte that it was not
 lent and every answer is the brute force's, else 1, and 2 if the run could not be made or was
 stopped (Ctrl-C), after which it says what it ran.";
@@ -123,7 +123,7 @@ struct Tally {
     numbers: [u64; 17],
 }
 
-/// The six calls on an input, the buffers at one end, each compared with the brute force.
+/// The eight calls on an input, the buffers at one end, each compared with the brute force.
 fn run_calls(case: &Mixed, guarded: &RefCell<Guarded>, tally: &mut Tally) -> Result<(), String> {
     let numbers = RefCell::new(&mut tally.numbers);
     case.compare_solve(|problem, costs, choices, work| {
@@ -142,8 +142,15 @@ fn run_calls(case: &Mixed, guarded: &RefCell<Guarded>, tally: &mut Tally) -> Res
     case.compare_bounds(|problem, prefix| guarded.borrow_mut().bound(problem, prefix))?;
     case.compare_texts(|problem, text| guarded.borrow_mut().text(problem, text))?;
     case.compare_reads(|text, problem| guarded.borrow_mut().read(text, problem))?;
-    let converted = case.text_inputs().len() + case.read_inputs().len();
-    tally.calls += (3 + case.prefixes.len() + converted) as u64;
+    case.compare_canonical(|problem, form| guarded.borrow_mut().canonical(problem, form))?;
+    case.compare_cached(|problem, costs, choices, work, store| {
+        guarded
+            .borrow_mut()
+            .cached(problem, costs, choices, work, store)
+    })?;
+    let inputs = [case.text_inputs(), case.read_inputs(), case.form_inputs()];
+    let written: usize = inputs.iter().map(Vec::len).sum();
+    tally.calls += (4 + case.prefixes.len() + written) as u64;
     match guarded.borrow_mut().take_fault() {
         None => Ok(()),
         Some(fault) => Err(format!("seed {}: {fault}", case.seed)),

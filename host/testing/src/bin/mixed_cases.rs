@@ -5,8 +5,8 @@ use std::env;
 use std::process::ExitCode;
 
 use frontier::lent::{
-    read_text, write_bound, write_cut, write_points, write_solve, write_text, Answer, CutNumbers,
-    Halves, Least, PointRecord,
+    read_text, write_bound, write_cached, write_canonical, write_cut, write_points, write_solve,
+    write_text, Answer, CachedAnswer, CachedNumbers, CutNumbers, Halves, Keyed, Least, PointRecord,
 };
 use frontier::limits::MAX_OBJECTIVES;
 use testing::mixed::Mixed;
@@ -109,6 +109,47 @@ fn converted_on_heap(
     }
 }
 
+/// The canonical call on a copy that has exactly its length on the heap, and with junk where it writes its
+/// numbers, for the same reason.
+fn canonical_on_heap(problem: &[u8], form: &mut [u8]) -> Keyed {
+    let problem: Box<[u8]> = problem.into();
+    let (mut place, mut count) = (Box::new(0xa5a5_a5a5), Box::new(0xa5a5_a5a5));
+    let mut key = Box::new(0xa5a5_a5a5_a5a5_a5a5);
+    let number = write_canonical(&problem, form, &mut place, &mut count, &mut key);
+    let answer = Answer {
+        number,
+        place: *place,
+        count: *count,
+    };
+    Keyed { answer, key: *key }
+}
+
+/// The cached call on a copy that has exactly its length on the heap, and with junk where it writes its
+/// numbers, for the same reason. The store is such a copy already.
+fn cached_on_heap(
+    problem: &[u8],
+    costs: &mut [u32],
+    choices: &mut [u8],
+    work: &mut [u32],
+    store: &mut [u8],
+) -> CachedAnswer {
+    let problem: Box<[u8]> = problem.into();
+    let (mut place, mut count) = (Box::new(0xa5a5_a5a5), Box::new(0xa5a5_a5a5));
+    let mut hit = Box::new(0xa5);
+    let numbers = CachedNumbers {
+        place: &mut place,
+        count: &mut count,
+        hit: &mut hit,
+    };
+    let number = write_cached(&problem, costs, choices, work, store, numbers);
+    let answer = Answer {
+        number,
+        place: *place,
+        count: *count,
+    };
+    CachedAnswer { answer, hit: *hit }
+}
+
 /// The number of cases that the arguments ask for, or what is wrong with them.
 fn asked_cases(arguments: &[String]) -> Result<u64, String> {
     match arguments {
@@ -131,6 +172,8 @@ fn run_cases(cases: u64) -> Result<(), String> {
         case.compare_points(points_on_heap)?;
         case.compare_texts(|problem, text| converted_on_heap(write_text, problem, text))?;
         case.compare_reads(|text, problem| converted_on_heap(read_text, text, problem))?;
+        case.compare_canonical(canonical_on_heap)?;
+        case.compare_cached(cached_on_heap)?;
         let done = seed + 1;
         if done % PROGRESS == 0 && done < cases {
             println!("{done} of {cases} cases done");

@@ -23,6 +23,17 @@ static const uint8_t pair[] = {
     'C', 'F', 1, 1, 1, 1, 0, 0, 0, 0, 0, 0, 0,
 };
 
+/* Two variables of two and three values, one objective with ceiling 9; a table over variables 1 and 0, and for every
+ * choice 1, 256 and 1 again. */
+static const uint8_t turned[] = {
+    'H', 'D', 2, 1, 4, 0, 9, 0, 0, 0,
+    'D', 'O', 2, 'D', 'O', 3,
+    'C', 'F', 0, 2, 1, 0, 4, 0, 0, 0, 1, 0, 0, 0, 3, 0, 0, 0, 5, 0, 0, 0, 2, 0, 0, 0, 0, 0, 0, 0,
+    'C', 'F', 0, 0, 1, 0, 0, 0,
+    'C', 'F', 0, 0, 0, 1, 0, 0,
+    'C', 'F', 0, 0, 1, 0, 0, 0,
+};
+
 /* Prints number, place and count, how many work numbers are not zero, and of each point costs and choices. */
 static void print_list(size_t problem_len, size_t room, size_t work_len) {
     static uint32_t costs[FRONTIER_MAX_POINTS * 2], work[FRONTIER_LEAST_WORK];
@@ -117,6 +128,45 @@ static void print_read(const char *text, size_t problem_len) {
     printf("%u %" PRIu32 " %" PRIu32 " %" PRIu32 " %d\n", (unsigned)number, place, count, changed, same);
 }
 
+/* Prints number, place, count and key, how many bytes past the form have changed, and its CF records in hex. The
+ * problem must have two variables, or be refused. */
+static void print_form(const uint8_t *bytes, size_t bytes_len, size_t form_len) {
+    static uint8_t form[FRONTIER_MAX_BYTES];
+    uint32_t place = 9, count = 9, changed = 0;
+    uint64_t key = 9;
+    memset(form, 9, sizeof form);
+    uint8_t number = frontier_canonical(bytes, bytes_len, form, form_len, &place, &count, &key);
+    for (size_t i = count; i < sizeof form; i++)
+        changed += form[i] != 9;
+    printf("%u %" PRIu32 " %" PRIu32 " %016" PRIx64 " %" PRIu32, (unsigned)number, place, count, key, changed);
+    for (size_t i = 12 + 4 * (size_t)bytes[3]; i < count; i++)
+        printf("%s%02x", form[i] == 'C' ? " " : "", form[i]);
+    printf("\n");
+}
+
+/* Prints number, place, count and hit, how many work numbers are not zero, how many bytes of the store have changed,
+ * and the points. The store is the same from call to call. */
+static void print_cached(const uint8_t *bytes, size_t bytes_len, size_t room, size_t work_len, size_t store_len) {
+    static uint32_t costs[FRONTIER_COSTS_LEN], work[FRONTIER_LEAST_WORK];
+    static uint8_t choices[FRONTIER_CHOICES_LEN], store[2 * FRONTIER_SLOT_BYTES], before[2 * FRONTIER_SLOT_BYTES];
+    uint32_t place = 9, count = 9, kept = 0, changed = 0;
+    uint8_t hit = 9;
+    for (size_t i = 0; i < FRONTIER_LEAST_WORK; i++)
+        work[i] = 9;
+    memcpy(before, store, sizeof store);
+    uint8_t number = frontier_solve_cached(bytes, bytes_len, costs, 2 * room, choices, 2 * room, work, work_len, store,
+                                           store_len, &place, &count, &hit);
+    for (size_t i = 0; i < FRONTIER_LEAST_WORK; i++)
+        kept += work[i] != 0;
+    for (size_t i = 0; i < sizeof store; i++)
+        changed += store[i] != before[i];
+    printf("%u %" PRIu32 " %" PRIu32 " %u %" PRIu32 " %" PRIu32, (unsigned)number, place, count, (unsigned)hit, kept,
+           changed);
+    for (uint32_t i = 0; i < count; i++)
+        printf(" %" PRIu32 " %" PRIu32 ":%u%u", costs[2 * i], costs[2 * i + 1], choices[2 * i], choices[2 * i + 1]);
+    printf("\n");
+}
+
 int main(void) {
     print_list(sizeof pair, FRONTIER_MAX_POINTS, FRONTIER_LEAST_WORK);
     print_list(sizeof pair, 2, FRONTIER_LEAST_WORK);
@@ -149,5 +199,16 @@ int main(void) {
     print_read(read, sizeof problem - 1);
     print_read("same 2 2 1 9  2 2  2 0 1 7 -1", FRONTIER_MAX_BYTES);
     print_read("same 2 2 1 9  2", 0);
+    print_form(turned, sizeof turned, FRONTIER_MAX_BYTES);
+    print_form(turned, sizeof turned, sizeof turned);
+    print_form(turned, sizeof turned, sizeof turned - 1);
+    print_form(turned, sizeof turned - 1, 0);
+    print_form(pair, sizeof pair, sizeof pair);
+    print_cached(pair, sizeof pair, 2, FRONTIER_LEAST_WORK, 2 * FRONTIER_SLOT_BYTES);
+    print_cached(pair, sizeof pair, 2, FRONTIER_LEAST_WORK, 2 * FRONTIER_SLOT_BYTES);
+    print_cached(pair, sizeof pair, 3, FRONTIER_LEAST_WORK, 2 * FRONTIER_SLOT_BYTES);
+    print_cached(pair, sizeof pair, 3, FRONTIER_LEAST_WORK, FRONTIER_SLOT_BYTES - 1);
+    print_cached(pair, sizeof pair, 3, FRONTIER_LEAST_WORK - 1, FRONTIER_SLOT_BYTES - 1);
+    print_cached(pair, sizeof pair - 1, 3, FRONTIER_LEAST_WORK - 1, 0);
     return 0;
 }

@@ -9,7 +9,7 @@
 
 #define PAGE 4096
 #define PLACES 2048
-#define NUMBERS 20
+#define NUMBERS 21
 
 /* A counter for each number with each place (by 8 bytes), and for each count. */
 __attribute__((used, section("__libfuzzer_extra_counters"))) static uint8_t reached[NUMBERS * PLACES + 65];
@@ -23,7 +23,7 @@ static uint8_t *end_of(size_t most) {
     return start + length;
 }
 
-static uint8_t *problem_end, *costs_end, *choices_end, *work_end, *text_end, *read_end;
+static uint8_t *problem_end, *costs_end, *choices_end, *work_end, *text_end, *read_end, *store_end;
 
 /* Whether an accepted problem has so few complete choices that it may be searched. */
 static int is_small(const uint8_t *problem) {
@@ -129,6 +129,71 @@ static void text_all(const struct lent *lent) {
     convert_all(frontier_from_text, lent->problem, lent->size, read_end, FRONTIER_MAX_BYTES);
 }
 
+/* The canonical call with so many bytes, which end there, and no byte more; the count. */
+static uint32_t form_in(const uint8_t *problem, size_t size, uint8_t *end, size_t form_len, uint64_t *key) {
+    uint8_t *form = end - form_len;
+    uint32_t place, count;
+    memset(form, 0xa5, form_len);
+    uint8_t number = frontier_canonical(problem, size, form, form_len, &place, &count, key);
+    note(number, place, 0);
+    if (number ? count || *key : count != size)
+        abort();
+    for (size_t i = count; i < form_len; i++)
+        if (form[i] != 0xa5)
+            abort();
+    return count;
+}
+
+/* The canonical call with as many bytes as are needed, with one more and with one less; the form is its own form. */
+static void form_all(const struct lent *lent) {
+    uint64_t key, other;
+    uint32_t count = form_in(lent->problem, lent->size, text_end, lent->size + 1, &key);
+    if (form_in(lent->problem, lent->size, text_end, count, &other) != count || other != key)
+        abort();
+    if (!count)
+        return;
+    if (form_in(text_end - count, count, read_end, count, &other) != count || other != key)
+        abort();
+    if (memcmp(text_end - count, read_end - count, count))
+        abort();
+    if (form_in(lent->problem, lent->size, text_end, count - 1, &other))
+        abort();
+}
+
+/* The cached call on a store of so many bytes, which end there, with room for so many points; the count. */
+static uint32_t cached_in(const struct lent *lent, size_t room, size_t store_len, uint8_t *hit) {
+    size_t costs_len = room * lent->p, choices_len = room * lent->n;
+    uint32_t *costs = (uint32_t *)costs_end - costs_len, *work = (uint32_t *)work_end - lent->work_len;
+    uint8_t *choices = choices_end - choices_len;
+    uint32_t place, count;
+    for (size_t i = 0; i < lent->work_len; i++)
+        work[i] = 0x3e3e3e3e;
+    uint8_t number = frontier_solve_cached(lent->problem, lent->size, costs, costs_len, choices, choices_len, work,
+                                           lent->work_len, store_end - store_len, store_len, &place, &count, hit);
+    note(number, place, count);
+    check_work(number, work, lent->work_len, 0x3e3e3e3e);
+    if (*hit > 1 || (*hit && number && number != FRONTIER_REFUSED_FULL))
+        abort();
+    return count;
+}
+
+/* The cached call on a cleared store of one slot, again on what it has stored, with a byte too few, and on a store full
+ * of the input's own bytes. */
+static void cached_all(const struct lent *lent) {
+    uint8_t hit, again;
+    size_t one = FRONTIER_SLOT_BYTES;
+    memset(store_end - one, 0, one);
+    uint32_t count = cached_in(lent, FRONTIER_MAX_POINTS, one, &hit);
+    if (hit || cached_in(lent, FRONTIER_MAX_POINTS, one, &again) != count || (count && !again))
+        abort();
+    if (cached_in(lent, FRONTIER_MAX_POINTS, one - 1, &hit) || hit)
+        abort();
+    uint8_t *store = store_end - one - 100;
+    for (size_t i = 0; i < one + 100; i++)
+        store[i] = lent->size ? lent->problem[i % lent->size] : 0xa5;
+    cached_in(lent, lent->size % 65, one + 100, &hit);
+}
+
 int LLVMFuzzerTestOneInput(const uint8_t *data, size_t size) {
     if (size > FRONTIER_MAX_BYTES + 8)
         return 0;
@@ -139,6 +204,7 @@ int LLVMFuzzerTestOneInput(const uint8_t *data, size_t size) {
         work_end = end_of(4 * FRONTIER_LEAST_WORK);
         text_end = end_of(FRONTIER_TEXT_LEN);
         read_end = end_of(FRONTIER_MAX_BYTES);
+        store_end = end_of(FRONTIER_SLOT_BYTES + 100);
     }
     uint8_t *problem = problem_end - size;
     memcpy(problem, data, size);
@@ -154,6 +220,8 @@ int LLVMFuzzerTestOneInput(const uint8_t *data, size_t size) {
     }
     list_all(&lent);
     text_all(&lent);
+    form_all(&lent);
+    cached_all(&lent);
     if (memcmp(problem, data, size))
         abort();
     return 0;

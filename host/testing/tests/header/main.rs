@@ -11,19 +11,24 @@ use declared::{calls_in_c, calls_in_rust, defined, fields, pointer_lines};
 use frontier::limits as limit;
 use frontier::refusal as number;
 use source::{constants, exports, fields_in_c, numbers, Export};
+use testing::cache;
 
 const HEADER: &str = include_str!("../../../../include/frontier.h");
 const MEASURE_HEADER: &str = include_str!("../../../../include/frontier_measure.h");
 const RUST_CALLS: &str = include_str!("../../../frontier/src/ffi.rs");
 
-/// The Rattle source: the exported calls, the kinds with their limits, what calls refuse.
+/// The Rattle source: the exported calls, the kinds with their limits, what calls refuse, the store.
 const CALLS: &str = include_str!("../../../../crates/frontier/src/lib.rt");
 const KINDS: &str = include_str!("../../../../crates/model/src/lib.rt");
 const ANSWERS: &str = include_str!("../../../../crates/answers/src/lib.rt");
+const STORE: &str = include_str!("../../../../crates/cache_store/src/lib.rt");
 
-/// The specifications of the numbers of refusal (those of texts stand apart) and of the version.
+/// The specifications of the numbers of refusal (those of texts and of the store stand apart), of the store and of the
+/// version.
 const REFUSALS: &str = include_str!("../../../../crates/model/specs/Refusals.antt");
 const TEXT_REFUSALS: &str = include_str!("../../../../crates/text_networks/specs/Conversions.antt");
+const STORE_REFUSALS: &str = include_str!("../../../../crates/cache_answers/specs/Outcomes.antt");
+const STORES: &str = include_str!("../../../../crates/cache_answers/specs/Stores.antt");
 const VERSION: &str = include_str!("../../../../crates/frontier/specs/Version.antt");
 
 #[test]
@@ -45,15 +50,36 @@ fn limits_agree() {
         ("MAX_ARITY", "CostRecord::MAX_ARITY", limit::MAX_ARITY),
         ("MAX_POINTS", "Point::MAX_COUNT", limit::MAX_POINTS),
         ("LEAST_WORK", "LEAST_WORK", limit::LEAST_WORK),
+        ("SLOT_BYTES", "SLOT_SIZE", limit::SLOT_BYTES),
+        ("MAX_SLOTS", "MAX_SLOTS", limit::MAX_SLOTS),
     ];
     let (defined, mut source) = (defined(HEADER), constants(KINDS));
     source.extend(constants(ANSWERS));
+    source.extend(constants(STORE));
     for (name, in_source, in_rust) in expected {
         assert_eq!(defined.get(name), source.get(in_source), "FRONTIER_{name}");
         assert_eq!(defined.get(name), Some(&in_rust), "FRONTIER_{name}");
     }
     let limits = defined.keys().filter(|name| name.starts_with("MAX_"));
-    assert_eq!(limits.count() + 1, expected.len(), "each limit has a row");
+    assert_eq!(limits.count() + 2, expected.len(), "each limit has a row");
+}
+
+/// The parts of a slot stand where the specification and the source have them, and where the tests expect them.
+#[test]
+fn the_parts_of_a_slot_agree() {
+    let (specified, source) = (numbers(STORES), constants(STORE));
+    for (name, in_source, place) in [
+        ("costsAt", "COSTS_AT", cache::COSTS_AT),
+        ("choicesAt", "CHOICES_AT", cache::CHOICES_AT),
+        ("lengthAt", "LENGTH_AT", cache::LENGTH_AT),
+        ("countAt", "COUNT_AT", cache::COUNT_AT),
+        ("nextAt", "NEXT_AT", cache::NEXT_AT),
+        ("slotSize", "SLOT_SIZE", limit::SLOT_BYTES),
+        ("maxSlots", "MAX_SLOTS", limit::MAX_SLOTS),
+    ] {
+        assert_eq!(specified.get(name), Some(&place), "{name}");
+        assert_eq!(source.get(in_source), Some(&place), "{in_source}");
+    }
 }
 
 /// An entry of three variables and ten digits has 17 bytes of text for its 4, and nothing has more.
@@ -93,6 +119,7 @@ fn numbers_of_refusal_agree() {
         ("TEXT", number::TEXT),
         ("DIALECT", number::DIALECT),
         ("OUTPUT", number::OUTPUT),
+        ("STORE", number::STORE),
     ];
     let refusals = refusals();
     for (name, value) in expected {
@@ -104,6 +131,7 @@ fn numbers_of_refusal_agree() {
 fn numbers_of_refusal_are_those_of_the_specification() {
     let (refusals, mut specified) = (refusals(), numbers(REFUSALS));
     specified.extend(numbers(TEXT_REFUSALS));
+    specified.extend(numbers(STORE_REFUSALS));
     assert_eq!(refusals.len(), specified.len());
     for (name, number) in refusals {
         // The specification has `cutShort`, `badScope`, `workShort`.

@@ -5,7 +5,8 @@ use std::fs;
 use std::path::{Path, PathBuf};
 use std::process::Command;
 
-use frontier::limits::{LEAST_WORK, MAX_OBJECTIVES, MAX_POINTS, MAX_VARIABLES, TEXT_LEN};
+use frontier::limits::{LEAST_WORK, MAX_OBJECTIVES, MAX_POINTS, MAX_SLOTS, MAX_VARIABLES};
+use frontier::limits::{SLOT_BYTES, TEXT_LEN};
 use frontier::refusal::word_of;
 use testing::c_compiler::{write_later_header, Compiler, C11, C99, CXX11, CXX17};
 use testing::chooser_run::folder;
@@ -17,7 +18,9 @@ use testing::places::root;
 /// where the choice starts; of each call for point records the same as of the plain call, with the
 /// bytes changed past the points before these; of each text call number, place, count, the bytes
 /// changed past the text, and the text; of each reading call the same, with 1 for the problem that is
-/// due.
+/// due; of each canonical call number, place, count, key, the bytes changed past the form, and its
+/// records; of each cached call number, place, count, hit, how much of the work memory is not zero, how
+/// many bytes of the store have changed, and the points.
 const C_ANSWERS: &str = "\
 0 0 3 0 0 2:00 1 1:01 2 0:11
 15 0 0 0
@@ -56,6 +59,17 @@ P 2 2 1 9
 19 0 0 0 0
 18 0 0 0 0
 17 0 0 0 0
+0 0 70 0456e15bca55c90f 0 4346000000010000 4346000001000000 4346000001000000 434600020001040000000300000002000000010000000500000000000000
+0 0 70 0456e15bca55c90f 0 4346000000010000 4346000001000000 4346000001000000 434600020001040000000300000002000000010000000500000000000000
+19 0 0 0000000000000000 0
+2 62 0 0000000000000000 0
+0 0 72 dc5628ba354e54e5 0 43460001000000000001000000 43460001010000000001000000 43460101000100000000000000 43460101010100000000000000
+15 0 0 0 0 43
+15 0 0 1 0 0
+0 0 3 1 0 0 0 2:00 1 1:01 2 0:11
+20 0 0 0 8192 0
+12 0 0 0 8192 0
+2 59 0 0 8192 0
 ";
 
 /// A source in `tests/c`.
@@ -85,6 +99,8 @@ fn names() -> String {
         MAX_POINTS,
         LEAST_WORK,
         TEXT_LEN,
+        SLOT_BYTES,
+        MAX_SLOTS,
     ];
     let lengths = lengths.map(|length| length.to_string()).join(" ");
     let mut text = format!("{version} {version}\n{lengths}\n4\n0 accepted\n");
