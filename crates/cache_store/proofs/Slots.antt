@@ -10,16 +10,12 @@ use lib.Seq.{take-all}
 use borrow.Author.Tests.{lt-ltb, le-ltb, eq-eqb, ne-eqb}
 use Rattle.model.specs.Reading.{word4}
 use Rattle.model.specs.Vectors.{same}
-use Rattle.cache_answers.specs.Stores.{slotSize, maxSlots, lengthAt, nextAt, slotsIn, slotAt, holdsForm, findForm}
+use Rattle.cache_answers.specs.Stores.{slotSize, lengthAt, nextAt, slotsIn, slotAt, holdsForm, findForm}
 use Rattle.cache_answers.specs.Stores.{nextSlot, slotAfter}
 
 pub slot-inside : (store : List ℕ) (k : ℕ) → k < slotsIn store → slotSize * k + slotSize ≤ length store
 unfolding slotsIn
 slot-inside store k h = omega arith
-
-pub slots-few : (store : List ℕ) → slotsIn store ≤ maxSlots
-unfolding slotsIn
-slots-few store = omega arith
 
 -- what is lent of a store from a place on
 pub lent : (store : List ℕ) (at : ℕ) → take (length store - at) (drop at store) ≡ drop at store

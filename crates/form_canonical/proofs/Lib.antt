@@ -8,7 +8,6 @@ pub mod FiledBytes
 -- cost records over rising scopes
 pub mod ChoicePlaces
 pub mod RisenScopes
-pub mod RisingScopes
 pub mod RisenEntries
 pub mod TurnedTables
 -- layouts of one problem
