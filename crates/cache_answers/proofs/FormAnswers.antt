@@ -19,7 +19,6 @@ use Rattle.model.proofs.Flat.{costs-long, choices-long, frontier-wide}
 use Rattle.form_canonical.specs.Canonical.{canonical, canonicalBytes}
 use Rattle.form_canonical.proofs.Statements.{canonical-laws}
 use Rattle.cache_answers.specs.Stores.{Answer, solved}
-use Rattle.cache_answers.proofs.FormLengths.{form-short}
 use Rattle.cache_answers.proofs.Slots.{Fits}
 use Rattle.cache_answers.proofs.Finding.{answerOf}
 
@@ -40,14 +39,14 @@ pub form-some : (s : List ℕ) → 0 < length (canonicalBytes s)
 unfolding encode headBytes
 form-some s = omega arith
 
-pub form-fits : (s : List ℕ) → verdictOf s .number ≡ 0 → solved (problemOf s) .count ≤ maxPoints
+pub form-fits : (s : List ℕ) → All Byte s → verdictOf s .number ≡ 0 → solved (problemOf s) .count ≤ maxPoints
     → Fits (canonicalBytes s) (solved (problemOf s))
 unfolding problemOf
-form-fits s fine few =
+form-fits s bytes fine few =
     let q = problemOf s in
     let n = solved q .count in
     record {
-      short-form = form-short s fine;
+      short-form = canonical-laws .kept q (accepted-encoded s bytes fine .0) .short;
       few-costs = omega (arith, solved-costs q, product-small maxPoints maxObjectives n (q .objectives) few objectives);
       few-choices =
           omega (

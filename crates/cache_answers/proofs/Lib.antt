@@ -2,7 +2,6 @@
 -- the forms that were stored last, round the slots
 pub mod Ring
 -- a form and its answer in a slot
-pub mod FormLengths
 pub mod Slots
 pub mod Reading
 pub mod Finding

@@ -8,9 +8,10 @@ use native.Mathlib.Omega.{arith}
 use lib.Dec.{ltb, leb}
 use lib.ListN.{length}
 use borrow.Author.Tests.{eqb-true, ltb-false, leb-true, ne-eqb, not-true}
-use Rattle.model.specs.Basics.{pick}
+use Rattle.model.specs.Basics.{pick, All}
 use Rattle.model.specs.Limits.{maxPoints, workNeed}
 use Rattle.model.specs.Refusals.{workShort, full, Verdict, verdict, accepted, first}
+use Rattle.model.specs.Encoding.{Byte}
 use Rattle.model.specs.Reading.{verdictOf, problemOf}
 use Rattle.model.specs.Calls.{roomOf, workVerdict, answers}
 use Rattle.model.proofs.Bits.{and-left, and-right, pick-both}
@@ -78,24 +79,25 @@ module _ (s costs choices work store : List ℕ) where
     pub news-own : answer ≡ solved (problemOf s)
     news-own = missed (not-true _ (and-left (not (isHit s store)) (leb (answer .count) maxPoints) rest))
 
-    pub news-fits : Fits (canonicalBytes s) (solved (problemOf s))
-    news-fits =
+    pub news-fits : All Byte s → Fits (canonicalBytes s) (solved (problemOf s))
+    news-fits bytes =
         let few = leb-true _ _ (and-right (not (isHit s store)) (leb (answer .count) maxPoints) rest) in
-        form-fits s news-fine (subst (λ (a : Answer). a .count ≤ maxPoints) news-own few)
+        form-fits s bytes news-fine (subst (λ (a : Answer). a .count ≤ maxPoints) news-own few)
 
-    news-length : length (stored (canonicalBytes s) answer store) ≡ length store
-    news-length =
+    news-length : All Byte s → length (stored (canonicalBytes s) answer store) ≡ length store
+    news-length bytes =
         rw news-own
-        (stored-length (canonicalBytes s) (solved (problemOf s)) store news-fits (slots-some store (early-long asked)))
+        (stored-length (canonicalBytes s) (solved (problemOf s)) store (news-fits bytes)
+        (slots-some store (early-long asked)))
 
   -- ## the store's length
 
-  pub kept : length (outcome .store) ≡ length store
+  pub kept : All Byte s → length (outcome .store) ≡ length store
   unfolding cachedOutcome
-  kept = go news refl
+  kept bytes = go news refl
     where
       go : (b : Bool) → news ≡ b → length (pick b (stored (canonicalBytes s) answer store) store) ≡ length store
-      go true e = news-length e
+      go true e = news-length e bytes
       go false e = refl
 
   -- ## the numbers

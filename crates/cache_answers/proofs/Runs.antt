@@ -173,7 +173,7 @@ module _ (c : Call) where
     kept-by true e =
         let own = news-own (c .problem) (c .costs) (c .choices) (c .work) store e in
         let fine = news-fine (c .problem) (c .costs) (c .choices) (c .work) store e in
-        let fits = news-fits (c .problem) (c .costs) (c .choices) (c .work) store e in
+        let fits = news-fits (c .problem) (c .costs) (c .choices) (c .work) store e bytes in
         let its = form-answer (c .problem) bytes fine in
         subst (λ (a : Answer). Keeps m (form ∷ forms) (stored form a store)) (its ∙ sym own)
         (keeps-stored m forms store form keeps (subst (λ (a : Answer). Fits form a) (sym its) fits))

@@ -21,7 +21,7 @@ pub record Cache-laws : Type 0 where
       → (cachedOutcome s costs choices work store .store ≡ store)
       × (cachedOutcome s costs choices work store .hit ≡ false)
   -- whatever a store holds, it keeps its length, and the numbers are 0, 1 to 12, 15 and 20
-  pub kept : (s costs choices work store : List ℕ)
+  pub kept : (s costs choices work store : List ℕ) → All Byte s
       → length (cachedOutcome s costs choices work store .store) ≡ length store
   pub numbers : (s costs choices work store : List ℕ)
       → let n = cachedOutcome s costs choices work store .verdict .number in

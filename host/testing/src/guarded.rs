@@ -1,6 +1,7 @@
 //! The calls on buffers between closed pages: a byte read or written beside one ends the process,
 //! or is found afterwards.
 
+use std::cell::RefCell;
 use std::io;
 
 use crate::guard::{End, Pages, Plain};
@@ -18,6 +19,17 @@ const OVER: usize = 1_000;
 
 /// What the single numbers hold that a call is to write.
 const JUNK: u32 = 0xa5a5_a5a5;
+
+/// A test with every buffer against the upper closed page, and again against the lower: nothing beside one is
+/// touched.
+pub fn at_both_ends(test: impl Fn(&RefCell<Guarded>)) {
+    for end in [End::Upper, End::Lower] {
+        let guarded = RefCell::new(Guarded::new().expect("memory"));
+        guarded.borrow_mut().end = end;
+        test(&guarded);
+        assert_eq!(guarded.borrow_mut().take_fault(), None);
+    }
+}
 
 /// Memory for all that the calls are lent, each buffer between closed pages of its own.
 pub struct Guarded {

@@ -13,6 +13,9 @@ use chooser::junk::Rng;
 use frontier::lent::Answer;
 use frontier::limits::{MAX_BYTES, TEXT_LEN};
 
+/// What lent bytes hold where they are all the same.
+pub const JUNK: u8 = 0xa5;
+
 /// A buffer of this length with random contents.
 fn junk_bytes(rng: &mut Rng, length: usize) -> Vec<u8> {
     (0..length).map(|_| rng.bits() as u8).collect()
@@ -123,18 +126,41 @@ impl Mixed {
         })
     }
 
-    /// Compares a call that writes bytes on each input, with a buffer of one of the lengths around what it needs.
+    /// Compares a call that writes bytes on each input, with buffers of all lengths around what it needs.
+    pub fn compare_lengths(
+        &self,
+        inputs: Vec<Vec<u8>>,
+        need: fn(&[u8]) -> usize,
+        compare: impl Fn(&[u8], &[u8]) -> Result<(), String>,
+    ) -> Result<(), String> {
+        self.for_each_input(inputs, |rng, input| {
+            let mut lengths = lengths(rng, need(input)).into_iter();
+            lengths.try_for_each(|length| compare(input, &vec![JUNK; length]))
+        })
+    }
+
+    /// The same with a buffer of one of these lengths, which holds anything.
     pub fn compare_each(
         &self,
         inputs: Vec<Vec<u8>>,
         need: fn(&[u8]) -> usize,
         compare: impl Fn(&[u8], &[u8]) -> Result<(), String>,
     ) -> Result<(), String> {
+        self.for_each_input(inputs, |rng, input| {
+            let length = lengths(rng, need(input))[rng.below(6)];
+            compare(input, &junk_bytes(rng, length))
+        })
+    }
+
+    /// A difference is told with the seed.
+    fn for_each_input(
+        &self,
+        inputs: Vec<Vec<u8>>,
+        compare: impl Fn(&mut Rng, &[u8]) -> Result<(), String>,
+    ) -> Result<(), String> {
         let mut rng = self.text_rng();
         inputs.iter().try_for_each(|input| {
-            let length = lengths(&mut rng, need(input))[rng.below(6)];
-            let lent = junk_bytes(&mut rng, length);
-            let compared = compare(input, &lent);
+            let compared = compare(&mut rng, input);
             compared.map_err(|difference| format!("seed {}: {difference}", self.seed))
         })
     }

@@ -16,7 +16,7 @@ use testing::cache::{CHOICES_AT, COSTS_AT, COUNT_AT, LENGTH_AT, NEXT_AT};
 use testing::canonical::form_of;
 use testing::examples::{brimful, lone, staircase, ten_problems, three, turned};
 use testing::guard::End;
-use testing::guarded::Guarded;
+use testing::guarded::{at_both_ends, Guarded};
 use testing::layouts::{layouts, random_layout};
 use testing::mixed::{compare_seeds, Mixed};
 use testing::owned::frontier_of;
@@ -515,9 +515,7 @@ fn mixed_cases_6_000_to_12_000() {
 /// Every buffer between closed pages, against the upper one and against the lower, on stores that hold anything.
 #[test]
 fn nothing_is_touched_beside_a_buffer() {
-    for end in [End::Upper, End::Lower] {
-        let guarded = RefCell::new(Guarded::new().expect("memory"));
-        guarded.borrow_mut().end = end;
+    at_both_ends(|guarded| {
         compare_seeds(30_000..31_500, |case| {
             let compared = case.compare_cached(|problem, costs, choices, work, store| {
                 let mut guarded = guarded.borrow_mut();
@@ -525,8 +523,7 @@ fn nothing_is_touched_beside_a_buffer() {
             });
             compared.map(|_| ())
         });
-        assert_eq!(guarded.borrow_mut().take_fault(), None);
-    }
+    });
 }
 
 /// Whole runs between closed pages with the longest stores, full of junk or cleared.

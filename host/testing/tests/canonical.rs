@@ -2,7 +2,6 @@
 //! buffers of every length that matters between fences and between closed pages; and what a form promises: the same
 //! for all layouts, its own form, and the frontier of the problem.
 
-use std::cell::RefCell;
 use std::collections::{BTreeMap, BTreeSet};
 use std::ops::Range;
 
@@ -14,20 +13,16 @@ use frontier::refusal::OUTPUT;
 use frontier::{canonical, Canonical, Problem, Refusal, Table};
 use testing::canonical::{form_of, key_of};
 use testing::examples::{brimful, every_arity, lone, ten_problems, turned};
-use testing::guard::End;
-use testing::guarded::Guarded;
+use testing::guarded::at_both_ends;
 use testing::layouts::{compare_canonical, form_need, layouts, random_layout, reversed};
-use testing::mixed::Mixed;
+use testing::mixed::{compare_seeds, Mixed};
 use testing::night::{chosen_text, read_bytes, read_night};
 use testing::owned::{frontier_by, frontier_of};
 use testing::places::data;
 use testing::random::{random_problem, Shape};
 use testing::reading::read_problem;
-use testing::texts::{fenced_call, lengths};
+use testing::texts::{fenced_call, lengths, JUNK};
 use testing::turned::falling;
-
-/// What the lent bytes hold.
-const JUNK: u8 = 0xa5;
 
 /// Asserts that the call answers and leaves a buffer of this length as the independent one does.
 fn assert_length(problem: &[u8], length: usize) -> Keyed {
@@ -346,21 +341,14 @@ fn mixed_cases_5_000_to_10_000() {
 /// Every buffer between closed pages, against the upper one and against the lower.
 #[test]
 fn nothing_is_touched_beside_a_buffer() {
-    for end in [End::Upper, End::Lower] {
-        let guarded = RefCell::new(Guarded::new().expect("memory"));
-        guarded.borrow_mut().end = end;
+    at_both_ends(|guarded| {
         let call = |problem: &[u8], form: &mut [u8]| guarded.borrow_mut().canonical(problem, form);
-        for case in (30_000..31_500).map(Mixed::new) {
-            let mut rng = case.text_rng();
-            for problem in case.form_inputs() {
-                for length in lengths(&mut rng, form_need(&problem)) {
-                    let compared = compare_canonical(&problem, &vec![JUNK; length], call);
-                    assert_eq!(compared, Ok(()), "seed {}", case.seed);
-                }
-            }
-        }
-        assert_eq!(guarded.borrow_mut().take_fault(), None);
-    }
+        compare_seeds(30_000..31_500, |case| {
+            case.compare_lengths(case.form_inputs(), form_need, |problem, lent| {
+                compare_canonical(problem, lent, call)
+            })
+        });
+    });
 }
 
 /// As many bytes, variables, values and records as there may be.

@@ -1,8 +1,6 @@
 //! The reading call of the static library against the independent converter: texts in every layout, damaged ones
 //! and those far outside the limits; buffers of every length that matters, between fences and between closed
 //! pages; there and back; and what choices cost by a text and by its problem.
-
-use std::cell::RefCell;
 use std::collections::BTreeMap;
 use std::ops::Range;
 use std::thread;
@@ -16,16 +14,13 @@ use testing::brute::bound_prefix;
 use testing::checker::all_choices;
 use testing::examples::{every_arity, ten_problems};
 use testing::guard::{End, Pages};
-use testing::guarded::Guarded;
+use testing::guarded::at_both_ends;
 use testing::mixed::Mixed;
 use testing::random::{random_problem, Shape};
 use testing::read_texts::{compare_read, generated, read_need};
 use testing::said::Said;
-use testing::texts::{fenced_call, lengths};
+use testing::texts::{fenced_call, lengths, JUNK};
 use testing::wcsp::in_one_objective;
-
-/// What the lent bytes hold.
-const JUNK: u8 = 0xa5;
 
 /// Asserts that the call answers and leaves a buffer of this length as the converter does; the number.
 fn assert_length(text: &[u8], length: usize) -> u8 {
@@ -413,9 +408,7 @@ fn every_length_up_to_what_is_needed() {
 /// Every buffer between closed pages, against the upper one and against the lower.
 #[test]
 fn nothing_is_touched_beside_a_buffer() {
-    for end in [End::Upper, End::Lower] {
-        let guarded = RefCell::new(Guarded::new().expect("memory"));
-        guarded.borrow_mut().end = end;
+    at_both_ends(|guarded| {
         let call = |text: &[u8], problem: &mut [u8]| guarded.borrow_mut().read(text, problem);
         for case in (40_000..42_000).map(Mixed::new) {
             assert_eq!(case.compare_reads(call), Ok(()));
@@ -429,8 +422,7 @@ fn nothing_is_touched_beside_a_buffer() {
                 assert_eq!(compared, Ok(()), "seed {seed}");
             }
         }
-        assert_eq!(guarded.borrow_mut().take_fault(), None);
-    }
+    });
 }
 
 /// A text that ends at a closed page after each of its bytes: nothing behind it is read.

@@ -1,7 +1,6 @@
 //! The text call of the static library against the independent converter: problems of every shape and
 //! refused ones, buffers of every length that matters between fences and between closed pages.
 
-use std::cell::RefCell;
 use std::collections::BTreeSet;
 use std::ops::Range;
 
@@ -13,14 +12,10 @@ use frontier::limits::{
 use frontier::refusal::{DIALECT, OUTPUT};
 use frontier::{to_text, Problem, Refusal, Table};
 use testing::examples::{brimful, colours, every_arity, lone, ten_problems};
-use testing::guard::End;
-use testing::guarded::Guarded;
-use testing::mixed::Mixed;
-use testing::texts::{compare_text, fenced_call, lengths, need};
+use testing::guarded::at_both_ends;
+use testing::mixed::{compare_seeds, Mixed};
+use testing::texts::{compare_text, fenced_call, lengths, need, JUNK};
 use testing::wcsp::in_one_objective;
-
-/// What the lent bytes hold.
-const JUNK: u8 = 0xa5;
 
 /// Asserts that the call answers and leaves a buffer of this length as the converter does.
 fn assert_length(problem: &[u8], length: usize) -> Answer {
@@ -69,21 +64,14 @@ fn mixed_cases_10_000_to_20_000() {
 /// Every buffer between closed pages, against the upper one and against the lower.
 #[test]
 fn nothing_is_touched_beside_a_buffer() {
-    for end in [End::Upper, End::Lower] {
-        let guarded = RefCell::new(Guarded::new().expect("memory"));
-        guarded.borrow_mut().end = end;
+    at_both_ends(|guarded| {
         let call = |problem: &[u8], text: &mut [u8]| guarded.borrow_mut().text(problem, text);
-        for case in (30_000..31_500).map(Mixed::new) {
-            let mut rng = case.text_rng();
-            for problem in case.text_inputs() {
-                for length in lengths(&mut rng, need(&problem)) {
-                    let compared = compare_text(&problem, &vec![JUNK; length], call);
-                    assert_eq!(compared, Ok(()), "seed {}", case.seed);
-                }
-            }
-        }
-        assert_eq!(guarded.borrow_mut().take_fault(), None);
-    }
+        compare_seeds(30_000..31_500, |case| {
+            case.compare_lengths(case.text_inputs(), need, |problem, lent| {
+                compare_text(problem, lent, call)
+            })
+        });
+    });
 }
 
 /// As many bytes, variables, values and tables as there may be, and the greatest numbers everywhere.

@@ -1,1 +1,0 @@
--- What the functions of the store rely on and ensure.
