@@ -8,9 +8,8 @@ use lib.ListN.{length, getD, take, drop}
 use lib.Seq.{length-take-le, take-take, getD-take, ext-getD}
 use Rattle.model.specs.Problems.{Problem}
 use Rattle.model.specs.Costs.{isChoice, costOf, costsOf}
-use Rattle.model.specs.Vectors.{under}
 use Rattle.model.specs.Frontiers.{Point, point}
-use Rattle.model.specs.Core.{coreConsistent, CoreReached}
+use Rattle.model.specs.Core.{under, coreConsistent, CoreReached}
 use Rattle.model.specs.Archive.{weighted, Covered, Archived, Follows, Zoned}
 use Rattle.model.proofs.Bits.{true-false}
 use Rattle.model.proofs.Points.{point-eq}

@@ -14,10 +14,13 @@ ghost use Rattle.problem.specs.Records.{Whole, AllWhole};
 ghost use Rattle.costs.specs.Entries.{tableAt, entryAt, numberAt, entriesAt};
 ghost use Rattle.costs.specs.Runs.{leastIn, RunsFit, RunsSay};
 
-// What a table's number weighs in the core.
+// What a table's number weighs in the core: itself, but a forbidden entry more than every ceiling.
 fn weigh(x: u32) -> u64
     ensures { λ r. ⌜ (r ≡ entry x) × (r < entryEnd) ⌝ }
 {
+    if x == 4294967295 {
+        return 1099511627775;
+    }
     x as u64
 }
 
@@ -25,6 +28,9 @@ fn weigh(x: u32) -> u64
 fn unweighed(w: u64) -> u64
     ensures { λ r. ⌜ (r ≡ plain w) × (r ≤ w) ⌝ }
 {
+    if w > 4294967295 {
+        return 4294967295;
+    }
     w
 }
 

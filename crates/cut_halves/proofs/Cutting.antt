@@ -9,7 +9,7 @@ use lib.Dec.{ltb}
 use lib.ListN.{length, take}
 use Rattle.model.specs.Basics.{All}
 use Rattle.model.specs.Limits.{maxPoints, workNeed}
-use Rattle.model.specs.Problems.{Table, Problem, Word}
+use Rattle.model.specs.Problems.{Table, Problem, Word, RecordRules}
 use Rattle.model.specs.Encoding.{Byte}
 use Rattle.model.specs.Reading.{problemOf}
 use Rattle.model.specs.Frontiers.{Point, best, frontier}
@@ -20,7 +20,7 @@ use Rattle.model.proofs.Bits.{true-false}
 use Rattle.model.proofs.Elements.{all-in, all-map}
 use Rattle.model.proofs.Reading.{accepted-rules}
 use Rattle.model.proofs.Frontier.{frontier-best}
-use Rattle.model.proofs.Core.{take-ceilings, core-frontier, core-half-list, core-sides, core-uncrossed}
+use Rattle.model.proofs.Core.{weighable, take-ceilings, core-frontier, core-half-list, core-sides, core-uncrossed}
 use Rattle.model.proofs.Core.{Light, weighed-limit, view-sums}
 use Rattle.model.proofs.Views.{view-size}
 use Rattle.model.proofs.Merging.{sums-best, sums-bytes}
@@ -62,7 +62,8 @@ core-many [] = refl
 core-many (t ∷ ts) = ap suc (core-many ts)
 
 -- the ceilings of the halves and of their sums are the problem's, as the core has them
-module _ {s : List ℕ} {g : DG.Reading} (a : AcceptedReading s g) (room : ℕ) (ss was wide : List ℕ)
+module _ {s : List ℕ} {g : DG.Reading} (a : AcceptedReading s g) (bytes : All Byte s) (room : ℕ)
+    (ss was wide : List ℕ)
     (same : wide ≡ coreCeilings (g .head .ceilings))
     (sides : sidesOk (problemOf s) ss ≡ true) (free : uncrossed ss (problemOf s .tables) ≡ true)
     (memory : workNeed ≤ length was) where
@@ -74,6 +75,9 @@ module _ {s : List ℕ} {g : DG.Reading} (a : AcceptedReading s g) (room : ℕ) 
 
   abbrev q : Problem
   q = problemOf s
+
+  rules : RecordRules q
+  rules = accepted-rules s bytes (a .none)
 
   abbrev hs : List ℕ
   hs = take p wide
@@ -97,16 +101,15 @@ module _ {s : List ℕ} {g : DG.Reading} (a : AcceptedReading s g) (room : ℕ) 
   size k =
       ap (λ u. length (coreFrontier (view k u ss))) half-problem
       ∙ view-size (coreOf q) ss core-side core-free k
-      ∙ ap length (core-half-list k ss q)
+      ∙ ap length (core-half-list k ss q (weighable q rules))
 
   half-told : (k : ℕ) {row : ℕ} {before after : List ℕ} {f : DF.Found}
       → KeptSays p n (listOf k) row before after f → ltb maxPoints (halfSize k q ss) ≡ f .full
   half-told k h = ap (ltb maxPoints) (sym (size k)) ∙ sym (h .full)
 
   -- costs of a half are sums of the core, of which two can be added
-  half-small : All Byte s → (k : ℕ) → All SmallCosts (listOf k)
-  half-small bytes k =
-      let rules = accepted-rules s bytes (a .none) in
+  half-small : (k : ℕ) → All SmallCosts (listOf k)
+  half-small k =
       let light =
       core-light (q .tables)
       (all-map _ (λ t. All Word (t .costs)) (λ t r. r .words) (q .tables) (rules .table-rules)) in
@@ -137,8 +140,8 @@ module _ {s : List ℕ} {g : DG.Reading} (a : AcceptedReading s g) (room : ℕ) 
         second-is = second .list u
 
         -- the sums of the two
-        pub cut-halved : All Byte s → Halved p n 0 (f .count) (j .count) two
-        cut-halved bytes =
+        pub cut-halved : Halved p n 0 (f .count) (j .count) two
+        cut-halved =
             record {
               long = omega (arith, kept-long, memory);
               objectives = a .few-objectives .1;
@@ -146,8 +149,8 @@ module _ {s : List ℕ} {g : DG.Reading} (a : AcceptedReading s g) (room : ℕ) 
               count = omega arith;
               first-count = kept-few first;
               second-count = kept-few second;
-              first-small = rw first-is (half-small bytes 0);
-              second-small = rw second-is (half-small bytes 1);
+              first-small = rw first-is (half-small 0);
+              second-small = rw second-is (half-small 1);
               values = rw (first-is, second-is) (sums-bytes (withCeilings hs (coreOf q)) ss (domains-small s g a));
             }
 
@@ -157,7 +160,7 @@ module _ {s : List ℕ} {g : DG.Reading} (a : AcceptedReading s g) (room : ℕ) 
           sums-are =
               rw (first-is, second-is, ceilings-same)
               (sums-best (coreOf q) ss core-side core-free (coreOf q .ceilings) (λ c under. under))
-              ∙ core-frontier q
+              ∙ core-frontier q (weighable q rules)
 
           merged-told : ltb room (length (frontier q)) ≡ m .full
           merged-told = ap (λ ps. ltb room (length ps)) (sym sums-are) ∙ sym (merged .full)

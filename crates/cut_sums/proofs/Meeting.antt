@@ -7,7 +7,8 @@ use native.Mathlib.Omega.{arith}
 use native.Mathlib.Nat.{add-zero, sub-zero}
 use lib.ListN.{take}
 use Rattle.model.specs.Basics.{pick, keepIf}
-use Rattle.model.specs.Vectors.{under, added}
+use Rattle.model.specs.Vectors.{added}
+use Rattle.model.specs.Core.{under}
 use Rattle.model.specs.Frontiers.{Point}
 use Rattle.model.specs.Search.{Held, nothing, just, matched}
 use Rattle.model.specs.Merging.{sumOf, sumsWith, allSums, nearer, leastLeft}

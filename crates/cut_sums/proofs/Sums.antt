@@ -6,10 +6,11 @@ use mathlib.Core.Bool.{true}
 use mathlib.Core.List.{List, [], _∷_, List·Memᴰ as In, List·Memᴰ·head as here, List·Memᴰ·tail as there}
 use mathlib.Core.List.{List·Memᴰ·not-nil as in-none, List·Memᴰ·cases-cons as in-cases}
 use mathlib.Core.List.{List·Memᴰ·append-cases as in-append}
-use Prim.Native.Nat.{ℕ, zero, suc, _+_, _-_, _≤_}
+use Prim.Native.Nat.{ℕ, zero, suc, _+_, _≤_}
 use native.Mathlib.Omega.{arith}
 use lib.ListN.{take, drop}
-use Rattle.model.specs.Vectors.{under, added}
+use Rattle.model.specs.Vectors.{added}
+use Rattle.model.specs.Core.{under}
 use Rattle.model.specs.Frontiers.{Point}
 use Rattle.model.specs.Merging.{sumOf, sumsWith, allSums}
 use Rattle.model.proofs.Bits.{kept-cases}

@@ -5,7 +5,7 @@ use mathlib.Core.List.{List, []}
 use Prim.Native.Nat.{ℕ}
 use lib.ListN.{take}
 use Rattle.model.specs.Basics.{keepIf}
-use Rattle.model.specs.Vectors.{under}
+use Rattle.model.specs.Core.{under}
 use Rattle.model.specs.Frontiers.{Point}
 use Rattle.model.specs.Search.{Held, matched}
 use Rattle.model.specs.Merging.{ahead, nearer, leastLeft}

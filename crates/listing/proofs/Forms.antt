@@ -10,7 +10,7 @@ use Rattle.model.specs.Problems.{DomainSize}
 use Rattle.model.specs.Core.{coreFrontier}
 use Rattle.problem.specs.Records.{Whole}
 use Rattle.layout.specs.Layout.{sourceAt}
-use Rattle.groups.specs.Sources.{Source, sourceProblem}
+use Rattle.groups.specs.Sources.{sourceIn, Source, sourceProblem}
 use Rattle.groups.specs.declared.Task as DT
 use Rattle.pass_list.specs.Says.{CoreFound}
 use Rattle.pass_list.specs.declared.Found as DF
@@ -18,6 +18,11 @@ use Rattle.pass_list.proofs.Since.{says-since}
 use Rattle.listing.specs.Says.{Plannable, Kept}
 use Rattle.listing.proofs.PlacesKept.{behindAt}
 use Rattle.listing.proofs.PlanKept.{behind-all}
+
+-- a task under other ceilings
+abbrev pub under-ceilings : DT.Task → List ℕ → DT.Task
+under-ceilings task fs =
+    record { records = task .records; objectives = task .objectives; ceilings = fs; room = task .room }
 
 module _ {task : DT.Task} {ds s work : List ℕ} (source : Source task ds s work) where
   abbrev r : ℕ
@@ -45,6 +50,24 @@ module _ {task : DT.Task} {ds s work : List ℕ} (source : Source task ds s work
         omega (arith, ap length all, length-drop sourceAt work, source .few, source .long),
         rw all (source .whole),
       )
+
+  -- and where it finds the records
+  pub source-places : take r (behindAt work sourceAt) ≡ sourceIn work r
+  source-places =
+      let inside : sourceAt ≤ length work = omega (arith, source .long) in
+      ap (take r) (behind-all work sourceAt inside (behindAt work sourceAt) refl)
+
+  -- under other ceilings
+  pub source-under : (fs : List ℕ) → Source (under-ceilings task fs) ds s work
+  source-under fs =
+      record {
+        whole = source .whole;
+        few = source .few;
+        small = source .small;
+        variables = source .variables;
+        objectives = source .objectives;
+        long = source .long;
+      }
 
   -- memory in which the records are kept
   module _ {work′ : List ℕ} (kept : Kept r work work′) where

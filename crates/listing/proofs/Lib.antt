@@ -1,5 +1,6 @@
 -- The laws that the functions' proofs share.
 pub mod FourCeilings
+pub mod FittedCeilings
 pub mod PlacesKept
 pub mod ReadRecords
 pub mod HalfKept

@@ -5,13 +5,16 @@ use Prim.Native.Nat.{ℕ, _+_, _-_, _≤_}
 use native.Mathlib.Omega.{arith}
 use lib.ListN.{length, take, drop, length-drop}
 use lib.Seq.{length-take-le}
+use Rattle.model.specs.Basics.{All}
 use Rattle.model.specs.Problems.{Problem}
+use Rattle.model.specs.Encoding.{Byte}
 use Rattle.model.specs.Reading.{placesAt, problemOf}
 use Rattle.model.specs.Frontiers.{Point}
 use Rattle.model.specs.Core.{coreOf, withCeilings, coreFrontier}
 use Rattle.model.specs.Views.{view}
 use Rattle.model.specs.Calls.{over as filled}
-use Rattle.model.proofs.Core.{core-frontier}
+use Rattle.model.proofs.Reading.{accepted-rules}
+use Rattle.model.proofs.Core.{Weighable, weighable, core-frontier}
 use Rattle.layout.specs.Layout.{searchEnd}
 use Rattle.problem.specs.declared.Reading as DG
 use Rattle.problem.specs.Says.{startOf}
@@ -76,11 +79,13 @@ module _ (s : List ℕ) (g : DG.Reading) (a : AcceptedReading s g) where
       }
 
   -- the core's list is the frontier list
-  pub list-found : {room : ℕ} {w w1 : List ℕ} {f : DF.Found}
+  pub list-found : All Byte s → {room : ℕ} {w w1 : List ℕ} {f : DF.Found}
       → FoundSays p (length sizesOf) (coreFrontier (coreOf searched)) room w w1 f → FoundFor (problemOf s) room w w1 f
-  list-found {room} {w} {w1} {f} says =
+  list-found bytes {room} {w} {w1} {f} says =
+      let rules = accepted-rules s bytes (a .none) in
+      let weighs = subst Weighable (sym same-problem) (weighable (problemOf s) rules) in
       subst (λ (q : Problem). FoundFor q room w w1 f) same-problem
-      (subst (λ (fs : List Point). FoundSays p (length sizesOf) fs room w w1 f) (core-frontier searched) says)
+      (subst (λ (fs : List Point). FoundSays p (length sizesOf) fs room w w1 f) (core-frontier searched weighs) says)
 
   -- a half's is that of the core, under ceilings of its own
   module _ (side : ℕ) (ss ceilings : List ℕ) where

@@ -1,20 +1,25 @@
 -- The turns of the second form: what one needs and leaves, and that the next may go on from there.
-use mathlib.Core.Path.{_≡_, refl, sym, _∙_}
+use mathlib.Core.Path.{_≡_, refl, sym, _∙_, subst}
 use mathlib.Core.List.{List}
-use Prim.Native.Nat.{ℕ}
+use Prim.Native.Nat.{ℕ, _≤_}
 use native.Mathlib.Omega.{arith}
 use lib.ListN.{length}
+use Rattle.model.specs.Limits.{maxObjectives}
+use Rattle.model.specs.Frontiers.{Point}
 use Rattle.model.specs.Core.{coreFrontier}
 use Rattle.model.proofs.Bits.{true-false}
-use Rattle.groups.specs.Sources.{sourceProblem}
+use Rattle.groups.specs.Sources.{sourceIn, sourceProblem}
 use Rattle.groups.specs.declared.Task as DT
+use Rattle.pass_list.specs.Says.{FoundSays}
+use Rattle.plan_spreads.specs.LargestCosts.{Reaches}
 use Rattle.branch_directions.specs.declared.Directions as DD
 use Rattle.branch_search.specs.States.{rowsIn, Ready, Between, ExploredSays, LeftOver, unended}
 use Rattle.branch_search.specs.declared.Explored as DE
 use Rattle.branch_search.specs.declared.Effort as DF
 use Rattle.branch_search.proofs.Archives.{empty-between, between-moved, between-source, between-framed}
-use Rattle.listing.specs.Says.{Kept, PlanSays, Explorable, Turned, foundOf}
-use Rattle.listing.proofs.Forms.{source-kept, first-after}
+use Rattle.listing.specs.Says.{Kept, PlanSays, Explorable, Turned, Ended, foundOf, Fitted}
+use Rattle.listing.proofs.FittedCeilings.{fitted-frontier}
+use Rattle.listing.proofs.Forms.{under-ceilings, source-kept, first-after}
 
 pub kept-same : (r : ℕ) (work : List ℕ) → Kept r work work
 kept-same r work = record { long = refl; source = refl }
@@ -36,6 +41,26 @@ pub turned-none :
 turned-none task ds s work effort =
     turned-undecided task ds s (kept-same (task .records) work)
     (empty-between (sourceProblem task ds s work) (task .room) work) effort
+
+pub ended-none :
+    (task : DT.Task) (ds s work : List ℕ) (effort : DF.Effort) → Ended task ds s work work (unended 0 effort)
+ended-none task ds s work effort =
+    record { kept = kept-same (task .records) work; found = λ t. absurd (true-false t refl) }
+
+-- turns under ceilings that are fitted to what sums can reach find the task's list
+pub ended-fitted :
+    (task : DT.Task) (ds s work : List ℕ) (ms fs : List ℕ) → task .objectives ≤ maxObjectives →
+    length (task .ceilings) ≡ maxObjectives → Fitted (task .ceilings) ms fs →
+    Reaches ds s (sourceIn work (task .records)) (task .ceilings) ms → (work′ : List ℕ) (e : DE.Explored) →
+    Turned (under-ceilings task fs) ds s work work′ e → Ended task ds s work work′ e
+ended-fitted task ds s work ms fs few four fit reach work′ e t =
+    let q = sourceProblem task ds s work in
+    record {
+      kept = t .kept;
+      found = λ is.
+          subst (λ (ps : List Point). FoundSays (task .objectives) (length ds) ps (task .room) work work′ (foundOf e))
+          (fitted-frontier q (task .ceilings) ms fs fit few four refl (reach .most)) (t .found is);
+    }
 
 module _ {task : DT.Task} {ds s work : List ℕ} (h : Explorable task ds s work) where
   -- memory in which the records are kept

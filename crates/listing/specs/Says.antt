@@ -2,8 +2,8 @@
 use mathlib.Core.Path.{_≡_}
 use mathlib.Core.Bool.{true, false}
 use mathlib.Core.List.{List}
-use Prim.Native.Nat.{ℕ, _≤_}
-use lib.ListN.{length, take}
+use Prim.Native.Nat.{ℕ, _≤_, _<_}
+use lib.ListN.{length, getD, take}
 use Rattle.model.specs.Basics.{All}
 use Rattle.model.specs.Limits.{maxBytes, maxObjectives, maxPoints, maxTables, maxVariables}
 use Rattle.model.specs.Problems.{Problem, DomainSize}
@@ -70,6 +70,14 @@ pub record PlanSays (d : DD.Directions) (r : ℕ) (ds s work work′ : List ℕ)
   pub planned : Planned d r ds s (planIn work′)
   pub sound : Sound d r ds s (sourceIn work′ r) (planIn work′)
 
+-- a ceiling for the same sums: of those that are at most `most` where they are below it
+abbrev pub FittedTo : (ceiling most fitted : ℕ) → Type 0
+FittedTo ceiling most fitted = (fitted ≤ ceiling) × ((x : ℕ) → x < ceiling → x ≤ most → x < fitted)
+
+pub record Fitted (ceilings mosts fitted : List ℕ) : Type 0 where
+  pub long : length fitted ≡ maxObjectives
+  pub each : (o : ℕ) → o < maxObjectives → FittedTo (getD ceilings o 0) (getD mosts o 0) (getD fitted o 0)
+
 -- what the second form found where it is decided, as a finding of the first
 abbrev pub foundOf : DE.Explored → DF.Found
 foundOf e = record { full = e .full; count = e .count }
@@ -80,3 +88,9 @@ pub record Turned (task : DT.Task) (ds s work work′ : List ℕ) (e : DE.Explor
   pub found :
       e .decided ≡ true → CoreFound (sourceProblem task ds s work) (task .room) work work′ (foundOf e)
   pub between : e .decided ≡ false → Between (sourceProblem task ds s work) (task .room) work′ (e .count)
+
+-- what the second form leaves: the list where it is decided, and the problem's records
+pub record Ended (task : DT.Task) (ds s work work′ : List ℕ) (e : DE.Explored) : Type 0 where
+  pub kept : Kept (task .records) work work′
+  pub found :
+      e .decided ≡ true → CoreFound (sourceProblem task ds s work) (task .room) work work′ (foundOf e)

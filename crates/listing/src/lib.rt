@@ -12,7 +12,8 @@ ghost use Rattle.groups.specs.Sources.{Source, sourceProblem};
 ghost use Rattle.pass_list.specs.Says.{FoundSays, CoreFound, FoundFor};
 ghost use Rattle.branch_directions.specs.Directions.{Sensible};
 ghost use Rattle.branch_search.specs.States.{rowsIn, Between, unended};
-ghost use Rattle.listing.specs.Says.{Searchable, Plannable, Kept, PlanSays, Explorable, Turned};
+ghost use Rattle.listing.specs.Says.{Searchable, Plannable, Kept, PlanSays, Explorable, Turned, Ended};
+ghost use Rattle.listing.specs.Says.{FittedTo, Fitted};
 
 // A search of the second form has so many turns: the first four try a kind of plan each, and the last goes on with the
 // kind that came furthest, as long as it takes.
@@ -47,11 +48,11 @@ pub struct Searched {
     pub measures: Measures,
 }
 
-// The core's ceiling, which a cost stays below, in eight bytes as the sums are.
+// The core's ceiling, which a cost stays below: one more than the last that fits, in eight bytes as the sums are.
 fn wide(ceiling: u32) -> u64
     ensures { λ w. ⌜ w ≡ coreCeiling ceiling ⌝ }
 {
-    ceiling as u64
+    ceiling as u64 + 1
 }
 
 // The core's ceilings.
@@ -76,6 +77,32 @@ fn are_short(ceilings: [u64; 4]) -> bool
         return false;
     }
     true
+}
+
+// A ceiling of the same choices, for sums that are at most `most` where they are below it. The numbers of the second
+// form have four bytes: where a ceiling is one more than they can be, a forbidden entry would not be told from a sum.
+fn fitted(ceiling: u64, most: u64) -> u64
+    ensures { λ c. ⌜ FittedTo ceiling most c ⌝ }
+{
+    if ceiling != 4294967296 {
+        return ceiling;
+    }
+    if most >= 4294967295 {
+        return ceiling;
+    }
+    4294967295
+}
+
+// Such ceilings for all objectives.
+fn fitted_ceilings(ceilings: [u64; 4], mosts: [u64; 4]) -> [u64; 4]
+    ensures { λ r. ⌜ Fitted ceilings mosts r ⌝ }
+{
+    [
+        fitted(ceilings[0], mosts[0]),
+        fitted(ceilings[1], mosts[1]),
+        fitted(ceilings[2], mosts[2]),
+        fitted(ceilings[3], mosts[3]),
+    ]
 }
 
 // How the plan of a turn is made. All but the first are wide: most problems end with the first, which costs less to
@@ -326,7 +353,7 @@ fn not_taken() -> Taken
 // where no turn ends it.
 fn explore_source(s: &[u8], sizes: &[u8], task: groups::Task, work: &mut [u32]) -> Taken
     requires { ⌜ Source task (now sizes) (now s) (now work) × (task .room ≤ maxPoints) ⌝ }
-    ensures { λ t. ⌜ Turned task (now (sizes .entry)) (now (s .entry)) (now (work .entry)) (now (work .exit))
+    ensures { λ t. ⌜ Ended task (now (sizes .entry)) (now (s .entry)) (now (work .entry)) (now (work .exit))
         (t .explored) ⌝ }
 {
     let ceilings = task.ceilings;
@@ -342,8 +369,16 @@ fn explore_source(s: &[u8], sizes: &[u8], task: groups::Task, work: &mut [u32]) 
     }
     let r = task.records;
     let extents = plan_spreads::extents_of(s, sizes, r, ceilings, &work[layout::SOURCE_AT..]);
-    let ranges = plan_sums::ranges_of(task.objectives, extents, ceilings);
-    take_turns(s, sizes, task, ranges, work)
+    let mosts = extents.mosts;
+    let fit = fitted_ceilings(ceilings, mosts);
+    let ranges = plan_sums::ranges_of(task.objectives, extents, fit);
+    let near = groups::Task {
+        records: r,
+        objectives: task.objectives,
+        ceilings: fit,
+        room: task.room,
+    };
+    take_turns(s, sizes, near, ranges, work)
 }
 
 // The frontier list of a task whose records' places stand in work memory where a problem's records are: by the second

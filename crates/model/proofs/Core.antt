@@ -1,28 +1,32 @@
 -- The core's form of a problem: what is used of weights, and that the core's list is the frontier list.
 use mathlib.Core.Path.{_≡_, refl, ap, ap₂, sym, _∙_, subst}
-use mathlib.Core.Bool.{Bool, true, false}
-use mathlib.Core.List.{List, [], _∷_, _++_}
+use mathlib.Core.Logic.{⊎-elim}
+use mathlib.Core.Bool.{Bool, true, false, _&&_, not}
+use mathlib.Core.List.{List, [], _∷_, List·Memᴰ as In, List·Memᴰ·head as here, List·Memᴰ·tail as there}
+use mathlib.Core.List.{List·Memᴰ·not-nil as in-none, List·Memᴰ·cases-cons as in-cases}
 use Prim.Native.Nat.{ℕ, zero, suc, _+_, _-_, _*_, _≤_, _<_, min}
 use native.Mathlib.Omega.{arith}
-use lib.Dec.{ltb, leb}
+use lib.Dec.{eqb, ltb, leb}
 use lib.ListN.{length, getD, take}
-use borrow.Author.Tests.{ltb-true, leb-true, leb-false}
-use Rattle.model.specs.Basics.{keepIf, All}
+use borrow.Author.Tests.{ltb-true, ltb-false, leb-true, leb-false, lt-ltb, le-ltb}
+use Rattle.model.specs.Basics.{when, keepIf, All}
 use Rattle.model.specs.Limits.{wordEnd, maxTables}
-use Rattle.model.specs.Problems.{Table, Problem, Word}
-use Rattle.model.specs.Vectors.{under, added}
-use Rattle.model.specs.Costs.{costOf, total, totalsFrom, totals, costsOf}
+use Rattle.model.specs.Problems.{Table, Problem, Word, RecordRules}
+use Rattle.model.specs.Vectors.{atMost}
+use Rattle.model.specs.Costs.{entryFrom, costOf, total, totalsFrom, totals, forbidden, costsOf}
 use Rattle.model.specs.Frontiers.{consistent, Point, frontier}
 use Rattle.model.specs.Bounds.{leastTo, leastFrom, leastOf}
 use Rattle.model.specs.Cuts.{sidesOk, crosses, uncrossed, inHalf, halfTable, halfTables, half}
-use Rattle.model.specs.Cuts.{pairOf, pairsWith, allPairs}
 use Rattle.model.specs.Views.{narrowed, within, kept, view}
-use Rattle.model.specs.Core.{entryEnd, coreSumEnd, WordCeiling, entry, plain, weighed, coreTable, coreTables}
-use Rattle.model.specs.Core.{coreCeiling, coreCeilings, coreOf, coreConsistent, coreFrontier, CoreReached}
-use Rattle.model.proofs.Bits.{and-left, and-right}
-use Rattle.model.proofs.Elements.{all-at, all-map}
-use Rattle.model.proofs.Totals.{total-limit}
-use Rattle.model.proofs.Frontier.{frontier-agrees}
+use Rattle.model.specs.Core.{entryEnd, coreSumEnd, WordCeiling, forbiddenRise, entry, plain, weighed, coreTable}
+use Rattle.model.specs.Core.{coreTables, coreCeiling, coreCeilings, coreOf, under, coreConsistent, coreFrontier}
+use Rattle.model.specs.Core.{CoreReached}
+use Rattle.model.proofs.Bits.{not-true-false, and-left, and-right}
+use Rattle.model.proofs.Elements.{all-at, all-has, all-map}
+use Rattle.model.proofs.Sums.{under-at}
+use Rattle.model.proofs.Totals.{totals-from-length, totals-at, total-limit}
+use Rattle.model.proofs.Forbidden.{meets-in, meets-none, total-in}
+use Rattle.model.proofs.Frontier.{frontier-agrees, Meets, consistent-free}
 use Rattle.model.proofs.Kept.{kept-all, kept-few}
 
 -- ## entries and ceilings: what a change of `entry` or `coreCeiling` proves again
@@ -31,55 +35,75 @@ pub entry-zero : entry 0 ≡ 0
 unfolding entry
 entry-zero = refl
 
-pub entry-grows : (x y : ℕ) → x ≤ y → entry x ≤ entry y
+pub entry-same : (x : ℕ) → x < forbidden → entry x ≡ x
 unfolding entry
-entry-grows x y h = h
+entry-same x h = rw (lt-ltb x forbidden h) refl
+
+pub entry-rises : (x : ℕ) → forbidden ≤ x → entry x ≡ x + forbiddenRise
+unfolding entry
+entry-rises x h = rw (le-ltb x forbidden h) refl
+
+pub entry-grows : (x y : ℕ) → x ≤ y → entry x ≤ entry y
+entry-grows x y h = go (ltb x forbidden) (ltb y forbidden) refl refl
+  where
+    go : (b c : Bool) → ltb x forbidden ≡ b → ltb y forbidden ≡ c → entry x ≤ entry y
+    go true true e f =
+        omega (arith, entry-same x (ltb-true x forbidden e), entry-same y (ltb-true y forbidden f))
+    go true false e f =
+        omega (arith, entry-same x (ltb-true x forbidden e), entry-rises y (ltb-false y forbidden f))
+    go false true e f = absurd (omega (arith, ltb-false x forbidden e, ltb-true y forbidden f))
+    go false false e f =
+        omega (arith, entry-rises x (ltb-false x forbidden e), entry-rises y (ltb-false y forbidden f))
 
 pub entry-limit : (x : ℕ) → x < wordEnd → entry x < entryEnd
-unfolding entry
-entry-limit x h = omega arith
+entry-limit x h = go (ltb x forbidden) refl
+  where
+    go : (b : Bool) → ltb x forbidden ≡ b → entry x < entryEnd
+    go true e = omega (arith, entry-same x (ltb-true x forbidden e))
+    go false e = omega (arith, entry-rises x (ltb-false x forbidden e))
 
 pub plain-entry : (x : ℕ) → x < wordEnd → plain (entry x) ≡ x
-unfolding entry plain
-plain-entry x h = refl
+unfolding plain
+plain-entry x h = go (ltb x forbidden) refl
+  where
+    go : (b : Bool) → ltb x forbidden ≡ b → min (entry x) forbidden ≡ x
+    go true e = let l = ltb-true x forbidden e in omega (arith, entry-same x l)
+    go false e = let l = ltb-false x forbidden e in omega (arith, entry-rises x l)
 
-same-entries : (xs : List ℕ) → weighed xs ≡ xs
-unfolding weighed entry
-same-entries [] = refl
-same-entries (y ∷ ys) = ap (_∷_ y) (same-entries ys)
+-- a cost stays below the core's ceiling where it is at most the problem's
+pub below-suc : (x c : ℕ) → ltb x (suc c) ≡ leb x c
+below-suc x c = go (leb x c) refl
+  where
+    go : (b : Bool) → leb x c ≡ b → ltb x (suc c) ≡ b
+    go true e = lt-ltb x (suc c) (omega (arith, leb-true x c e))
+    go false e = le-ltb x (suc c) (omega (arith, leb-false x c e))
 
-same-tables : (ts : List Table) → coreTables ts ≡ ts
-unfolding coreTables
-same-tables [] = refl
-same-tables (t ∷ ts) =
-    ap₂ (λ (cs : List ℕ) rest. record { objective = t .objective; scope = t .scope; costs = cs } ∷ rest)
-    (same-entries (t .costs)) (same-tables ts)
+under-core : (xs cs : List ℕ) → under xs (coreCeilings cs) ≡ atMost xs cs
+unfolding under atMost coreCeilings coreCeiling
+under-core [] cs = refl
+under-core (x ∷ xs) [] = refl
+under-core (x ∷ xs) (c ∷ cs) = ap₂ _&&_ (below-suc x c) (under-core xs cs)
 
-same-ceilings : (cs : List ℕ) → coreCeilings cs ≡ cs
-unfolding coreCeilings coreCeiling
-same-ceilings [] = refl
-same-ceilings (c ∷ cs) = ap (_∷_ c) (same-ceilings cs)
+-- ## the core's test of a choice is the problem's, and the core's list its frontier list
 
--- a consistent choice costs the same in the core, and the core's test of a choice is the problem's
-module _ (q : Problem) (x : List ℕ) where
-  pub core-costs : consistent q x ≡ true → costsOf (coreOf q) x ≡ costsOf q x
-  unfolding costsOf totals
-  core-costs h = ap (totalsFrom (q .objectives) 0 (costOf (q .domains) x)) (same-tables (q .tables))
+-- what weights ask of a problem: each record has an objective with a ceiling, and all numbers have four bytes
+pub record Weighable (q : Problem) : Type 0 where
+  pub ceiling-each : length (q .ceilings) ≡ q .objectives
+  pub ceiling-words : All Word (q .ceilings)
+  pub records : All (λ t. (t .objective < q .objectives) × All Word (t .costs)) (q .tables)
 
-  pub core-consistent : coreConsistent (coreOf q) x ≡ consistent q x
-  unfolding coreConsistent consistent costsOf totals
-  core-consistent =
-      ap₂ (λ ts cs. under (totalsFrom (q .objectives) 0 (costOf (q .domains) x) ts) cs)
-      (same-tables (q .tables)) (same-ceilings (q .ceilings))
+pub weighable : (q : Problem) → RecordRules q → Weighable q
+weighable q rules =
+    record {
+      ceiling-each = rules .ceiling-each;
+      ceiling-words = rules .ceiling-words;
+      records = all-map _ _ (λ t r. (r .owner, r .words)) (q .tables) (rules .table-rules);
+    }
 
--- the one way back for lists
-pub core-frontier : (q : Problem) → coreFrontier (coreOf q) ≡ frontier q
-core-frontier q =
-    frontier-agrees (coreConsistent (coreOf q)) (consistent q) (coreOf q) q refl
-    (λ x c. core-consistent q x)
-    (λ x c h. core-costs q x (sym (core-consistent q x) ∙ h))
-
--- ## tables
+pub weighed-length : (xs : List ℕ) → length (weighed xs) ≡ length xs
+unfolding weighed
+weighed-length [] = refl
+weighed-length (x ∷ xs) = ap suc (weighed-length xs)
 
 -- an entry that is missing reads as 0 on both sides
 pub weighed-at : (xs : List ℕ) (i : ℕ) → getD (weighed xs) i 0 ≡ entry (getD xs i 0)
@@ -87,6 +111,110 @@ unfolding weighed
 weighed-at [] i = sym entry-zero
 weighed-at (x ∷ xs) zero = refl
 weighed-at (x ∷ xs) (suc i) = weighed-at xs i
+
+core-cost : (ds x : List ℕ) (t : Table) → costOf ds x (coreTable t) ≡ entry (costOf ds x t)
+unfolding costOf
+core-cost ds x t = weighed-at (t .costs) (entryFrom 0 ds (t .scope) x)
+
+cost-word : (ds x : List ℕ) (t : Table) → All Word (t .costs) → costOf ds x t < wordEnd
+unfolding costOf
+cost-word ds x t h = all-at Word (t .costs) h (entryFrom 0 ds (t .scope) x) 0 (omega arith)
+
+-- the records' own part: a choice that meets no forbidden entry costs the same in the core
+core-total : (ds x : List ℕ) (o : ℕ) (ts : List Table) → All (λ t. All Word (t .costs)) ts
+    → All (λ t. costOf ds x t ≡ forbidden → ⊥) ts → total o (costOf ds x) (coreTables ts) ≡ total o (costOf ds x) ts
+unfolding total coreTables
+core-total ds x o [] words none = refl
+core-total ds x o (t ∷ ts) words none =
+    ap₂ (λ (c : ℕ) (rest : ℕ). when (eqb (t .objective) o) c + rest)
+    (core-cost ds x t ∙ entry-same (costOf ds x t) (omega (arith, cost-word ds x t (words .0), none .0)))
+    (core-total ds x o ts (words .1) (none .1))
+
+core-totals : (ds x : List ℕ) (p o : ℕ) (ts : List Table) → All (λ t. All Word (t .costs)) ts
+    → All (λ t. costOf ds x t ≡ forbidden → ⊥) ts
+    → totalsFrom p o (costOf ds x) (coreTables ts) ≡ totalsFrom p o (costOf ds x) ts
+unfolding totalsFrom
+core-totals ds x zero o ts words none = refl
+core-totals ds x (suc p) o ts words none =
+    ap₂ _∷_ (core-total ds x o ts words none) (core-totals ds x p (suc o) ts words none)
+
+in-core : (t : Table) (ts : List Table) → In t ts → In (coreTable t) (coreTables ts)
+unfolding coreTables
+in-core t [] m = absurd (in-none m)
+in-core t (u ∷ ts) m =
+    ⊎-elim (λ (e : t ≡ u). here (ap coreTable e)) (λ n. there (in-core t ts n)) (in-cases m)
+
+-- ceilings of four bytes become at most one more than a number of four bytes
+pub core-ceiling-words : (cs : List ℕ) → All Word cs → All WordCeiling (coreCeilings cs)
+unfolding coreCeilings coreCeiling
+core-ceiling-words [] h = tt
+core-ceiling-words (c ∷ cs) h = (omega (arith, h .0), core-ceiling-words cs (h .1))
+
+core-ceilings-length : (cs : List ℕ) → length (coreCeilings cs) ≡ length cs
+unfolding coreCeilings
+core-ceilings-length [] = refl
+core-ceilings-length (c ∷ cs) = ap suc (core-ceilings-length cs)
+
+module _ (q : Problem) (w : Weighable q) (x : List ℕ) where
+  abbrev given : Table → ℕ
+  given = costOf (q .domains) x
+
+  words : All (λ t. All Word (t .costs)) (q .tables)
+  words = all-map _ _ (λ t r. r .1) (q .tables) (w .records)
+
+  free-costs : Meets q x ≡ false → costsOf (coreOf q) x ≡ costsOf q x
+  unfolding costsOf totals
+  free-costs e = core-totals (q .domains) x (q .objectives) 0 (q .tables) words (meets-none given (q .tables) e)
+
+  -- a record that gives a forbidden entry alone reaches every ceiling
+  met-over : Meets q x ≡ true → under (costsOf (coreOf q) x) (coreOf q .ceilings) ≡ true → ⊥
+  unfolding costsOf totals
+  met-over e u =
+      let (t, m, is) = meets-in given (q .tables) e in
+      let o = t .objective in
+      let owned : o < q .objectives = all-has _ (q .tables) (w .records) t m .0 in
+      let sums = totalsFrom (q .objectives) 0 given (coreTables (q .tables)) in
+      let wide = totals-from-length (q .objectives) 0 given (coreTables (q .tables)) in
+      let long = core-ceilings-length (q .ceilings) in
+      let below = under-at sums (coreCeilings (q .ceilings)) o (omega (arith, wide, owned))
+      (omega (arith, long, w .ceiling-each, owned)) u in
+      let start : 0 + o ≡ o = omega arith in
+      let sum : getD sums o 0 ≡ total o given (coreTables (q .tables)) =
+      totals-at given (coreTables (q .tables)) (q .objectives) 0 o owned
+      ∙ ap (λ (k : ℕ). total k given (coreTables (q .tables))) start in
+      let part : given (coreTable t) ≤ total o given (coreTables (q .tables)) =
+      total-in given (coreTable t) (coreTables (q .tables)) (in-core t (q .tables) m) in
+      let weight : given (coreTable t) ≡ forbidden + forbiddenRise =
+      core-cost (q .domains) x t ∙ ap entry is ∙ entry-rises forbidden (omega arith) in
+      let ceiling = all-at WordCeiling (coreCeilings (q .ceilings)) (core-ceiling-words (q .ceilings) (w .ceiling-words))
+      o 0 (omega arith) in
+      omega (arith, below, sum, part, weight, ceiling)
+
+  -- the core's test is the problem's
+  pub core-consistent : coreConsistent (coreOf q) x ≡ consistent q x
+  unfolding coreConsistent consistent
+  core-consistent = go (Meets q x) refl
+    where
+      go : (b : Bool) → Meets q x ≡ b
+          → under (costsOf (coreOf q) x) (coreOf q .ceilings)
+          ≡ (not (Meets q x) && atMost (costsOf q x) (q .ceilings))
+      go true e = rw e (not-true-false _ (met-over e))
+      go false e =
+          rw e (ap (λ (c : List ℕ). under c (coreCeilings (q .ceilings))) (free-costs e)
+          ∙ under-core (costsOf q x) (q .ceilings))
+
+  -- a consistent choice costs the same in the core
+  pub core-costs : consistent q x ≡ true → costsOf (coreOf q) x ≡ costsOf q x
+  core-costs h = free-costs (consistent-free q x h)
+
+-- the one way back for lists
+pub core-frontier : (q : Problem) → Weighable q → coreFrontier (coreOf q) ≡ frontier q
+core-frontier q w =
+    frontier-agrees (coreConsistent (coreOf q)) (consistent q) (coreOf q) q refl
+    (λ x c. core-consistent q w x)
+    (λ x c h. core-costs q w x (sym (core-consistent q w x) ∙ h))
+
+-- ## tables
 
 -- entries grow with what is weighed, so that the least is the least's weight
 least-entry : (x y : ℕ) → min (entry x) (entry y) ≡ entry (min x y)
@@ -190,23 +318,29 @@ module _ (k : ℕ) (ss : List ℕ) where
         tables = ts;
       }) (half-tables (q .tables))
 
+  records-half : (p : ℕ) (ts : List Table) → All (λ t. (t .objective < p) × All Word (t .costs)) ts
+      → All (λ t. (t .objective < p) × All Word (t .costs)) (halfTables k ss ts)
+  unfolding halfTables
+  records-half p [] h = tt
+  records-half p (t ∷ ts) h = go (inHalf k ss (t .scope)) (records-half p ts (h .1))
+    where
+      go : (b : Bool) → All (λ t. (t .objective < p) × All Word (t .costs)) (halfTables k ss ts)
+          → All (λ t. (t .objective < p) × All Word (t .costs)) (keepIf b (halfTable k ss t) (halfTables k ss ts))
+      go true rest = (h .0, rest)
+      go false rest = rest
+
+  weighable-half : (q : Problem) → Weighable q → Weighable (half k q ss)
+  unfolding half
+  weighable-half q w =
+      record {
+        ceiling-each = w .ceiling-each;
+        ceiling-words = w .ceiling-words;
+        records = records-half (q .objectives) (q .tables) (w .records);
+      }
+
   -- so that the core's list of a half is the half's list
-  pub core-half-list : (q : Problem) → coreFrontier (half k (coreOf q) ss) ≡ frontier (half k q ss)
-  core-half-list q = ap coreFrontier (core-half q) ∙ core-frontier (half k q ss)
-
--- sums of the halves' points are under the ceilings where they are under the core's
-module _ (q : Problem) (ss : List ℕ) where
-  pairs-with : (a : Point) (bs : List Point) → pairsWith q ss a bs ≡ pairsWith (coreOf q) ss a bs
-  unfolding pairsWith
-  pairs-with a [] = refl
-  pairs-with a (b ∷ bs) =
-      ap₂ (λ cs ps. keepIf (under (added (a .costs) (b .costs)) cs) (pairOf ss a b) ps)
-      (sym (same-ceilings (q .ceilings))) (pairs-with a bs)
-
-  pub core-pairs : (xs bs : List Point) → allPairs q ss xs bs ≡ allPairs (coreOf q) ss xs bs
-  unfolding allPairs
-  core-pairs [] bs = refl
-  core-pairs (a ∷ xs) bs = ap₂ _++_ (pairs-with a bs) (core-pairs xs bs)
+  pub core-half-list : (q : Problem) → Weighable q → coreFrontier (half k (coreOf q) ss) ≡ frontier (half k q ss)
+  core-half-list q w = ap coreFrontier (core-half q) ∙ core-frontier (half k q ss) (weighable-half q w)
 
 pub core-uncrossed : (ss : List ℕ) (ts : List Table) → uncrossed ss (coreTables ts) ≡ uncrossed ss ts
 unfolding uncrossed coreTables crosses

@@ -35,11 +35,11 @@ cut-rows =
     ∷ point (5 ∷ 2 ∷ []) (0 ∷ 0 ∷ 1 ∷ []) ∷ point (7 ∷ 1 ∷ []) (0 ∷ 2 ∷ 0 ∷ []) ∷ [])
     4 3 (1 ∷ 3 ∷ []) ∷
     -- 65 points in half 0, and every sum over a ceiling
-    row usual (stairsOver 65 64) (0 ∷ 0 ∷ 0 ∷ 1 ∷ []) [] (lists []) (lists []) full 0 0 (bounds (64 ∷ 1 ∷ [])) ∷
+    row usual (stairsOver 64 64) (0 ∷ 0 ∷ 0 ∷ 1 ∷ []) [] (lists []) (lists []) full 0 0 (bounds (64 ∷ 1 ∷ [])) ∷
     -- the same in half 1
-    row usual (stairsOver 65 64) (1 ∷ 1 ∷ 1 ∷ 0 ∷ []) [] (lists []) (lists []) full 0 0 (bounds (64 ∷ 1 ∷ [])) ∷
+    row usual (stairsOver 64 64) (1 ∷ 1 ∷ 1 ∷ 0 ∷ []) [] (lists []) (lists []) full 0 0 (bounds (64 ∷ 1 ∷ [])) ∷
     -- a side byte of 2, and records with both sides
-    uncut (colours 10 100) (0 ∷ 1 ∷ 2 ∷ []) [] (point (1 ∷ 4 ∷ []) (0 ∷ 0 ∷ 1 ∷ []) ∷ []) 13 0 (0 ∷ 0 ∷ []) ∷
+    uncut (colours 9 100) (0 ∷ 1 ∷ 2 ∷ []) [] (point (1 ∷ 4 ∷ []) (0 ∷ 0 ∷ 1 ∷ []) ∷ []) 13 0 (0 ∷ 0 ∷ []) ∷
     -- Colours, sides 0,0,1, room 1: the record over (0,2)
     row (lent 3 5 1) (colours 100 100) (0 ∷ 0 ∷ 1 ∷ []) [] full full (refuses 14 45) 0 0 (bounds (0 ∷ 0 ∷ [])) ∷
     []

@@ -1,6 +1,6 @@
 -- A property of every element: at one place, from each that stands in the list, from another property, of two lists in
 -- a row, of a front and of what is left behind it, with an element set. Where members stand.
-use mathlib.Core.Path.{_≡_, refl}
+use mathlib.Core.Path.{_≡_, refl, sym, subst}
 use mathlib.Core.Logic.{⊎-elim}
 use mathlib.Core.List.{List, [], _∷_, _++_, List·Memᴰ as In, List·Memᴰ·head as here, List·Memᴰ·tail as there}
 use mathlib.Core.List.{List·Memᴰ·not-nil as in-none, List·Memᴰ·cases-cons as in-cases}
@@ -30,6 +30,11 @@ module _ {A : Type 0} (P : A → Type 0) where
   pub all-in : (xs : List A) → ((x : A) → In x xs → P x) → All P xs
   all-in [] h = tt
   all-in (x ∷ xs) h = (h x (here refl), all-in xs (λ y m. h y (there m)))
+
+  pub all-has : (xs : List A) → All P xs → (x : A) → In x xs → P x
+  all-has [] h x m = absurd (in-none m)
+  all-has (y ∷ xs) h x m =
+      ⊎-elim (λ (e : x ≡ y). subst P (sym e) (h .0)) (λ n. all-has xs (h .1) x n) (in-cases m)
 
   pub all-map : (Q : A → Type 0) → ((x : A) → P x → Q x) → (xs : List A) → All P xs → All Q xs
   all-map Q f [] h = tt

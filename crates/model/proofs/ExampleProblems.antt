@@ -1,6 +1,7 @@
 -- The example problems of the rows, as bytes.
 use mathlib.Core.List.{List, [], _∷_}
 use Prim.Native.Nat.{ℕ}
+use Rattle.model.specs.Costs.{forbidden}
 use Rattle.model.proofs.ExampleBytes.{table, problem}
 
 -- The problems of the reference, section 12, by their ceilings.
@@ -38,7 +39,7 @@ turned =
 
 -- Pair with an entry of arity 0 in front: the half that has it loses a point to the first ceiling
 abbrev pub pairAndConstant : List ℕ
-pairAndConstant = problem (2 ∷ 9 ∷ []) (2 ∷ 2 ∷ []) (table 0 [] (1 ∷ []) ∷ pairTables)
+pairAndConstant = problem (1 ∷ 9 ∷ []) (2 ∷ 2 ∷ []) (table 0 [] (1 ∷ []) ∷ pairTables)
 
 -- p = 4, unequal domains, arity 0 to 3; to read a table in another order gives other points and another bound
 abbrev pub mixed : List ℕ
@@ -62,14 +63,10 @@ mixedTurned =
     ∷ table 3 [] (5 ∷ [])
     ∷ [])
 
--- the largest four-byte number
-abbrev forbidden : ℕ
-forbidden = 4294967295
-
 -- costs and ceilings that need the second, third and fourth byte; sums that need more than four
 abbrev pub large : List ℕ
 large =
-    problem (257 ∷ 65537 ∷ 16777217 ∷ forbidden ∷ []) (3 ∷ []) (
+    problem (256 ∷ 65536 ∷ 16777216 ∷ forbidden ∷ []) (3 ∷ []) (
     table 0 (0 ∷ []) (0 ∷ 0 ∷ 256 ∷ [])
     ∷ table 1 (0 ∷ []) (0 ∷ 0 ∷ 65536 ∷ [])
     ∷ table 2 (0 ∷ []) (0 ∷ 0 ∷ 16777216 ∷ [])
@@ -93,17 +90,17 @@ stairTables =
     ∷ []
 
 abbrev pub stairs : ℕ → List ℕ
-stairs c = problem (c ∷ 72 ∷ []) (8 ∷ 3 ∷ 3 ∷ []) stairTables
+stairs c = problem (c ∷ 71 ∷ []) (8 ∷ 3 ∷ 3 ∷ []) stairTables
 
 -- the same with a variable 3 of one value, whose costs put every sum over a ceiling
 abbrev pub stairsOver : ℕ → ℕ → List ℕ
 stairsOver c cost =
-    problem (c ∷ 72 ∷ []) (8 ∷ 3 ∷ 3 ∷ 1 ∷ []) (table 0 (3 ∷ []) (cost ∷ []) ∷ table 1 (3 ∷ []) (1 ∷ []) ∷ stairTables)
+    problem (c ∷ 71 ∷ []) (8 ∷ 3 ∷ 3 ∷ 1 ∷ []) (table 0 (3 ∷ []) (cost ∷ []) ∷ table 1 (3 ∷ []) (1 ∷ []) ∷ stairTables)
 
 -- records over variables 0 and 2, and over 1
 abbrev pub interleaved : List ℕ
 interleaved =
-    problem (9 ∷ 9 ∷ []) (2 ∷ 3 ∷ 2 ∷ []) (
+    problem (8 ∷ 8 ∷ []) (2 ∷ 3 ∷ 2 ∷ []) (
     table 0 (0 ∷ 2 ∷ []) (5 ∷ 1 ∷ 3 ∷ 0 ∷ [])
     ∷ table 1 (0 ∷ 2 ∷ []) (0 ∷ 2 ∷ 1 ∷ 4 ∷ [])
     ∷ table 0 (1 ∷ []) (4 ∷ 0 ∷ 2 ∷ [])
@@ -113,7 +110,7 @@ interleaved =
 -- the same with scopes that fall, and tables to fit
 abbrev pub interleavedTurned : List ℕ
 interleavedTurned =
-    problem (9 ∷ 9 ∷ []) (2 ∷ 3 ∷ 2 ∷ []) (
+    problem (8 ∷ 8 ∷ []) (2 ∷ 3 ∷ 2 ∷ []) (
     table 0 (2 ∷ 0 ∷ []) (5 ∷ 3 ∷ 1 ∷ 0 ∷ [])
     ∷ table 1 (2 ∷ 0 ∷ []) (0 ∷ 1 ∷ 2 ∷ 4 ∷ [])
     ∷ table 0 (1 ∷ []) (4 ∷ 0 ∷ 2 ∷ [])
@@ -123,7 +120,7 @@ interleavedTurned =
 -- four objects, each taken or left; forbidden pairs, and three objectives
 abbrev pub objects : List ℕ
 objects =
-    problem (13 ∷ 100 ∷ 100 ∷ []) (2 ∷ 2 ∷ 2 ∷ 2 ∷ []) (
+    problem (12 ∷ 100 ∷ 100 ∷ []) (2 ∷ 2 ∷ 2 ∷ 2 ∷ []) (
     table 0 (0 ∷ 2 ∷ []) (forbidden ∷ 0 ∷ 0 ∷ forbidden ∷ [])
     ∷ table 0 (2 ∷ 3 ∷ []) (forbidden ∷ 0 ∷ 0 ∷ 0 ∷ [])
     ∷ table 0 (1 ∷ 3 ∷ []) (0 ∷ 0 ∷ 0 ∷ forbidden ∷ [])

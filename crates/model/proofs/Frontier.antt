@@ -2,21 +2,20 @@
 -- ceilings' type. What is said of lists and points holds for any test of choices.
 use mathlib.Core.Path.{_≡_, refl, ap, ap₂, sym, _∙_, subst}
 use mathlib.Core.Logic.{inl}
-use mathlib.Core.Bool.{Bool, true, false}
+use mathlib.Core.Bool.{Bool, true, false, not}
 use mathlib.Core.List.{List, [], _∷_, List·Memᴰ as In, List·Memᴰ·head as here, List·Memᴰ·tail as there}
 use Prim.Native.Nat.{ℕ}
 use native.Mathlib.Omega.{arith}
-use lib.Dec.{ltb}
 use lib.ListN.{length}
-use borrow.Author.Tests.{ltb-true}
+use borrow.Author.Tests.{not-true}
 use Rattle.model.specs.Basics.{All}
 use Rattle.model.specs.Problems.{Problem, Word, RecordRules}
-use Rattle.model.specs.Vectors.{under, beats}
-use Rattle.model.specs.Costs.{isChoice, costOf, costsOf}
+use Rattle.model.specs.Vectors.{atMost, beats}
+use Rattle.model.specs.Costs.{isChoice, costOf, meetsForbidden, costsOf}
 use Rattle.model.specs.Frontiers.{consistent, Point, point, best, choices, pointsBy, frontierBy, frontier}
 use Rattle.model.specs.Frontiers.{ReachedBy, Reached, Is-frontier}
-use Rattle.model.proofs.Bits.{not-true-false, and-left, and-right}
-use Rattle.model.proofs.Vectors.{at-most-true, at-most-test, at-most-refl, beats-true, beats-false, not-earlier}
+use Rattle.model.proofs.Bits.{not-true-false, and-left, and-right, and-both}
+use Rattle.model.proofs.Vectors.{AtMost, at-most-true, at-most-test, at-most-refl, beats-true, beats-false, not-earlier}
 use Rattle.model.proofs.Vectors.{later-false}
 use Rattle.model.proofs.Points.{rising-true, rising-test}
 use Rattle.model.proofs.Best.{Best, best-unique, best-cover}
@@ -91,6 +90,23 @@ module _ (f g : List ℕ → Bool) (q r : Problem) where
       ap best (points-agree (choices ds) (λ x m. same x (choices-in ds x m)) (λ x m. costs x (choices-in ds x m)))
       ∙ ap (λ (es : List ℕ). best (pointsBy g r (choices es))) sizes
 
+-- what it is to be consistent: no forbidden entry is met, and the ceilings are kept
+abbrev pub Meets : Problem → List ℕ → Bool
+Meets q x = meetsForbidden (costOf (q .domains) x) (q .tables)
+
+module _ (q : Problem) (x : List ℕ) where
+  pub consistent-free : consistent q x ≡ true → Meets q x ≡ false
+  unfolding consistent
+  consistent-free h = not-true (Meets q x) (and-left (not (Meets q x)) _ h)
+
+  pub consistent-within : consistent q x ≡ true → AtMost (costsOf q x) (q .ceilings)
+  unfolding consistent
+  consistent-within h = at-most-true (costsOf q x) (q .ceilings) (and-right (not (Meets q x)) _ h)
+
+  pub consistent-test : Meets q x ≡ false → atMost (costsOf q x) (q .ceilings) ≡ true → consistent q x ≡ true
+  unfolding consistent
+  consistent-test none kept = and-both (ap not none) kept
+
 -- the consistent choices
 module _ (q : Problem) where
   -- Is-frontier says Best, in tests
@@ -129,27 +145,23 @@ module _ (q : Problem) where
   pub frontier-unique : (ps rs : List Point) → Is-frontier q ps → Is-frontier q rs → ps ≡ rs
   frontier-unique ps rs f g = best-unique (Reached q) ps rs (is-frontier-best ps f) (is-frontier-best rs g)
 
-  -- reached costs are below their ceilings, listed ones among them
-  pub reached-under : (p : Point) → Reached q p → under (p .costs) (q .ceilings) ≡ true
-  unfolding consistent
-  reached-under p h = subst (λ (c : List ℕ). under c (q .ceilings) ≡ true) (sym (h .exact)) (h .allowed)
+  -- reached costs are at most their ceilings, listed ones among them
+  pub reached-within : (p : Point) → Reached q p → AtMost (p .costs) (q .ceilings)
+  reached-within p h =
+      subst (λ (c : List ℕ). AtMost c (q .ceilings)) (sym (h .exact)) (consistent-within q (p .choice) (h .allowed))
 
-  pub listed-under : (p : Point) → In p (frontier q) → under (p .costs) (q .ceilings) ≡ true
-  listed-under p m = reached-under p (frontier-best q .listed .sound p m)
+  pub listed-within : (p : Point) → In p (frontier q) → AtMost (p .costs) (q .ceilings)
+  listed-within p m = reached-within p (frontier-best q .listed .sound p m)
 
--- what is below numbers of four bytes has four bytes
-pub under-words : (xs cs : List ℕ) → length xs ≡ length cs → under xs cs ≡ true → All Word cs → All Word xs
-unfolding under
-under-words [] cs e u w = tt
-under-words (x ∷ xs) [] e u w = absurd (omega arith)
-under-words (x ∷ xs) (c ∷ cs) e u w = (
-  omega (arith, ltb-true x c (and-left (ltb x c) (under xs cs) u), w .0),
-  under-words xs cs (omega arith) (and-right (ltb x c) (under xs cs) u) (w .1),
-)
+-- what is at most numbers of four bytes has four bytes
+at-most-words : (xs cs : List ℕ) → length xs ≡ length cs → AtMost xs cs → All Word cs → All Word xs
+at-most-words [] cs e u w = tt
+at-most-words (x ∷ xs) [] e u w = absurd (omega arith)
+at-most-words (x ∷ xs) (c ∷ cs) e u w = (omega (arith, u .0, w .0), at-most-words xs cs (omega arith) (u .1) (w .1))
 
 -- so that listed costs fit 32 bits
 pub listed-words : (q : Problem) → RecordRules q → (p : Point) → In p (frontier q) → All Word (p .costs)
 listed-words q rules p m =
-    under-words (p .costs) (q .ceilings)
-    (reached-width q p (frontier-best q .listed .sound p m) ∙ sym (rules .ceiling-each)) (listed-under q p m)
+    at-most-words (p .costs) (q .ceilings)
+    (reached-width q p (frontier-best q .listed .sound p m) ∙ sym (rules .ceiling-each)) (listed-within q p m)
     (rules .ceiling-words)

@@ -50,12 +50,14 @@ frontier-rows =
     -- Three, choice buffer of 2, two point records
     row (lent 6 2 2) (three 3 3) (0 ∷ []) [] full full full 0 0 (bounds (0 ∷ 0 ∷ [])) ∷
     -- Three, ceilings 2 and 3, cost buffer of 4
-    answered (lent 4 2 2) (three 2 3) (1 ∷ []) [] (point (0 ∷ 2 ∷ []) (0 ∷ []) ∷ point (1 ∷ 1 ∷ []) (1 ∷ []) ∷ []) 1 2
+    row (lent 4 2 2) (three 2 3) (1 ∷ []) [] full full full 0 0 (bounds (0 ∷ 0 ∷ [])) ∷
+    -- Three, ceilings 1 and 3, cost buffer of 4
+    answered (lent 4 2 2) (three 1 3) (1 ∷ []) [] (point (0 ∷ 2 ∷ []) (0 ∷ []) ∷ point (1 ∷ 1 ∷ []) (1 ∷ []) ∷ []) 1 2
     (0 ∷ 0 ∷ []) ∷
     -- 64 points
-    answered (lent 130 200 64) (stairs 64) (0 ∷ 0 ∷ 1 ∷ []) (7 ∷ []) (steps 64 0) 22 3 (63 ∷ 0 ∷ []) ∷
+    answered (lent 130 200 64) (stairs 63) (0 ∷ 0 ∷ 1 ∷ []) (7 ∷ []) (steps 64 0) 22 3 (63 ∷ 0 ∷ []) ∷
     -- 65 points, with buffers for more
-    row (lent 140 210 70) (stairs 65) (0 ∷ 1 ∷ 0 ∷ []) (7 ∷ 2 ∷ 2 ∷ []) full full full 0 0 (bounds (71 ∷ 0 ∷ [])) ∷
+    row (lent 140 210 70) (stairs 64) (0 ∷ 1 ∷ 0 ∷ []) (7 ∷ 2 ∷ 2 ∷ []) full full full 0 0 (bounds (71 ∷ 0 ∷ [])) ∷
     -- a work buffer of 8,191; the sides are not asked
     row (lentWork (held 8191)) (bare 1 1) [] [] (refuses 12 0) (refuses 12 0) (refuses 12 0) 0 0 (bounds (0 ∷ [])) ∷
     -- a longer work buffer is zero to its end
@@ -84,7 +86,10 @@ frontier-right = (
                   (refl, refl, refl, refl),
                   (
                     (refl, refl, refl, refl),
-                    ((refl, refl, refl, refl), ((refl, refl, refl, refl), ((refl, refl, refl, refl), tt))),
+                    (
+                      (refl, refl, refl, refl),
+                      ((refl, refl, refl, refl), ((refl, refl, refl, refl), ((refl, refl, refl, refl), tt))),
+                    ),
                   ),
                 ),
               ),

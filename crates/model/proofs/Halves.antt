@@ -1,7 +1,8 @@
--- A problem that no record crosses costs what its two halves cost together.
+-- A problem that no record crosses costs what its two halves cost together, and a choice meets the forbidden entries
+-- that its parts meet.
 use mathlib.Core.Path.{_≡_, refl, ap}
 use mathlib.Core.Logic.{_⊎_, inl, ⊎-elim}
-use mathlib.Core.Bool.{true, false, _&&_, not}
+use mathlib.Core.Bool.{Bool, true, false, _&&_, _||_, not}
 use mathlib.Core.List.{List, [], _∷_, List·Memᴰ as In, List·Memᴰ·head as here, List·Memᴰ·tail as there}
 use mathlib.Core.List.{List·Memᴰ·not-nil as in-none, List·Memᴰ·cases-cons as in-cases}
 use Prim.Native.Nat.{ℕ, zero, suc, _+_, _*_}
@@ -11,10 +12,10 @@ use lib.ListN.{length, getD}
 use borrow.Author.Tests.{eq-eqb, ne-eqb, not-true}
 use Rattle.model.specs.Problems.{Table, Problem}
 use Rattle.model.specs.Vectors.{added}
-use Rattle.model.specs.Costs.{entryFrom, costOf, total, totalsFrom, totals, costsOf}
+use Rattle.model.specs.Costs.{entryFrom, costOf, total, totalsFrom, totals, forbidden, meetsForbidden, costsOf}
 use Rattle.model.specs.Cuts.{allSides, hasSide, crosses, uncrossed, onSide, newNumber, renumbered, inHalf}
 use Rattle.model.specs.Cuts.{halfTable, halfTables, half}
-use Rattle.model.proofs.Bits.{true-false, and-left, and-right, and-both, or-left, or-right}
+use Rattle.model.proofs.Bits.{true-false, and-left, and-right, and-both, or-assoc, or-swap, or-left, or-right}
 use Rattle.model.proofs.Sides.{side-cases, sides-tail, side-place}
 
 -- a scope that lies on side k
@@ -107,9 +108,40 @@ module _ (ss : List ℕ) (all : allSides ss ≡ true) (ds zs : List ℕ) (long :
   totals-parts zero o ts h = refl
   totals-parts (suc p) o ts h = let a = total-parts o ts h in let b = totals-parts p (suc o) ts h in cc
 
+  meets-parts : (ts : List Table) → uncrossed ss ts ≡ true
+      → meetsForbidden (costOf ds zs) ts
+      ≡ (meetsForbidden (inPart 0) (halfTables 0 ss ts) || meetsForbidden (inPart 1) (halfTables 1 ss ts))
+  unfolding meetsForbidden halfTables crosses
+  meets-parts [] h = refl
+  meets-parts (t ∷ ts) h =
+      go (one-half ss all (t .scope) (uncrossed-first ss t ts h)) (meets-parts ts (uncrossed-rest ss t ts h))
+    where
+      first : Bool
+      first = meetsForbidden (inPart 0) (halfTables 0 ss ts)
+
+      second : Bool
+      second = meetsForbidden (inPart 1) (halfTables 1 ss ts)
+
+      met : ℕ → Bool
+      met k = eqb (inPart k (halfTable k ss t)) forbidden
+
+      go : InOne ss (t .scope) → meetsForbidden (costOf ds zs) ts ≡ (first || second)
+          → meetsForbidden (costOf ds zs) (t ∷ ts)
+          ≡ (meetsForbidden (inPart 0) (halfTables 0 ss (t ∷ ts)) || meetsForbidden (inPart 1) (halfTables 1 ss (t ∷ ts)))
+      go (in-zero a b s) e = rw (a, b, table-half 0 t s, e) (or-assoc (met 0) first second)
+      go (in-one a b s) e = rw (a, b, table-half 1 t s, e) (or-swap (met 1) first second)
+
 pub costs-halves : (q : Problem) (ss zs : List ℕ) → allSides ss ≡ true → length (q .domains) ≡ length ss
     → length zs ≡ length ss → uncrossed ss (q .tables) ≡ true
     → costsOf q zs ≡ added (costsOf (half 0 q ss) (onSide 0 ss zs)) (costsOf (half 1 q ss) (onSide 1 ss zs))
 unfolding costsOf totals half
 costs-halves q ss zs all long wide free =
     totals-parts ss all (q .domains) zs long wide (q .objectives) 0 (q .tables) free
+
+pub meets-halves : (q : Problem) (ss zs : List ℕ) → allSides ss ≡ true → length (q .domains) ≡ length ss
+    → length zs ≡ length ss → uncrossed ss (q .tables) ≡ true
+    → meetsForbidden (costOf (q .domains) zs) (q .tables)
+    ≡ (meetsForbidden (costOf (half 0 q ss .domains) (onSide 0 ss zs)) (half 0 q ss .tables)
+    || meetsForbidden (costOf (half 1 q ss .domains) (onSide 1 ss zs)) (half 1 q ss .tables))
+unfolding half
+meets-halves q ss zs all long wide free = meets-parts ss all (q .domains) zs long wide (q .tables) free

@@ -29,12 +29,14 @@ pub mod Sorting
 pub mod Choices
 pub mod Frontier
 -- the core's form of a problem
+pub mod Forbidden
 pub mod Core
 -- demand 3: the cut
 pub mod Sides
 pub mod Spread
 pub mod Halves
 pub mod Cut
+pub mod CoreCut
 pub mod Views
 pub mod Exchange
 -- the bound
@@ -86,6 +88,7 @@ pub mod RowBuilders
 pub mod StarredRows
 pub mod ReadingRows
 pub mod FrontierRows
+pub mod CeilingRows
 pub mod CutRows
 pub mod BoundRows
 pub mod Rows

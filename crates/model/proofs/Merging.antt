@@ -10,10 +10,10 @@ use lib.ListN.{length}
 use Rattle.model.specs.Basics.{pick, keepIf, All}
 use Rattle.model.specs.Limits.{maxDomain}
 use Rattle.model.specs.Problems.{Problem, DomainSize}
-use Rattle.model.specs.Vectors.{under, same, earlier, added}
+use Rattle.model.specs.Vectors.{same, earlier, added}
 use Rattle.model.specs.Costs.{isChoice}
 use Rattle.model.specs.Frontiers.{Point, point, best}
-use Rattle.model.specs.Core.{withCeilings, coreFrontier}
+use Rattle.model.specs.Core.{withCeilings, under, coreFrontier}
 use Rattle.model.specs.Cuts.{sidesOk, uncrossed, onSide, half, merged, pairsWith, allPairs}
 use Rattle.model.specs.Search.{Held, nothing, just, matched}
 use Rattle.model.specs.Views.{view, spread, spreadAll}
@@ -26,7 +26,8 @@ use Rattle.model.proofs.Best.{Pool, listed-count, best-unique}
 use Rattle.model.proofs.Sorting.{Sized, AllSized, best-right}
 use Rattle.model.proofs.Frontier.{frontier-best}
 use Rattle.model.proofs.Spread.{spreadPoint, spread-merged, spread-small}
-use Rattle.model.proofs.Cut.{sides-long, sides-all, sides-with, cut-best}
+use Rattle.model.proofs.Cut.{sides-long, sides-all, sides-with}
+use Rattle.model.proofs.CoreCut.{core-cut-best}
 use Rattle.model.proofs.Views.{view-list, view-choice}
 use Rattle.model.proofs.Passes.{NotAfter, not-after-refl, not-after-trans, Unmatched, matched-in}
 use Rattle.model.proofs.Passes.{unmatched-false, Prefix, prefix-more, prefix-done}
@@ -37,8 +38,12 @@ module _ (q : Problem) (ss : List ℕ) where
   abbrev Adds : Point → Point → Type 0
   Adds a b = added (spread 0 ss (a .choice)) (spread 1 ss (b .choice)) ≡ merged ss (a .choice) (b .choice)
 
+  -- the core's test of a sum
+  abbrev keeps : List ℕ → Bool
+  keeps c = under c (q .ceilings)
+
   sums-with : (a : Point) (bs : List Point) → ((b : Point) → In b bs → Adds a b)
-      → sumsWith (q .ceilings) (spreadPoint 0 ss a) (spreadAll 1 ss bs) ≡ pairsWith q ss a bs
+      → sumsWith (q .ceilings) (spreadPoint 0 ss a) (spreadAll 1 ss bs) ≡ pairsWith keeps ss a bs
   unfolding spreadAll sumsWith pairsWith
   sums-with a [] h = refl
   sums-with a (b ∷ bs) h =
@@ -47,7 +52,7 @@ module _ (q : Problem) (ss : List ℕ) where
       (sums-with a bs (λ r m. h r (there m)))
 
   sums-all : (xs bs : List Point) → ((a b : Point) → In a xs → In b bs → Adds a b)
-      → allSums (q .ceilings) (spreadAll 0 ss xs) (spreadAll 1 ss bs) ≡ allPairs q ss xs bs
+      → allSums (q .ceilings) (spreadAll 0 ss xs) (spreadAll 1 ss bs) ≡ allPairs keeps ss xs bs
   unfolding spreadAll allSums allPairs
   sums-all [] bs h = refl
   sums-all (a ∷ xs) bs h =
@@ -72,14 +77,14 @@ module _ (q : Problem) (ss : List ℕ) (sides : sidesOk q ss ≡ true) (free : u
       spread-merged ss (q .domains) (a .choice) (b .choice) (sides-all q ss sides) (sides-long q ss sides)
       (complete 0 a m) (complete 1 b n)
 
-  pub sums-pairs : allSums (q .ceilings) (seen 0) (seen 1) ≡ allPairs q ss (listed 0) (listed 1)
+  pub sums-pairs : allSums (q .ceilings) (seen 0) (seen 1) ≡ allPairs (keeps q ss) ss (listed 0) (listed 1)
   sums-pairs =
       let each : (k : ℕ) → seen k ≡ spreadAll k ss (listed k) =
       view-list (withCeilings hs q) ss (sides-with hs q ss sides) free in
       ap₂ (allSums (q .ceilings)) (each 0) (each 1) ∙ sums-all q ss (listed 0) (listed 1) adds
 
   pub sums-best : best (allSums (q .ceilings) (seen 0) (seen 1)) ≡ coreFrontier q
-  sums-best = ap best sums-pairs ∙ cut-best q ss sides free hs loose
+  sums-best = ap best sums-pairs ∙ core-cut-best q ss sides free hs loose
 
 -- the values of a summed choice are values of domains, so they fit bytes
 pub sums-bytes : (q : Problem) (ss : List ℕ) → All DomainSize (q .domains) → (a b : Point)

@@ -8,10 +8,10 @@ use Prim.Native.Nat.{ℕ}
 use lib.ListN.{length}
 use borrow.Author.Tests.{not-true}
 use Rattle.model.specs.Problems.{Problem}
-use Rattle.model.specs.Vectors.{under, earlier}
+use Rattle.model.specs.Vectors.{earlier}
 use Rattle.model.specs.Costs.{costsOf}
 use Rattle.model.specs.Frontiers.{Point, point}
-use Rattle.model.specs.Core.{CoreReached}
+use Rattle.model.specs.Core.{under, CoreReached}
 use Rattle.model.specs.Bounds.{boundOf}
 use Rattle.model.specs.Search.{Held, nothing, just, matched, late, dead, passes, solved}
 use Rattle.model.proofs.Bits.{true-false, or-cases}

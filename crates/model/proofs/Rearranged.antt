@@ -1,6 +1,6 @@
 -- Rearranged lists: what does not depend on the order of the elements, and rearranged cost records.
 use mathlib.Core.Path.{_≡_, refl, ap, ap₂, _∙_}
-use mathlib.Core.Bool.{Bool, true, false}
+use mathlib.Core.Bool.{Bool, true, false, _||_}
 use mathlib.Core.List.{List, [], _∷_, map}
 use Prim.Native.Nat.{ℕ, zero, suc, _+_}
 use native.Mathlib.Omega.{arith}
@@ -9,8 +9,9 @@ use lib.ListN.{length, length-append}
 use Rattle.model.specs.Basics.{when, keepIf, All}
 use Rattle.model.specs.Problems.{Table}
 use Rattle.model.specs.Encoding.{tableBytes, tablesBytes}
-use Rattle.model.specs.Costs.{total, totalsFrom}
+use Rattle.model.specs.Costs.{total, totalsFrom, forbidden, meetsForbidden}
 use Rattle.model.specs.Cuts.{inHalf, halfTable, halfTables}
+use Rattle.model.proofs.Bits.{or-swap}
 use Rattle.model.specs.Rearrangements.{Rearranged, none, keep, swap, then}
 
 module _ {A : Type 0} where
@@ -63,6 +64,16 @@ rearranged-total o f none = refl
 rearranged-total o f (keep {x = t} h) = ap (_+_ (when (eqb (t .objective) o) (f t))) (rearranged-total o f h)
 rearranged-total o f (swap h) = omega (arith, rearranged-total o f h)
 rearranged-total o f (then h k) = rearranged-total o f h ∙ rearranged-total o f k
+
+pub rearranged-meets : (f : Table → ℕ) {ts us : List Table} → Rearranged ts us
+    → meetsForbidden f ts ≡ meetsForbidden f us
+unfolding meetsForbidden
+rearranged-meets f none = refl
+rearranged-meets f (keep {x = t} h) = ap (_||_ (eqb (f t) forbidden)) (rearranged-meets f h)
+rearranged-meets f (swap {x = t} {y = u} {ys = us} h) =
+    ap (λ (rest : Bool). eqb (f t) forbidden || (eqb (f u) forbidden || rest)) (rearranged-meets f h)
+    ∙ or-swap (eqb (f t) forbidden) (eqb (f u) forbidden) (meetsForbidden f us)
+rearranged-meets f (then h k) = rearranged-meets f h ∙ rearranged-meets f k
 
 pub rearranged-totals : (p o : ℕ) (f : Table → ℕ) {ts us : List Table} → Rearranged ts us
     → totalsFrom p o f ts ≡ totalsFrom p o f us

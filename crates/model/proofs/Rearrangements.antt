@@ -1,32 +1,17 @@
 -- Costs, frontier list, bounds, halves and cut do not depend on the order of the cost records.
-use mathlib.Core.Path.{_≡_, refl, ap, ap₂, _∙_}
-use mathlib.Core.List.{List, [], _∷_, _++_}
+use mathlib.Core.Path.{_≡_, ap, ap₂, _∙_}
+use mathlib.Core.List.{List}
 use Prim.Native.Nat.{ℕ}
 use lib.ListN.{length}
-use Rattle.model.specs.Basics.{keepIf}
 use Rattle.model.specs.Problems.{Table, Problem}
-use Rattle.model.specs.Vectors.{under, added}
-use Rattle.model.specs.Costs.{costOf, totals, costsOf}
+use Rattle.model.specs.Vectors.{atMost}
+use Rattle.model.specs.Costs.{costOf, totals, meetsForbidden, costsOf}
 use Rattle.model.specs.Frontiers.{Point, best, frontier}
 use Rattle.model.specs.Bounds.{leastOf, boundOf}
-use Rattle.model.specs.Cuts.{onSide, half, pairOf, pairsWith, allPairs, cutList}
+use Rattle.model.specs.Cuts.{onSide, half, allPairs, cutList}
 use Rattle.model.specs.Rearrangements.{Reordered, Order-laws}
-use Rattle.model.proofs.Rearranged.{rearranged-totals, rearranged-halves}
+use Rattle.model.proofs.Rearranged.{rearranged-totals, rearranged-meets, rearranged-halves}
 use Rattle.model.proofs.Alike.{alike-frontier}
-
--- the pairs of two lists ask for the ceilings alone
-module _ (q r : Problem) (ceilings : q .ceilings ≡ r .ceilings) (ss : List ℕ) where
-  pairs-with-same : (a : Point) (bs : List Point) → pairsWith q ss a bs ≡ pairsWith r ss a bs
-  unfolding pairsWith
-  pairs-with-same a [] = refl
-  pairs-with-same a (b ∷ bs) =
-      ap₂ (λ (cs : List ℕ) (ps : List Point). keepIf (under (added (a .costs) (b .costs)) cs) (pairOf ss a b) ps)
-      ceilings (pairs-with-same a bs)
-
-  pairs-same : (xs bs : List Point) → allPairs q ss xs bs ≡ allPairs r ss xs bs
-  unfolding allPairs
-  pairs-same [] bs = refl
-  pairs-same (a ∷ xs) bs = ap₂ _++_ (pairs-with-same a bs) (pairs-same xs bs)
 
 module _ (q r : Problem) (h : Reordered q r) where
   reordered-totals : (f : List ℕ → Table → ℕ) → totals q (f (q .domains)) ≡ totals r (f (r .domains))
@@ -43,7 +28,10 @@ module _ (q r : Problem) (h : Reordered q r) where
   reordered-bound pre = reordered-totals (λ ds. leastOf ds pre)
 
   reordered-list : frontier q ≡ frontier r
-  reordered-list = alike-frontier q r (h .objectives) (h .ceilings) (h .domains) (λ xs c. reordered-costs xs)
+  reordered-list =
+      alike-frontier q r (h .objectives) (h .ceilings) (h .domains) (λ xs c. reordered-costs xs)
+      (λ xs c. ap (λ (ds : List ℕ). meetsForbidden (costOf ds xs) (q .tables)) (h .domains)
+      ∙ rearranged-meets (costOf (r .domains) xs) (h .tables))
 
   reordered-half : (k : ℕ) (ss : List ℕ) → Reordered (half k q ss) (half k r ss)
   unfolding half
@@ -61,9 +49,10 @@ half-list q r h k ss = reordered-list (half k q ss) (half k r ss) (reordered-hal
 cut-same : (q r : Problem) → Reordered q r → (ss : List ℕ) → cutList q ss ≡ cutList r ss
 unfolding cutList
 cut-same q r h ss =
+    let list : List ℕ → List Point → List Point → List Point = λ cs. allPairs (λ c. atMost c cs) ss in
     ap best
-    (ap₂ (allPairs q ss) (half-list q r h 0 ss) (half-list q r h 1 ss)
-    ∙ pairs-same q r (h .ceilings) ss (frontier (half 0 r ss)) (frontier (half 1 r ss)))
+    (ap₂ (list (q .ceilings)) (half-list q r h 0 ss) (half-list q r h 1 ss)
+    ∙ ap (λ cs. list cs (frontier (half 0 r ss)) (frontier (half 1 r ss))) (h .ceilings))
 
 pub order-laws : Order-laws
 order-laws =

@@ -9,7 +9,8 @@ use lib.Dec.{ltb}
 use lib.ListN.{length, getD, take, replicate, length-replicate}
 use lib.Seq.{getD-at}
 use borrow.Author.Tests.{ltb-true, lt-ltb}
-use Rattle.model.specs.Vectors.{under, added}
+use Rattle.model.specs.Vectors.{added}
+use Rattle.model.specs.Core.{under}
 use Rattle.model.proofs.Bits.{and-left, and-right, and-both}
 use Rattle.model.proofs.Vectors.{AtMost, Earlier}
 
@@ -84,6 +85,15 @@ added-tie (suc n) (a ∷ xs) (b ∷ bs) (c ∷ cs) (d ∷ ds) u v w x h k e =
     let q : b ≡ d = omega arith in
     let (r, s) = added-tie n xs bs cs ds (omega arith) (omega arith) (omega arith) (omega arith) (h .1) (k .1) tails in
     (cc, cc)
+
+-- what is under the ceilings is below each of them
+pub under-at : (xs cs : List ℕ) (i : ℕ) → i < length xs → i < length cs → under xs cs ≡ true → getD xs i 0 < getD cs i 0
+unfolding under
+under-at [] cs i l m u = absurd (omega arith)
+under-at (x ∷ xs) [] i l m u = absurd (omega arith)
+under-at (x ∷ xs) (c ∷ cs) zero l m u = ltb-true x c (and-left (ltb x c) (under xs cs) u)
+under-at (x ∷ xs) (c ∷ cs) (suc i) l m u =
+    under-at xs cs i (omega arith) (omega arith) (and-right (ltb x c) (under xs cs) u)
 
 -- what is at most as large is under the same ceilings
 pub under-mono : (xs bs cs : List ℕ) → length xs ≡ length bs → AtMost xs bs → under bs cs ≡ true → under xs cs ≡ true

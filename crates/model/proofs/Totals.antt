@@ -1,12 +1,12 @@
 -- Sums over an objective's records, each by a function of the record: costs and bounds are two of them.
-use mathlib.Core.Path.{_≡_, refl, ap, ap₂}
+use mathlib.Core.Path.{_≡_, refl, ap, ap₂, _∙_}
 use mathlib.Core.Bool.{Bool, true, false}
 use mathlib.Core.List.{List, [], _∷_, _++_}
 use Prim.Native.Nat.{ℕ, zero, suc, _+_, _-_, _*_, _≤_, _<_}
 use native.Mathlib.Omega.{arith}
 use native.Mathlib.Nat.{suc-mul, sub-zero, suc-sub-suc}
 use lib.Dec.{eqb}
-use lib.ListN.{length, take, replicate}
+use lib.ListN.{length, getD, take, replicate}
 use borrow.Author.Tests.{eqb-true, ne-eqb}
 use Rattle.model.specs.Basics.{when, All}
 use Rattle.model.specs.Problems.{Table, Problem}
@@ -67,6 +67,15 @@ module _ (f : Table → ℕ) (ts : List Table) where
   take-totals zero n o l = refl
   take-totals (suc p) zero o l = absurd (omega arith)
   take-totals (suc p) (suc n) o l = ap (_∷_ (total o f ts)) (take-totals p n (suc o) (omega arith))
+
+pub totals-at : (f : Table → ℕ) (ts : List Table) (p o i : ℕ) → i < p
+    → getD (totalsFrom p o f ts) i 0 ≡ total (o + i) f ts
+unfolding totalsFrom
+totals-at f ts zero o i l = absurd (omega arith)
+totals-at f ts (suc p) o zero l = let same : o ≡ o + 0 = omega arith in ap (λ (k : ℕ). total k f ts) same
+totals-at f ts (suc p) o (suc i) l =
+    let same : suc o + i ≡ o + suc i = omega arith in
+    totals-at f ts p (suc o) i (omega arith) ∙ ap (λ (k : ℕ). total k f ts) same
 
 pub totals-length : (q : Problem) (f : Table → ℕ) → length (totals q f) ≡ q .objectives
 unfolding totals

@@ -8,10 +8,9 @@ use Prim.Native.Nat.{ℕ, zero, suc}
 use lib.ListN.{length, getD}
 use borrow.Author.Tests.{eqb-true, eq-eqb}
 use Rattle.model.specs.Problems.{Table, Problem}
-use Rattle.model.specs.Vectors.{under}
 use Rattle.model.specs.Costs.{isChoice, costOf, total, totalsFrom, totals, costsOf}
 use Rattle.model.specs.Frontiers.{Point, point}
-use Rattle.model.specs.Core.{coreConsistent, coreFrontier, CoreReached}
+use Rattle.model.specs.Core.{under, coreConsistent, coreFrontier, CoreReached}
 use Rattle.model.specs.Cuts.{allSides, sidesOk, crosses, uncrossed, onSide, inHalf, halfTable, halfTables, half}
 use Rattle.model.specs.Views.{narrowed, allOn, within, kept, view, spread, spreadAll}
 use Rattle.model.proofs.Bits.{and-both}

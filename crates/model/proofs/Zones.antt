@@ -11,12 +11,13 @@ use lib.Dec.{ltb}
 use lib.ListN.{length, getD, set, length-set}
 use borrow.Author.Tests.{ltb-true, ltb-false}
 use Rattle.model.specs.Problems.{Problem}
-use Rattle.model.specs.Vectors.{under, atMost}
+use Rattle.model.specs.Vectors.{atMost}
 use Rattle.model.specs.Frontiers.{Point}
-use Rattle.model.specs.Core.{CoreReached}
+use Rattle.model.specs.Core.{under, CoreReached}
 use Rattle.model.specs.Archive.{weighted, Covered, Follows, InZone, Zoned, lowered, below}
 use Rattle.model.proofs.Bits.{test, true-false, not-true-false, and-left, and-right}
 use Rattle.model.proofs.Vectors.{AtMost, NotLater, at-most-true, at-most-test, at-most-trans}
+use Rattle.model.proofs.Sums.{under-at}
 use Rattle.model.proofs.Frontier.{reached-width}
 use Rattle.model.proofs.Core.{core-under}
 use Rattle.model.proofs.Weighted.{weighted-mono}
@@ -44,14 +45,7 @@ zones-start p ceilings ws archive limit v e u =
 
 -- a ceiling of 0 has nothing under it
 pub under-none : (v cs : List ℕ) (i : ℕ) → length v ≡ length cs → i < length cs → getD cs i 0 ≡ 0 → under v cs ≡ false
-unfolding under
-under-none v [] i e l z = absurd (omega arith)
-under-none [] (c ∷ cs) i e l z = absurd (omega arith)
-under-none (x ∷ v) (c ∷ cs) zero e l z =
-    not-true-false _ (λ t. omega (arith, ltb-true x c (and-left (ltb x c) (under v cs) t)))
-under-none (x ∷ v) (c ∷ cs) (suc i) e l z =
-    not-true-false _
-    (λ t. true-false (and-right (ltb x c) (under v cs) t) (under-none v cs i (omega arith) (omega arith) z))
+under-none v cs i e l z = not-true-false _ (λ t. omega (arith, under-at v cs i (omega arith) l t, z))
 
 pub zones-none : (p : ℕ) (ceilings ws : List ℕ) (archive : List Point) (limit : ℕ)
     → ((v : List ℕ) → length v ≡ p → under v ceilings ≡ false) → Zoned p ceilings ws archive limit []

@@ -9,9 +9,9 @@ use mathlib.Core.List.{List, [], _∷_, List·Memᴰ as In}
 use Prim.Native.Nat.{ℕ, _+_, _*_, _-_, _≤_}
 use lib.ListN.{length, getD, set}
 use Rattle.model.specs.Problems.{Problem}
-use Rattle.model.specs.Vectors.{under, atMost, earlier}
+use Rattle.model.specs.Vectors.{atMost, earlier}
 use Rattle.model.specs.Frontiers.{Point}
-use Rattle.model.specs.Core.{CoreReached}
+use Rattle.model.specs.Core.{under, CoreReached}
 
 -- a weighted sum of a vector
 unfoldable pub weighted : List ℕ → List ℕ → ℕ

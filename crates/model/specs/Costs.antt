@@ -1,5 +1,6 @@
--- The cost of a complete choice: the table entry that each record gives, and the sum over an objective's records.
-use mathlib.Core.Bool.{Bool, true, false, _&&_}
+-- The cost of a complete choice: the table entry that each record gives, which may forbid it, and the sum over an
+-- objective's records.
+use mathlib.Core.Bool.{Bool, true, false, _&&_, _||_}
 use mathlib.Core.List.{List, [], _∷_}
 use Prim.Native.Nat.{ℕ, zero, suc, _+_, _*_}
 use lib.Dec.{eqb, ltb}
@@ -35,6 +36,14 @@ totalsFrom (suc p) o f ts = total o f ts ∷ totalsFrom p (suc o) f ts
 
 unfoldable pub totals : Problem → (Table → ℕ) → List ℕ
 totals q f = totalsFrom (q .objectives) 0 f (q .tables)
+
+-- the entry that forbids its combination, under every ceiling; whether some record gives it, each by f
+abbrev pub forbidden : ℕ
+forbidden = 4294967295
+
+unfoldable pub meetsForbidden : (Table → ℕ) → List Table → Bool
+meetsForbidden f [] = false
+meetsForbidden f (t ∷ ts) = eqb (f t) forbidden || meetsForbidden f ts
 
 -- the cost vector of a choice
 unfoldable pub costsOf : Problem → List ℕ → List ℕ

@@ -8,7 +8,7 @@ use lib.ListN.{length, getD, drop}
 use Rattle.model.specs.Basics.{pick, when, keepIf}
 use Rattle.model.specs.Refusals.{linked, Verdict, verdict, accepted}
 use Rattle.model.specs.Problems.{Table, Problem}
-use Rattle.model.specs.Vectors.{under, added}
+use Rattle.model.specs.Vectors.{atMost, added}
 use Rattle.model.specs.Frontiers.{Point, point, best, frontier}
 
 -- a side list gives each variable 0 or 1
@@ -83,22 +83,23 @@ merged (zero ∷ ss) (x ∷ xs) ys = x ∷ merged ss xs ys
 merged (suc s ∷ ss) xs [] = []
 merged (suc s ∷ ss) xs (y ∷ ys) = y ∷ merged ss xs ys
 
--- the sums of one vector of each half's list that are under the ceilings, with the merged choices
+-- the sums of one vector of each half's list that pass a test, with the merged choices
 abbrev pub pairOf : List ℕ → Point → Point → Point
 pairOf ss a b = point (added (a .costs) (b .costs)) (merged ss (a .choice) (b .choice))
 
-unfoldable pub pairsWith : Problem → List ℕ → Point → List Point → List Point
-pairsWith q ss a [] = []
-pairsWith q ss a (b ∷ bs) =
-    keepIf (under (added (a .costs) (b .costs)) (q .ceilings)) (pairOf ss a b) (pairsWith q ss a bs)
+unfoldable pub pairsWith : (List ℕ → Bool) → List ℕ → Point → List Point → List Point
+pairsWith test ss a [] = []
+pairsWith test ss a (b ∷ bs) =
+    keepIf (test (added (a .costs) (b .costs))) (pairOf ss a b) (pairsWith test ss a bs)
 
-unfoldable pub allPairs : Problem → List ℕ → List Point → List Point → List Point
-allPairs q ss [] bs = []
-allPairs q ss (a ∷ xs) bs = pairsWith q ss a bs ++ allPairs q ss xs bs
+unfoldable pub allPairs : (List ℕ → Bool) → List ℕ → List Point → List Point → List Point
+allPairs test ss [] bs = []
+allPairs test ss (a ∷ xs) bs = pairsWith test ss a bs ++ allPairs test ss xs bs
 
--- the cut call's list: the best of all pairs
+-- the cut call's list: the best of all pairs that keep the ceilings
 unfoldable pub cutList : Problem → List ℕ → List Point
-cutList q ss = best (allPairs q ss (frontier (half 0 q ss)) (frontier (half 1 q ss)))
+cutList q ss =
+    best (allPairs (λ c. atMost c (q .ceilings)) ss (frontier (half 0 q ss)) (frontier (half 1 q ss)))
 
 abbrev pub halfSize : ℕ → Problem → List ℕ → ℕ
 halfSize k q ss = length (frontier (half k q ss))

@@ -6,12 +6,13 @@ use mathlib.Core.List.{List, [], _∷_, _++_, List·Memᴰ as In}
 use Prim.Native.Nat.{ℕ, zero, suc}
 use Rattle.model.specs.Basics.{pick, keepIf}
 use Rattle.model.specs.Problems.{Problem}
-use Rattle.model.specs.Vectors.{under, atMost, same, beats, earlier}
-use Rattle.model.specs.Costs.{isChoice, costsOf}
+use Rattle.model.specs.Vectors.{atMost, same, beats, earlier}
+use Rattle.model.specs.Costs.{isChoice, costOf, meetsForbidden, costsOf}
 
--- "consistent" (reference, section 2): each cost strictly below its ceiling
+-- "consistent" (reference, section 2): no forbidden entry is met, and each cost is at most its ceiling
 unfoldable pub consistent : Problem → List ℕ → Bool
-consistent q xs = under (costsOf q xs) (q .ceilings)
+consistent q xs =
+    not (meetsForbidden (costOf (q .domains) xs) (q .tables)) && atMost (costsOf q xs) (q .ceilings)
 
 -- a point: a cost vector and a choice that reaches it
 pub record Point : Type 0 where

@@ -4,8 +4,9 @@ use mathlib.Core.Bool.{Bool, _&&_, _||_}
 use mathlib.Core.List.{List, [], _∷_, _++_}
 use Prim.Native.Nat.{ℕ}
 use Rattle.model.specs.Basics.{pick, keepIf}
-use Rattle.model.specs.Vectors.{under, same, earlier, added}
+use Rattle.model.specs.Vectors.{same, earlier, added}
 use Rattle.model.specs.Frontiers.{Point, point}
+use Rattle.model.specs.Core.{under}
 use Rattle.model.specs.Search.{Held, nothing, just, matched}
 
 -- costs and choices added: in a view's choice the other side's variables have 0

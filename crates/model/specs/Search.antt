@@ -8,10 +8,10 @@ use lib.Dec.{leb}
 use lib.ListN.{length}
 use Rattle.model.specs.Basics.{pick}
 use Rattle.model.specs.Problems.{Problem}
-use Rattle.model.specs.Vectors.{under, atMost, earlier}
+use Rattle.model.specs.Vectors.{atMost, earlier}
 use Rattle.model.specs.Costs.{costsOf}
 use Rattle.model.specs.Frontiers.{Point, point}
-use Rattle.model.specs.Core.{coreConsistent, coreFrontier}
+use Rattle.model.specs.Core.{under, coreConsistent, coreFrontier}
 
 -- what a pass holds: nothing yet, or the least point met so far
 pub data Held : Type 0 where

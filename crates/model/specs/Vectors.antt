@@ -1,16 +1,10 @@
--- Vectors of numbers: ceilings, the two orders, sums.
+-- Vectors of numbers: the two orders, sums.
 use mathlib.Core.Bool.{Bool, true, false, _&&_, _||_, not}
 use mathlib.Core.List.{List, [], _∷_}
 use Prim.Native.Nat.{ℕ, _+_}
 use lib.Dec.{eqb, ltb, leb}
 
--- strictly below every ceiling; where there is no ceiling, all is below it
-unfoldable pub under : List ℕ → List ℕ → Bool
-under [] cs = true
-under (x ∷ xs) [] = true
-under (x ∷ xs) (c ∷ cs) = ltb x c && under xs cs
-
--- at most as large everywhere: "matches or beats" (reference, section 2)
+-- at most as large everywhere: "matches or beats" (reference, section 2), and costs that keep their ceilings
 unfoldable pub atMost : List ℕ → List ℕ → Bool
 atMost [] ys = true
 atMost (x ∷ xs) [] = true

@@ -13,11 +13,11 @@ use lib.Seq.{drop-cons}
 use borrow.Author.Tests.{ltb-true, ltb-false}
 use Rattle.model.specs.Basics.{pick}
 use Rattle.model.specs.Problems.{Problem}
-use Rattle.model.specs.Vectors.{under, earlier}
+use Rattle.model.specs.Vectors.{earlier}
 use Rattle.model.specs.Costs.{costsOf}
 use Rattle.model.specs.Bounds.{prefixOk, boundOf}
 use Rattle.model.specs.Frontiers.{Point, point}
-use Rattle.model.specs.Core.{coreConsistent}
+use Rattle.model.specs.Core.{under, coreConsistent}
 use Rattle.model.specs.Search.{Held, nothing, just, matched, isLeft, better, met, late, dead, tries, opens}
 use Rattle.model.specs.Suffixes.{sharper}
 use Rattle.model.proofs.Bits.{test}

@@ -7,7 +7,7 @@ use lib.ListN.{length, getD, take, drop, replicate}
 use Rattle.model.specs.Basics.{pick, when}
 use Rattle.model.specs.Limits.{maxObjectives, maxPoints}
 use Rattle.model.specs.Problems.{Table, Problem, hasVariable}
-use Rattle.model.specs.Vectors.{under}
+use Rattle.model.specs.Core.{under}
 use Rattle.model.specs.Costs.{totalsFrom}
 use Rattle.model.specs.Frontiers.{Point, point}
 use Rattle.model.specs.Bounds.{prefixOk, leastOf}

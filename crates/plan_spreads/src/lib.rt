@@ -1,10 +1,14 @@
 // What is known of each objective's costs before the search: its tables' least and largest entries, added up.
-ghost use Prim.Native.Nat.{_≤_};
+ghost use mathlib.Core.Path.{_≡_};
+ghost use Prim.Native.Nat.{_<_, _≤_};
 ghost use lib.ListN.{length, take};
 ghost use Rattle.model.specs.Basics.{All};
 ghost use Rattle.model.specs.Limits.{maxTables};
 ghost use Rattle.model.specs.Problems.{DomainSize};
+ghost use Rattle.model.specs.Core.{entryEnd};
 ghost use Rattle.problem.specs.Records.{Whole};
+ghost use Rattle.costs.specs.Entries.{tableAt};
+ghost use Rattle.plan_spreads.specs.LargestCosts.{largestUnder, Reaches};
 
 // For each objective the sum over its records of the least, and of the largest, entry below the ceiling.
 pub struct Extents {
@@ -21,6 +25,8 @@ struct Extent {
 // The least and the largest entry of the record at `at` that is below the ceiling; zeros where none is.
 fn extent_at(s: &[u8], at: usize, sizes: &[u8], ceiling: u64) -> Extent
     requires { ⌜ Whole (now sizes) (now s) at × All DomainSize (now sizes) ⌝ }
+    ensures { λ e. ⌜ (e .most ≡ largestUnder ceiling (tableAt (now (sizes .entry)) (now (s .entry)) at .costs))
+        × (e .most < entryEnd) ⌝ }
 {
     let count = costs::entries_of(s, at, sizes);
     let mut low = ceiling;
@@ -30,7 +36,9 @@ fn extent_at(s: &[u8], at: usize, sizes: &[u8], ceiling: u64) -> Extent
         let cost = costs::table_entry(s, at, i, sizes);
         if cost < ceiling {
             low = branch_directions::lesser(cost, low);
-            most = branch_directions::larger(cost, most);
+            if most < cost {
+                most = cost;
+            }
         }
         i += 1;
     }
@@ -44,6 +52,8 @@ fn extent_at(s: &[u8], at: usize, sizes: &[u8], ceiling: u64) -> Extent
 pub fn extents_of(s: &[u8], sizes: &[u8], r: usize, ceilings: [u64; 4], places: &[u32]) -> Extents
     requires { ⌜ All DomainSize (now sizes) × (r ≤ maxTables) × (r ≤ length (now places))
         × All (Whole (now sizes) (now s)) (take r (now places)) ⌝ }
+    ensures { λ e. ⌜ Reaches (now (sizes .entry)) (now (s .entry)) (take r (now (places .entry))) ceilings
+        (e .mosts) ⌝ }
 {
     let mut lows = [0u64; 4];
     let mut mosts = [0u64; 4];
@@ -54,7 +64,7 @@ pub fn extents_of(s: &[u8], sizes: &[u8], r: usize, ceilings: [u64; 4], places: 
         let o = t.objective as usize;
         let extent = extent_at(s, at, sizes, ceilings[o]);
         lows[o] = std::num::wrapping_add_u64(lows[o], extent.low);
-        mosts[o] = std::num::wrapping_add_u64(mosts[o], extent.most);
+        mosts[o] = mosts[o] + extent.most;
         i += 1;
     }
     Extents { lows, mosts }

@@ -4,7 +4,8 @@ use mathlib.Core.Bool.{Bool}
 use mathlib.Core.List.{List}
 use Prim.Native.Nat.{ℕ, _<_}
 use lib.ListN.{take}
-use Rattle.model.specs.Vectors.{under, atMost, earlier}
+use Rattle.model.specs.Vectors.{atMost, earlier}
+use Rattle.model.specs.Core.{under}
 
 abbrev pub frontUnder : ℕ → List ℕ → List ℕ → Bool
 frontUnder p a ceilings = under (take p a) (take p ceilings)

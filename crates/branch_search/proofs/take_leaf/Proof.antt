@@ -12,9 +12,8 @@ use denote.Ref.{now}
 use Rattle.model.specs.Basics.{All}
 use Rattle.model.specs.Limits.{maxObjectives}
 use Rattle.model.specs.Problems.{Word}
-use Rattle.model.specs.Vectors.{under}
 use Rattle.model.proofs.Elements.{all-map, all-take}
-use Rattle.model.specs.Core.{WordCeiling, coreSumEnd}
+use Rattle.model.specs.Core.{under, WordCeiling, coreSumEnd}
 use Rattle.model.proofs.Core.{under-ceilings}
 use Rattle.rows.specs.Rows.{EachCost}
 use Rattle.rows.proofs.Arrays.{array-length}

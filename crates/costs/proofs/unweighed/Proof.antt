@@ -1,5 +1,4 @@
--- `costs::unweighed` meets its contract: a weight is that of the same number.
-use mathlib.Core.Path.{refl}
+-- `costs::unweighed` meets its contract: what weighs more than every number is a forbidden one's weight.
 use native.Mathlib.Omega.{arith}
 use Rattle.model.specs.Core.{plain}
 use Rattle.costs.proofs.unweighed.Statement.{statement}
@@ -7,7 +6,11 @@ use Rattle.costs.proofs.unweighed.Tie as tie
 
 returns : tie.Need-returns
 unfolding plain
-returns c = (refl, omega arith)
+returns c = omega arith
+
+returns-2 : tie.Need-returns-2
+unfolding plain
+returns-2 c = omega arith
 
 pub unweighed-spec : {M : Type 1} → statement M
-unweighed-spec = tie.close (tie.spec returns)
+unweighed-spec = tie.close (tie.spec returns returns-2)

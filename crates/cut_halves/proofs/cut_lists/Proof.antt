@@ -57,7 +57,7 @@ returns c =
     let s = start w in
     let p = s .pre in
     rw (c .no-lists .ensures)
-    (first-full (accepted s) (s .args .room) (now (s .args .sides)) (now (s .args .work)) (w .widened .result)
+    (first-full (accepted s) (bytes w) (s .args .room) (now (s .args .sides)) (now (s .args .work)) (w .widened .result)
     (w .widened .ensures) (p .2) (p .3) (p .5) (half .keep-half .ensures) (full .if1 .taken))
 
 -- ## the second half
@@ -78,7 +78,7 @@ returns-2 c =
     let s = start w in
     let p = s .pre in
     rw (c .no-lists2 .ensures)
-    (second-full (accepted s) (s .args .room) (now (s .args .sides)) (now (s .args .work)) (w .widened .result)
+    (second-full (accepted s) (bytes w) (s .args .room) (now (s .args .sides)) (now (s .args .work)) (w .widened .result)
     (w .widened .ensures) (p .2) (p .3) (p .5) (half .keep-half .ensures) (opened other .if1 .left)
     (other .keep-half2 .ensures) (full .if2 .taken))
 
@@ -93,9 +93,9 @@ merge-points-requires c κs =
     let s = start w in
     let p = s .pre in
     let halved =
-    cut-halved (accepted s) (s .args .room) (now (s .args .sides)) (now (s .args .work)) (w .widened .result)
+    cut-halved (accepted s) (bytes w) (s .args .room) (now (s .args .sides)) (now (s .args .work)) (w .widened .result)
     (w .widened .ensures) (p .2) (p .3) (p .5) (half .keep-half .ensures) (opened other .if1 .left)
-    (other .keep-half2 .ensures) (both .if2 .left) (bytes w) in
+    (other .keep-half2 .ensures) (both .if2 .left) in
     (halved, p .4)
 
 returns-3 : tie.Need-returns-3
@@ -109,7 +109,7 @@ returns-3 c =
     let s = start w in
     let p = s .pre in
     rw (c .no-lists3 .ensures)
-    (merged-full (accepted s) (s .args .room) (now (s .args .sides)) (now (s .args .work)) (w .widened .result)
+    (merged-full (accepted s) (bytes w) (s .args .room) (now (s .args .sides)) (now (s .args .work)) (w .widened .result)
     (w .widened .ensures) (p .2) (p .3) (p .5) (half .keep-half .ensures) (opened other .if1 .left)
     (other .keep-half2 .ensures) (both .if2 .left) (merged .merge-points .ensures) (full .if3 .taken))
 
@@ -122,7 +122,7 @@ returns-4 c =
     let w = widening half in
     let s = start w in
     let p = s .pre in
-    cut-end (accepted s) (s .args .room) (now (s .args .sides)) (now (s .args .work)) (w .widened .result)
+    cut-end (accepted s) (bytes w) (s .args .room) (now (s .args .sides)) (now (s .args .work)) (w .widened .result)
     (w .widened .ensures) (p .2) (p .3) (p .5) (half .keep-half .ensures) (opened other .if1 .left)
     (other .keep-half2 .ensures) (both .if2 .left) (merged .merge-points .ensures) (c .if3 .left)
 

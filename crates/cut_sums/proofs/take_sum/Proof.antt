@@ -5,7 +5,7 @@ use mathlib.Core.List.{List}
 use lib.ListN.{take}
 use borrow.Author.Tests.{not-true, not-false}
 use denote.Ref.{now}
-use Rattle.model.specs.Vectors.{under}
+use Rattle.model.specs.Core.{under}
 use Rattle.model.specs.Frontiers.{Point}
 use Rattle.model.specs.Search.{matched}
 use Rattle.rows.specs.Rows.{listIn}

@@ -5,6 +5,9 @@ use Prim.Native.Nat.{ℕ}
 use native.Mathlib.Omega.{arith}
 use denote.Ref.{now}
 use borrow.Author.Needs.{needs}
+use Rattle.model.specs.Basics.{All}
+use Rattle.model.specs.Encoding.{Byte}
+use Rattle.model.proofs.Elements.{all-each}
 use Rattle.layout.specs.Layout.{sourceAt}
 use Rattle.problem.proofs.Accepted.{AcceptedReading, read-accepted}
 use Rattle.problem.proofs.Readings.{sized}
@@ -20,6 +23,9 @@ start c = c .before .before .before
 
 abbrev bytes : tie.After-head → List ℕ
 bytes c = now (start c .args .s)
+
+are-bytes : (c : tie.After-head) → All Byte (bytes c)
+are-bytes c = all-each Byte 0 (bytes c) (λ i. omega (arith, c .before .before .shared-slice-known .given i))
 
 accepted : (c : tie.After-head) → AcceptedReading (bytes c) (start c .args .g)
 accepted c = read-accepted (bytes c) (start c .args .g) (start c .pre .0 .read) (start c .pre .0 .none)
@@ -78,7 +84,7 @@ returns c =
     let begun = started (kept wide) in
     let says = places-at _ _ _ _ (begun .tables-start .ensures) (kept wide .keep-places .ensures) in
     let f = found .find-source in
-    list-found _ _ (accepted (headed begun))
+    list-found _ _ (accepted (headed begun)) (are-bytes (headed begun))
     (kept-says _ _ _ _ _ _ _ _ (records (headed begun)) _ says _ (wide .widened .ensures) _ (f .result .found)
     (f .ensures))
 

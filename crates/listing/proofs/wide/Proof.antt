@@ -1,5 +1,5 @@
--- `listing::wide` meets its contract: the core's ceiling is the same number.
-use mathlib.Core.Path.{refl}
+-- `listing::wide` meets its contract: the core's ceiling is one more.
+use native.Mathlib.Omega.{arith}
 use borrow.Author.Needs.{needs}
 use Rattle.model.specs.Core.{coreCeiling}
 use Rattle.listing.proofs.wide.Statement.{statement}
@@ -7,7 +7,11 @@ use Rattle.listing.proofs.wide.Tie as tie
 
 returns : tie.Need-returns
 unfolding coreCeiling
-returns c = refl
+returns c = omega arith
 
 pub wide-spec : {M : Type 1} → statement M
-wide-spec = tie.close (tie.spec returns)
+wide-spec =
+    tie.close
+    (tie.spec
+    (λ c. search needs)  -- add-result
+    returns)

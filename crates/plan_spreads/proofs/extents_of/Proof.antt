@@ -1,88 +1,105 @@
--- `plan_spreads::extents_of` meets its contract. The invariant: there are four sums of each kind. A record whose place
--- is listed is whole, so that its objective has sums.
-use mathlib.Core.Path.{_≡_}
-use mathlib.Core.List.{List}
-use Prim.Native.Nat.{ℕ, _-_}
+-- `plan_spreads::extents_of` meets its contract. The invariant: there are four sums of least entries, and those of
+-- largest entries are `SummingOver` the largest entry of a table below its objective's ceiling.
+use mathlib.Core.Path.{_≡_, refl, ap, _∙_}
+use Prim.Native.Nat.{ℕ, _-_, _<_}
 use native.Mathlib.Omega.{arith}
-use lib.ListN.{length, getD, take}
-use lib.Seq.{length-take-le, getD-take}
+use native.Mathlib.Nat.{sub-zero}
+use lib.ListN.{length, getD, take, length-set}
 use denote.Ref.{now}
 use borrow.Author.Needs.{needs}
-use Rattle.model.proofs.Elements.{all-below}
+use Rattle.model.specs.Limits.{maxObjectives}
+use Rattle.model.specs.Reading.{tableOf}
 use Rattle.problem.specs.Records.{Whole}
+use Rattle.costs.specs.Entries.{tableAt}
+use Rattle.groups.proofs.SumsOver.{SummingOver, sums-start, sums-next, sums-end, sums-small, place-whole}
+use Rattle.plan_spreads.specs.LargestCosts.{largestUnder, largestOf}
+use Rattle.plan_spreads.proofs.LargestSums.{largest-reach}
 use Rattle.plan_spreads.proofs.extents_of.Statement.{statement}
 use Rattle.plan_spreads.proofs.extents_of.Tie as tie
 
 abbrev Inv-loop : tie.InvT-loop
-Inv-loop s sizes r places ceilings lows₀ mosts₀ i₀ lows mosts i = (length lows ≡ 4) × (length mosts ≡ 4)
+Inv-loop s sizes r places ceilings lows₀ mosts₀ i₀ lows mosts i =
+    (length lows ≡ 4) × SummingOver (largestOf ceilings) sizes s places 0 r mosts i
 
 abbrev μ-loop : tie.MeasureT-loop
 μ-loop s sizes r places ceilings lows₀ mosts₀ i₀ lows mosts i = r - i
 
--- in the loop: the domain sizes, the bytes, and the place of the record
-abbrev domains : tie.In-loop Inv-loop μ-loop → List ℕ
-domains c =
-    let known = c .before .before .before .before in
-    now (known .before .args .sizes)
+-- ## the places, each by its name
 
-abbrev bytes : tie.In-loop Inv-loop μ-loop → List ℕ
-bytes c =
-    let known = c .before .before .before .before in
-    now (known .before .args .s)
+abbrev Turn : Type 0
+Turn = tie.In-loop Inv-loop μ-loop
 
-abbrev place : tie.In-loop Inv-loop μ-loop → ℕ
-place c =
-    let known = c .before .before .before .before in
-    getD (now (known .before .args .places)) (c .before .loop .i) 0
+abbrev start : tie.At-loop Inv-loop μ-loop → tie.Start Inv-loop μ-loop
+start c = let known = c .before in known .before .before .before
 
-whole : (c : tie.In-loop Inv-loop μ-loop) → Whole (domains c) (bytes c) (place c)
-whole c =
-    let known = c .before .before .before .before in
-    let r = known .before .args .r in
-    let places = now (known .before .args .places) in
-    let i = c .before .loop .i in
-    let asked = known .before .pre in
-    rw (getD-take r places i 0 (omega arith)) at
-    (all-below (Whole (domains c) (bytes c)) (take r places) (asked .3) i 0
-    (omega (arith, length-take-le r places (asked .2))))
+abbrev Read : Type 0
+Read = tie.After-struct-known Inv-loop μ-loop
+
+abbrev turn : Read → Turn
+turn c = c .before .before .before
+
+-- the next place has a whole record
+whole : (c : Turn)
+    → let a = start (c .before) .args in
+    Whole (now (a .sizes)) (now (a .s)) (getD (now (a .places)) (c .before .loop .i) 0)
+whole c = place-whole (c .before .loop .inv .1) (omega arith)
+
+-- and its objective exists
+own : (c : Read) → c .before .record-at .result .objective < maxObjectives
+own c = omega (arith, c .before .record-at .ensures .objective, whole (turn c) .owner)
+
+-- what is added is the largest entry of its table below its objective's ceiling
+counted : (c : tie.After-extent-at Inv-loop μ-loop)
+    → let w = turn (c .before) .before in
+    let a = start w .args in
+    c .extent-at .result .most
+    ≡ largestOf (a .t4) (tableAt (now (a .sizes)) (now (a .s)) (getD (now (a .places)) (w .loop .i) 0))
+unfolding tableOf
+counted c =
+    let w = turn (c .before) .before in
+    let a = start w .args in
+    let entries = tableAt (now (a .sizes)) (now (a .s)) (getD (now (a .places)) (w .loop .i) 0) .costs in
+    c .extent-at .ensures .0
+    ∙ ap (λ (o : ℕ). largestUnder (getD (a .t4) o 0) entries) (c .before .before .record-at .ensures .objective)
+
+-- ## the needs, in the order of the code
+
+loop-holds : tie.Need-loop-holds Inv-loop μ-loop
+loop-holds c =
+    let s = c .before .before .before in
+    let a = s .args in (
+      refl,
+      sums-start (largestOf (a .t4)) (now (a .sizes)) (now (a .s)) (now (a .places)) 0 (a .r) (omega arith)
+          (s .pre .2) (omega (arith, s .pre .1)) (rw sub-zero (s .pre .3)),
+    )
 
 cast-at : tie.Need-cast-at Inv-loop μ-loop
 cast-at c = omega (arith, c .shared-slice-known4 .given (c .before .before .loop .i))
 
-record-at-requires : tie.Need-record-at-requires Inv-loop μ-loop
-record-at-requires c κs =
-    let known = c .before .before .before in
-    (whole (c .before), known .before .before .before .pre .0)
-
-array-read-extent-at : tie.Need-array-read-extent-at Inv-loop μ-loop
-array-read-extent-at c =
-    omega (arith, c .before .record-at .ensures .objective, whole (c .before .before .before) .owner)
-
-extent-at-requires : tie.Need-extent-at-requires Inv-loop μ-loop
-extent-at-requires c κs =
-    let inside = c .before .before .before in
-    let known = inside .before .before .before .before in
-    (whole inside, known .before .pre .0)
-
-array-read-wrapping-add-u64 : tie.Need-array-read-wrapping-add-u64 Inv-loop μ-loop
-array-read-wrapping-add-u64 c =
-    let read = c .before .before in
-    omega (arith, read .record-at .ensures .objective, whole (read .before .before) .owner)
-
-array-write-lows : tie.Need-array-write-lows Inv-loop μ-loop
-array-write-lows c =
+add-mosts : tie.Need-add-mosts Inv-loop μ-loop
+add-mosts c =
     let read = c .before .before .before in
-    omega (arith, read .record-at .ensures .objective, whole (read .before .before) .owner)
+    omega (
+      arith,
+      c .before .before .extent-at .ensures .1,
+      sums-small (turn read .before .loop .inv .1) (read .before .record-at .result .objective),
+    )
 
-array-read-wrapping-add-u64-2 : tie.Need-array-read-wrapping-add-u64-2 Inv-loop μ-loop
-array-read-wrapping-add-u64-2 c =
-    let read = c .before .before .before in
-    omega (arith, read .record-at .ensures .objective, whole (read .before .before) .owner)
+loop-again : tie.Need-loop-again Inv-loop μ-loop
+loop-again c =
+    let found = c .before .before in
+    let read = found .before in
+    let w = turn read .before .loop in (
+      length-set (w .lows) _ _ ∙ w .inv .0,
+      sums-next (w .inv .1) (omega arith) _ _ (read .before .record-at .ensures .objective) (counted found)
+          (found .extent-at .ensures .1),
+    )
 
-array-write-mosts : tie.Need-array-write-mosts Inv-loop μ-loop
-array-write-mosts c =
-    let read = c .before .before .before .before in
-    omega (arith, read .record-at .ensures .objective, whole (read .before .before) .owner)
+returns : tie.Need-returns Inv-loop μ-loop
+returns c =
+    let a = start (c .before) .args in
+    largest-reach (now (a .sizes)) (now (a .s)) (take (a .r) (now (a .places))) (a .t4) (c .before .loop .mosts)
+    (rw sub-zero at (sums-end (c .before .loop .inv .1) (omega arith)))
 
 pub extents-of-spec : {M : Type 1} → statement M
 extents-of-spec =
@@ -90,26 +107,26 @@ extents-of-spec =
     (tie.spec
     Inv-loop
     μ-loop
-    (λ c. search needs)  -- loop-holds
+    loop-holds
     (λ c. search needs)  -- mul-at
     (λ c. search needs)  -- shared-slice-read-at
     cast-at
-    record-at-requires
+    (λ c κs. (whole (c .before), start (c .before .before) .pre .0))  -- record-at-requires
     (λ c. search needs)  -- cast-o
     (λ c. search needs)  -- mul-extent-at
-    array-read-extent-at
-    extent-at-requires
+    (λ c. omega (arith, own c))  -- array-read-extent-at
+    (λ c κs. (whole (turn c), start (turn c .before) .pre .0))  -- extent-at-requires
     (λ c. search needs)  -- mul-wrapping-add-u64
-    array-read-wrapping-add-u64
+    (λ c. omega (arith, own (c .before), turn (c .before) .before .loop .inv .0))  -- array-read-wrapping-add-u64
     (λ c κs. search needs)  -- wrapping-add-u64-requires
     (λ c. search needs)  -- mul-lows
-    array-write-lows
-    (λ c. search needs)  -- mul-wrapping-add-u64-2
-    array-read-wrapping-add-u64-2
-    (λ c κs. search needs)  -- wrapping-add-u64-requires-2
+    (λ c. omega (arith, own (c .before .before), turn (c .before .before) .before .loop .inv .0))  -- array-write-lows
     (λ c. search needs)  -- mul-mosts
-    array-write-mosts
+    (λ c. omega (arith, own (c .before .before)))  -- array-read-mosts
+    add-mosts
+    (λ c. search needs)  -- mul-mosts-2
+    (λ c. omega (arith, own (c .before .before .before)))  -- array-write-mosts
     (λ c. search needs)  -- add-i
     (λ c. search needs)  -- loop-less
-    (λ c. search needs)  -- loop-again
-    (λ c. search needs))  -- returns
+    loop-again
+    returns)

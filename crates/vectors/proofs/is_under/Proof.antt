@@ -8,7 +8,7 @@ use borrow.Author.Needs.{needs}
 use borrow.Author.Tests.{lt-ltb, le-ltb}
 use mir.Syntax.{w64}
 use Rattle.model.specs.Limits.{maxObjectives}
-use Rattle.model.specs.Vectors.{under}
+use Rattle.model.specs.Core.{under}
 use Rattle.model.proofs.Lists.{front-cons, front-end}
 use Rattle.vectors.specs.Fronts.{frontUnder}
 use Rattle.vectors.proofs.Fronts.{array-front}

@@ -1,0 +1,2 @@
+-- What is known of an objective's costs before the search.
+pub mod LargestCosts
