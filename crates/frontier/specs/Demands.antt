@@ -19,6 +19,7 @@ use Rattle.model.specs.Cuts.{halfSize}
 use Rattle.model.specs.Calls.{over, flatCosts, flatChoices, pointRecords}
 use Rattle.model.specs.Calls.{SolveOutcome, ListOutcome, CutOutcome, BoundOutcome}
 use Rattle.model.specs.Demands.{Answerable, Cuttable}
+use Rattle.text_networks.specs.Statements.{Come-back}
 
 -- ## The results of a call as one value, of which the model's statements speak
 
@@ -102,9 +103,11 @@ pub record Bounds (s prefix : List ℕ) (number place : ℕ) : Type 0 where
 
 -- ## The calls that convert
 
--- reading a text gave the records s, over the start of the buffer
-pub record Same-bytes (s old new : List ℕ) (n at k : ℕ) : Type 0 where
+-- reading the text of the records s gave records with the same frontier, over the start of the buffer
+pub record Same-list (s old new : List ℕ) (n at k : ℕ) : Type 0 where
   pub number : n ≡ 0
   pub place : at ≡ 0
   pub count : k ≡ length s
-  pub records : new ≡ over s old
+  pub records : List ℕ
+  pub back : Come-back s records
+  pub records-are : new ≡ over records old

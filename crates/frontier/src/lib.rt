@@ -10,9 +10,9 @@ ghost use Rattle.frontier.specs.Says.{ConvertExports, CanonicalExports, 
 ghost use Rattle.frontier.specs.Version.{version};
 
 // The version of the interface; include/frontier.h has the same three numbers.
-const VERSION_MAJOR: u32 = 2;
+const VERSION_MAJOR: u32 = 3;
 
-const VERSION_MINOR: u32 = 2;
+const VERSION_MINOR: u32 = 0;
 
 const VERSION_PATCH: u32 = 0;
 

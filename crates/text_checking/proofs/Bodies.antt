@@ -17,9 +17,9 @@ use Rattle.model.proofs.DomainRecords.{length-domainBytes}
 use Rattle.text_words.specs.Reads.{wordsAt, capEnd}
 use Rattle.text_networks.specs.Findings.{Words, Finding, fine, dialect, stop, fault, andThen, findIf, termAt}
 use Rattle.text_networks.specs.Findings.{valueAt, valuesIn, runs}
-use Rattle.text_networks.specs.Networks.{variablesFinding, largestFinding, functionsNumber, costFinding, sizeFinding}
+use Rattle.text_networks.specs.Networks.{variablesFinding, largestFinding, functionsNumber, boundFinding, sizeFinding}
 use Rattle.text_networks.specs.Networks.{largestOf, functionsIn, functionsFinding, functionTables}
-use Rattle.text_networks.specs.Networks.{networkFinding, networkProblem}
+use Rattle.text_networks.specs.Networks.{networkFinding, ceilingFor, networkProblem}
 use Rattle.text_networks.proofs.FineWords.{both-fine, test-fine, field-fine, inside-fine}
 use Rattle.text_networks.proofs.FineTables.{values-count}
 use Rattle.text_checking.specs.Codes.{codeOf, both}
@@ -91,7 +91,7 @@ module _ (name : List ℕ) (ws : Words) where
       let a : Finding = variablesFinding (termAt 0 ws) in
       let b : Finding = largestFinding (termAt 1 ws) in
       let c : Finding = functionsNumber (termAt 2 ws) in
-      let d : Finding = costFinding (termAt 3 ws) in
+      let d : Finding = boundFinding (termAt 3 ws) in
       let order : andThen (andThen (andThen a b) (andThen c d)) rest
       ≡ andThen a (andThen b (andThen c (andThen d rest))) =
       then-assoc (andThen a b) (andThen c d) rest
@@ -113,14 +113,14 @@ module _ (name : List ℕ) (ws : Words) where
       ≡ 10 + 3 * n + length (tablesBytes (functionTables (valueAt 2 ws) ds (drop (4 + n) ws)))
   unfolding networkProblem encode headBytes twoBytes
   network-bytes =
-      let front : List ℕ = wordBytes (valueAt 3 ws ∷ []) in
+      let front : List ℕ = wordBytes (ceilingFor (valueAt 3 ws) ∷ []) in
       let tables : List ℕ = tablesBytes (functionTables (valueAt 2 ws) ds (drop (4 + n) ws)) in
       rw functions-place
       (omega (
         arith,
         length-append (front ++ domainBytes ds) tables,
         length-append front (domainBytes ds),
-        length-wordBytes (valueAt 3 ws ∷ []),
+        length-wordBytes (ceilingFor (valueAt 3 ws) ∷ []),
         length-domainBytes ds,
         values-count n (drop 4 ws),
       ))

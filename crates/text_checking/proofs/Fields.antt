@@ -13,8 +13,8 @@ use Rattle.text_words.specs.Texts.{Term, number, negative, other, valueOf}
 use Rattle.text_words.specs.Reads.{termAt, kindOf, capEnd, NumberSays}
 use Rattle.text_words.specs.declared.Number as DN
 use Rattle.text_networks.specs.Findings.{Finding, dialect, stop, fault, andThen, field, findIf}
-use Rattle.text_networks.specs.Networks.{variablesFinding, largestFinding, functionsNumber, costFinding, arityFinding}
-use Rattle.text_networks.specs.Networks.{sizeFinding, declaredFinding, countFinding}
+use Rattle.text_networks.specs.Networks.{variablesFinding, largestFinding, functionsNumber, maxBound, boundFinding}
+use Rattle.text_networks.specs.Networks.{costFinding, arityFinding, sizeFinding, declaredFinding, countFinding}
 use Rattle.text_checking.specs.Codes.{codeOf, limitedCode, countCode}
 
 pub same-test : (a b : Bool) → (a ≡ true → b ≡ true) → (a ≡ false → b ≡ false) → a ≡ b
@@ -91,6 +91,12 @@ module _ {s : List ℕ} {at : ℕ} {r : DN.Number} (says : NumberSays s at r) wh
   cost-code =
       limited-field (termAt s at) (r .kind) (r .value) (says .kind) (says .value) stop (λ x. not (ltb x wordEnd)) 0
       4294967295 word-test
+
+  pub bound-code : limitedCode (r .kind) (r .value) 1 4294967295 2 ≡ codeOf (boundFinding (termAt s at))
+  unfolding codeOf
+  bound-code =
+      limited-field (termAt s at) (r .kind) (r .value) (says .kind) (says .value) stop (outside maxBound) 1 4294967295
+      (λ x. outside-test 4294967295 x (omega arith))
 
   pub arity-code : limitedCode (r .kind) (r .value) 0 3 2 ≡ codeOf (arityFinding (termAt s at))
   unfolding codeOf

@@ -10,7 +10,7 @@ use Rattle.text_words.specs.Texts.{Term, number, negative, other, termOf, value
 use Rattle.text_words.specs.Reads.{wordsAt, capEnd, kindOf, NumberSays}
 use Rattle.text_words.specs.declared.Number as DN
 use Rattle.text_networks.specs.Findings.{Words, field, termAt}
-use Rattle.text_networks.specs.Networks.{variablesFinding, largestFinding, functionsNumber, costFinding}
+use Rattle.text_networks.specs.Networks.{variablesFinding, largestFinding, functionsNumber, boundFinding}
 use Rattle.text_checking.specs.Codes.{codeOf, both}
 use Rattle.text_checking.specs.Steps.{HeadSays, headFinding}
 use Rattle.text_checking.proofs.Codes.{both-first, both-second, code-both}
@@ -42,7 +42,7 @@ module _ (s : List ℕ) (at : ℕ) (a b c d : DN.Number) (first : NumberSays s a
   module _ (p q r t : ℕ) (variables : p ≡ codeOf (variablesFinding (termAt 0 ws)))
       (largest : q ≡ codeOf (largestFinding (termAt 0 (wordsAt s (a .end)))))
       (functions : r ≡ codeOf (functionsNumber (termAt 0 (wordsAt s (b .end)))))
-      (bound : t ≡ codeOf (costFinding (termAt 0 (wordsAt s (c .end))))) (total : ℕ)
+      (bound : t ≡ codeOf (boundFinding (termAt 0 (wordsAt s (c .end))))) (total : ℕ)
       (sum : total ≡ both (both p q) (both r t)) where
     head-code : total ≡ codeOf (headFinding ws)
     unfolding headFinding

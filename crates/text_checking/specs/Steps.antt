@@ -11,10 +11,10 @@ use Rattle.model.specs.Encoding.{tableBytes, tablesBytes, encode}
 use Rattle.text_words.specs.Texts.{valueFrom, wordsOf}
 use Rattle.text_words.specs.Reads.{wordsAt, capEnd, numeral, DigitsAt}
 use Rattle.text_networks.specs.Findings.{Words, Finding, dialect, andThen, findIf, termAt, valueAt, valuesIn, runs}
-use Rattle.text_networks.specs.Networks.{variablesFinding, largestFinding, functionsNumber, costFinding, sizeFinding}
-use Rattle.text_networks.specs.Networks.{declaredFinding, countFinding, tupleFinding, functionFinding, functionsFinding}
-use Rattle.text_networks.specs.Networks.{repeated, repeatedTuple, tuplesOf, sizesOver, largestOf, functionWidth}
-use Rattle.text_networks.specs.Networks.{functionTable, functionTables, networkFinding, networkProblem}
+use Rattle.text_networks.specs.Networks.{variablesFinding, largestFinding, functionsNumber, boundFinding, costFinding}
+use Rattle.text_networks.specs.Networks.{sizeFinding, declaredFinding, countFinding, tupleFinding, functionFinding}
+use Rattle.text_networks.specs.Networks.{functionsFinding, repeated, repeatedTuple, tuplesOf, sizesOver, largestOf}
+use Rattle.text_networks.specs.Networks.{functionWidth, functionTable, functionTables, networkFinding, networkProblem}
 use Rattle.text_networks.specs.Conversions.{numberOf}
 use Rattle.text_networks.proofs.Entries.{product}
 use Rattle.text_checking.specs.Codes.{codeOf, both}
@@ -163,7 +163,7 @@ pub record SizesSays (s : List ℕ) (at n most : ℕ) (index : List ℕ) (r : DM
 unfoldable pub headFinding : Words → Finding
 headFinding ws =
     andThen (andThen (variablesFinding (termAt 0 ws)) (largestFinding (termAt 1 ws)))
-    (andThen (functionsNumber (termAt 2 ws)) (costFinding (termAt 3 ws)))
+    (andThen (functionsNumber (termAt 2 ws)) (boundFinding (termAt 3 ws)))
 
 pub record HeadSays (s : List ℕ) (at : ℕ) (r : DH.Head) : Type 0 where
   pub finding : r .finding ≡ codeOf (headFinding (wordsAt s at))

@@ -749,7 +749,7 @@ fn check_head(s: &[u8], at: usize) -> Head
     );
     let costs = and_then(
         limited(functions, 0, 256, 3),
-        limited(bound, 0, 4294967295, 2),
+        limited(bound, 1, 4294967295, 2),
     );
     Head {
         finding: and_then(sizes, costs),

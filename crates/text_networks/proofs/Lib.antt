@@ -19,6 +19,10 @@ pub mod FineWords
 pub mod FineTables
 pub mod TupleCosts
 pub mod TextCosts
+-- forbidden entries as the upper bound: the written problem's rules, what a choice costs by it, and its frontier
+pub mod Written
+pub mod WrittenCosts
+pub mod WrittenFrontier
 -- behind a stop nothing is read; what the definitions say of short texts
 pub mod Unread
 pub mod TextRows

@@ -11,8 +11,8 @@ use Rattle.model.specs.Limits.{maxDomain, maxArity, maxVariables}
 use Rattle.model.specs.Problems.{Table, Problem, Word, DomainSize, TableRules, RecordRules}
 use Rattle.model.proofs.Bits.{pick-both}
 use Rattle.model.proofs.Elements.{all-at, all-map, all-append}
-use Rattle.text_networks.specs.Networks.{sizesOver, largestOf}
-use Rattle.text_networks.specs.NetworkTexts.{nonzero, entryValues}
+use Rattle.text_networks.specs.Networks.{maxBound, sizesOver, largestOf}
+use Rattle.text_networks.specs.NetworkTexts.{upperBoundOf, nonzero, entryValues}
 use Rattle.text_networks.proofs.TextNumbers.{tupleNumbers, startNumbers, functionNumbers, functionsNumbers}
 use Rattle.text_networks.proofs.TextNumbers.{textNumbers}
 use Rattle.text_networks.proofs.Entries.{product, Values, entry-values, sizes-over, sizes-positive, size-product}
@@ -100,13 +100,13 @@ largest-small n (d ∷ ds) h = omega (arith, largest-small n ds (h .1))
 pub domains-small : (ds : List ℕ) → All DomainSize ds → largestOf ds ≤ maxDomain
 domains-small ds h = largest-small maxDomain ds (all-map DomainSize (λ d. d ≤ maxDomain) (λ d s. s .1) ds h)
 
-pub numbers-fit : (q : Problem) → RecordRules q → All Word (textNumbers q)
-numbers-fit q r =
+pub numbers-fit : (q : Problem) → RecordRules q → upperBoundOf q ≤ maxBound → All Word (textNumbers q)
+numbers-fit q r bounded =
     let ds = q .domains in
     let few = r .few-variables in
     let domains : All Word ds = all-map DomainSize Word (λ d s. omega arith) ds (r .domain-sizes) in
     let largest = domains-small ds (r .domain-sizes) in
-    let bound : Word (getD (q .ceilings) 0 0) = all-at Word (q .ceilings) (r .ceiling-words) 0 0 (omega arith) in
+    let bound : Word (upperBoundOf q) = omega arith in
     let rest = functions-fit ds (r .domain-sizes) (q .objectives) few (q .tables) (r .table-rules) in (
       omega (arith, few),
       (

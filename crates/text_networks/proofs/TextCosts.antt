@@ -9,16 +9,17 @@ use lib.ListN.{drop}
 use borrow.Author.Tests.{ltb-false}
 use Rattle.model.specs.Basics.{All}
 use Rattle.model.specs.Limits.{maxVariables, maxTables, maxDomain}
-use Rattle.model.specs.Problems.{Word, DomainSize, RecordRules}
+use Rattle.model.specs.Problems.{DomainSize, RecordRules}
 use Rattle.model.specs.Reading.{outside}
 use Rattle.model.specs.Costs.{isChoice, costOf, total, totalsFrom, totals, costsOf}
 use Rattle.text_words.specs.Texts.{Term, valueOf}
 use Rattle.text_networks.specs.Findings.{Words, fine, dialect, stop, fault, termAt, valueAt, valuesIn}
 use Rattle.text_networks.specs.Findings.{runs}
-use Rattle.text_networks.specs.Networks.{sizeFinding, functionWidth, functionsFinding, domainsIn, functionsIn}
+use Rattle.text_networks.specs.Networks.{maxBound, sizeFinding, functionWidth, functionsFinding, domainsIn}
+use Rattle.text_networks.specs.Networks.{functionsIn}
 use Rattle.text_networks.specs.Networks.{networkFinding, functionTable, functionTables, networkProblem}
 use Rattle.text_networks.specs.NetworkCosts.{functionsCost, networkCost}
-use Rattle.text_networks.proofs.FineWords.{found-fine, both-fine, test-fine, field-fine, cost-fine, inside-fine}
+use Rattle.text_networks.proofs.FineWords.{found-fine, both-fine, test-fine, field-fine, inside-fine}
 use Rattle.text_networks.proofs.FineWords.{function-fine}
 use Rattle.text_networks.proofs.FineTables.{values-count, tables-count, tables-ruled}
 use Rattle.text_networks.proofs.TupleCosts.{function-cost}
@@ -45,7 +46,7 @@ sizes-fine m (suc n) ws h =
 pub record FineNetwork (ws : Words) : Type 0 where
   pub variables : (1 ≤ valueAt 1 ws) × (valueAt 1 ws ≤ maxVariables)
   pub functions : valueAt 3 ws ≤ maxTables
-  pub bound : Word (valueAt 4 ws)
+  pub bound : (1 ≤ valueAt 4 ws) × (valueAt 4 ws ≤ maxBound)
   pub sizes : All DomainSize (domainsIn ws)
   pub tables : functionsFinding (valueAt 3 ws) (domainsIn ws) (functionsIn ws) ≡ fine
 
@@ -67,7 +68,8 @@ network-fine (name ∷ rest) h =
           (test-fine (outside maxVariables n) dialect tt (field-fine fault _ (termAt 1 ws) tt variables));
       functions = ltb-false maxTables r
           (test-fine (ltb maxTables r) dialect tt (field-fine fault _ (termAt 3 ws) tt functions));
-      bound = cost-fine (termAt 4 ws) bound;
+      bound = inside-fine maxBound (valueAt 4 ws)
+          (test-fine (outside maxBound (valueAt 4 ws)) dialect tt (field-fine stop _ (termAt 4 ws) tt bound));
       sizes = sizes-fine (valueAt 2 ws) n (drop 5 ws) sizes;
       tables = tables;
     }
@@ -84,7 +86,7 @@ text-rules ws h =
       few-objectives = omega arith;
       few-tables = rw tables-count (f .functions);
       ceiling-each = refl;
-      ceiling-words = (f .bound, tt);
+      ceiling-words = (omega (arith, f .bound .1), tt);
       domain-sizes = f .sizes;
       table-rules = tables-ruled (valueAt 3 ws) (domainsIn ws) (functionsIn ws) (f .tables);
     }

@@ -9,15 +9,15 @@ use Rattle.model.specs.Basics.{pick, All}
 use Rattle.model.specs.Limits.{maxDomain, maxVariables, maxArity}
 use Rattle.model.specs.Problems.{Table, Problem, Word, DomainSize, TableRules, RecordRules}
 use Rattle.model.specs.Encoding.{twoBytes, wordBytes, headBytes, domainBytes, tableBytes, tablesBytes, encode}
-use Rattle.model.specs.Encoding.{WellFormed}
 use Rattle.model.proofs.Bits.{pick-both}
 use Rattle.model.proofs.Elements.{all-at, all-map}
 use Rattle.model.proofs.Words.{length-wordBytes}
 use Rattle.model.proofs.DomainRecords.{length-domainBytes}
 use Rattle.text_words.specs.Texts.{space, lineFeed, decimal, spaced, line}
-use Rattle.text_networks.specs.Networks.{sizesOver, largestOf}
+use Rattle.text_networks.specs.Networks.{maxBound, sizesOver, largestOf}
 use Rattle.text_networks.specs.NetworkTexts.{nonzero, entryValues, tupleLines, functionText, functionsText}
-use Rattle.text_networks.specs.NetworkTexts.{headText, networkText}
+use Rattle.text_networks.specs.NetworkTexts.{upperBoundOf, headText, textOf}
+use Rattle.text_networks.specs.Statements.{Writable}
 use Rattle.text_networks.proofs.Digits.{decimal-few}
 use Rattle.text_networks.proofs.TextNumbers.{startNumbers, headNumbers}
 use Rattle.text_networks.proofs.FunctionWords.{scope-range}
@@ -93,7 +93,7 @@ module _ (ds : List ℕ) (sizes : All DomainSize ds) (few : length ds ≤ maxAri
 
 -- ## functions
 
-table-long : (t : Table) → length (tableBytes t) ≡ 4 + length (t .scope) + 4 * length (t .costs)
+pub table-long : (t : Table) → length (tableBytes t) ≡ 4 + length (t .scope) + 4 * length (t .costs)
 unfolding tableBytes
 table-long t = omega (arith, length-append (t .scope) (wordBytes (t .costs)), length-wordBytes (t .costs))
 
@@ -159,12 +159,11 @@ module _ (ds : List ℕ) (sizes : All DomainSize ds) (p : ℕ) (few : length ds 
 -- ## the whole text
 
 module _ (q : Problem) (r : RecordRules q) where
-  head-short : length (headText q) ≤ 22
+  head-short : upperBoundOf q ≤ maxBound → length (headText q) ≤ 22
   unfolding headText spaced
-  head-short =
+  head-short bounded =
       let ds = q .domains in
-      let bound = getD (q .ceilings) 0 0 in
-      let word : Word bound = all-at Word (q .ceilings) (r .ceiling-words) 0 0 (omega arith) in
+      let bound = upperBoundOf q in
       let most : largestOf ds ≤ maxDomain = domains-small ds (r .domain-sizes) in
       omega (
         arith,
@@ -187,10 +186,10 @@ module _ (q : Problem) (r : RecordRules q) where
   head-long = omega arith
 
 -- four bytes of the records are seventeen bytes of the text at most
-pub text-length : (q : Problem) → RecordRules q → q .objectives ≡ 1
-    → 4 * length (networkText q) ≤ 17 * length (encode q)
-unfolding networkText encode
-text-length q r one =
+pub text-length : (q : Problem) → Writable q → 4 * length (textOf q) ≤ 17 * length (encode q)
+unfolding textOf encode
+text-length q w =
+    let r = w .formed .rules in
     let ds = q .domains in
     let functions = functionsText ds (q .tables) in
     omega (
@@ -200,12 +199,8 @@ text-length q r one =
       length-append (headBytes q ++ domainBytes ds) (tablesBytes (q .tables)),
       length-append (headBytes q) (domainBytes ds),
       length-domainBytes ds,
-      head-short q r,
+      head-short q r (w .bounded),
       head-long q r,
       domains-short q r,
       functions-short ds (r .domain-sizes) (q .objectives) (r .few-variables) (q .tables) (r .table-rules),
     )
-
--- so it has at most 255000 bytes
-pub text-fits : (q : Problem) → WellFormed q → q .objectives ≡ 1 → length (networkText q) ≤ 255000
-text-fits q w one = omega (arith, text-length q (w .rules) one, w .short)

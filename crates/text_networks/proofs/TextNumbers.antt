@@ -12,7 +12,7 @@ use Rattle.text_words.specs.Texts.{space, wordsOf, decimal, line}
 use Rattle.text_words.specs.Reads.{isSolid}
 use Rattle.text_networks.specs.Networks.{sizesOver, largestOf}
 use Rattle.text_networks.specs.NetworkTexts.{nonzero, entryValues, tupleLines, functionText, functionsText}
-use Rattle.text_networks.specs.NetworkTexts.{letterP, headText, networkText}
+use Rattle.text_networks.specs.NetworkTexts.{upperBoundOf, letterP, headText, textOf}
 use Rattle.text_networks.proofs.Lists.{map-append}
 use Rattle.text_networks.proofs.LineWords.{word-ends, line-words}
 
@@ -38,7 +38,7 @@ functionsNumbers ds (t ∷ ts) = functionNumbers ds t ++ functionsNumbers ds ts
 
 abbrev pub headNumbers : Problem → List ℕ
 headNumbers q =
-    length (q .domains) ∷ largestOf (q .domains) ∷ length (q .tables) ∷ getD (q .ceilings) 0 0 ∷ []
+    length (q .domains) ∷ largestOf (q .domains) ∷ length (q .tables) ∷ upperBoundOf q ∷ []
 
 abbrev pub textNumbers : Problem → List ℕ
 textNumbers q = headNumbers q ++ (q .domains ++ functionsNumbers (q .domains) (q .tables))
@@ -88,8 +88,8 @@ spells-functions ds (t ∷ ts) =
 
 -- the words of a problem's text
 pub text-words : (q : Problem) → 1 ≤ length (q .domains)
-    → wordsOf (networkText q) ≡ (letterP ∷ []) ∷ map decimal (textNumbers q)
-unfolding networkText headText isSolid wordsOf
+    → wordsOf (textOf q) ≡ (letterP ∷ []) ∷ map decimal (textNumbers q)
+unfolding textOf headText isSolid wordsOf
 text-words q l =
     let ds = q .domains in
     let start = headNumbers q in

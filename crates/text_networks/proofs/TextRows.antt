@@ -5,8 +5,9 @@ use mathlib.Core.List.{List, [], _∷_, _++_}
 use Prim.Native.Nat.{ℕ, zero, suc}
 use Prim.Native.Char.{code}
 use Prim.Native.String.{String, [] as []ˢ, _∷_ as _∷ˢ_}
-use Rattle.model.specs.Refusals.{accepted, refusedAt}
-use Rattle.model.specs.Problems.{Table, Problem}
+use Rattle.model.specs.Refusals.{verdict, accepted, refusedAt}
+use Rattle.model.specs.Problems.{Problem}
+use Rattle.model.specs.Encoding.{encode}
 use Rattle.model.proofs.Computing.{computing}
 use Rattle.text_words.specs.Texts.{joined, wordsOf, allDigits, valueFrom, unsigned, negated, termOf, valueOf}
 use Rattle.text_words.specs.Texts.{digitsOf, line}
@@ -16,8 +17,8 @@ use Rattle.text_networks.specs.Networks.{repeated, isGiven, repeatedTupl
 use Rattle.text_networks.specs.Networks.{functionFinding, functionsFinding, largestOf, networkFinding, indexFrom}
 use Rattle.text_networks.specs.Networks.{withTuples, functionTable, functionTables, networkProblem}
 use Rattle.text_networks.specs.NetworkTexts.{nonzero, valuesFrom, reversed, tupleLines, functionText}
-use Rattle.text_networks.specs.NetworkTexts.{functionsText, headText, networkText}
-use Rattle.text_networks.specs.Conversions.{numberOf, textVerdict}
+use Rattle.text_networks.specs.NetworkTexts.{functionsText, headText, written, textOf, networkText}
+use Rattle.text_networks.specs.Conversions.{numberOf, textVerdict, toTextVerdict}
 use Rattle.text_networks.proofs.FineWords.{Found}
 
 -- one name that opens every definition
@@ -25,7 +26,7 @@ unfoldable opened : Unit {0}
 unfolding computing joined wordsOf allDigits valueFrom unsigned negated termOf valueOf digitsOf line andThen field
     valuesIn runs repeated isGiven repeatedTuple valuesFinding tuplesOf functionFinding functionsFinding largestOf
     networkFinding indexFrom withTuples functionTable functionTables networkProblem nonzero valuesFrom reversed
-    tupleLines functionText functionsText headText networkText numberOf textVerdict
+    tupleLines functionText functionsText headText written textOf numberOf textVerdict toTextVerdict
 opened = tt
 
 -- a text as bytes
@@ -119,10 +120,11 @@ dialect-rows =
     refused "P 1 0 0 9\n0\n" refl ∷
     refused "P 1 9 0 9\n9\n" refl ∷
     refused "P 4 1 1 9\n1 1 1 1\n4 0 1 2 3 0 0\n" refl ∷
-    -- a cost of 4294967296, default or a tuple's; so great an upper bound
+    -- a cost of 4294967296, default or a tuple's; so great an upper bound, and 0
     refused "P 1 2 1 9\n2\n1 0 4294967296 0\n" refl ∷
     refused "P 1 2 1 9\n2\n1 0 0 1\n1 4294967296\n" refl ∷
     refused "P 1 2 0 4294967296\n2\n" refl ∷
+    refused "P 1 2 0 0\n2\n" refl ∷
     -- a tuple twice; a variable twice in a scope
     refused "P 1 2 1 9\n2\n1 0 0 2\n1 5\n1 5\n" refl ∷
     refused "P 1 2 1 9\n2\n2 0 0 0 0\n" refl ∷
@@ -154,7 +156,8 @@ unfolding opened
 accepted-rows =
     -- no functions; on one line
     taken "P 1 2 0 9 2" refl ∷
-    -- `-0`, `+3` and `007`
+    -- the least upper bound; `-0`, `+3` and `007`
+    taken "P 1 2 0 1\n2\n" refl ∷
     taken "P 1 +3 1 007\n3\n1 -0 0 1\n002 5\n" refl ∷
     -- tab, carriage return, vertical tab, form feed
     taken "\tP\t1 2 0 9\r\n2\u{b}\u{c}\r\n" refl ∷
@@ -164,12 +167,25 @@ accepted-rows =
 
 -- ## what a text holds, and what is written
 
+-- over one variable with two values: a ceiling, a constant, and a table
+abbrev tiny : ℕ → ℕ → List ℕ → Problem
+tiny ceiling constant costs =
+    record {
+      objectives = 1;
+      ceilings = ceiling ∷ [];
+      domains = 2 ∷ [];
+      tables =
+          record { objective = 0; scope = []; costs = constant ∷ [] } ∷
+          record { objective = 0; scope = 0 ∷ []; costs = costs } ∷
+          [];
+    }
+
 -- a problem with arities 0, 1 and 2: a constant, a table with one entry that is not 0, a scope written (1, 0)
 abbrev small : Problem
 small =
     record {
       objectives = 1;
-      ceilings = 100 ∷ [];
+      ceilings = 99 ∷ [];
       domains = 2 ∷ 3 ∷ [];
       tables =
           record { objective = 0; scope = []; costs = 7 ∷ [] } ∷
@@ -184,19 +200,53 @@ pub small-written :
 unfolding opened
 small-written = refl
 
--- a table of zeros has no tuples
-pub zeros-written :
-    let zeros : Table = record { objective = 0; scope = 0 ∷ []; costs = 0 ∷ 0 ∷ [] } in
-    let q : Problem = record { objectives = 1; ceilings = 0 ∷ []; domains = 2 ∷ []; tables = zeros ∷ [] } in
-    networkText q ≡ bytes "P 1 2 1 0\n2\n1 0 0 0\n"
+-- a table of zeros has no tuples; the ceiling 0 becomes the upper bound 1
+pub zeros-written : networkText (tiny 0 0 (0 ∷ 0 ∷ [])) ≡ bytes "P 1 2 2 1\n2\n0 0 0\n1 0 0 0\n"
 unfolding opened
 zeros-written = refl
+
+-- what is forbidden is written as the upper bound, in a table and without variables; what reaches it stays
+pub forbidden-written :
+    networkText (tiny 7 4294967295 (4294967295 ∷ 9 ∷ [])) ≡ bytes "P 1 2 2 8\n2\n0 8 0\n1 0 0 2\n0 8\n1 9\n"
+unfolding opened
+forbidden-written = refl
+
+-- the greatest ceiling has no upper bound; the one below it has the greatest, which is what is forbidden there
+pub ceiling-refused : toTextVerdict (encode (tiny 4294967295 0 (0 ∷ 0 ∷ []))) ≡ verdict 18 0
+unfolding opened
+ceiling-refused = refl
+
+pub ceiling-accepted : toTextVerdict (encode (tiny 4294967294 0 (0 ∷ 0 ∷ []))) ≡ accepted
+unfolding opened
+ceiling-accepted = refl
+
+pub ceiling-written :
+    networkText (tiny 4294967294 0 (4294967295 ∷ 4294967294 ∷ []))
+    ≡ bytes "P 1 2 2 4294967295\n2\n0 0 0\n1 0 0 2\n0 4294967295\n1 4294967294\n"
+unfolding opened
+ceiling-written = refl
 
 -- tuples in any order, and a default where there is none
 pub small-held :
     networkProblem (wordsOf (bytes "any 2 3 3 100 2 3 0 7 0 1 0 4 1 0 0 2 1 0 0 3 2 1 13 1 1 12 0 0 10")) ≡ small
 unfolding opened
 small-held = refl
+
+-- the ceiling is one below the upper bound, from 1 to the greatest; costs stay as they are, also at the bound and above
+pub least-held : networkProblem (wordsOf (bytes "P 1 2 2 1\n2\n0 0 0\n1 0 0 1\n1 1\n")) ≡ tiny 0 0 (0 ∷ 1 ∷ [])
+unfolding opened
+least-held = refl
+
+pub greatest-held :
+    networkProblem (wordsOf (bytes "P 1 2 2 4294967295\n2\n0 0 0\n1 0 4294967295 1\n1 4294967294\n"))
+    ≡ tiny 4294967294 0 (4294967295 ∷ 4294967294 ∷ [])
+unfolding opened
+greatest-held = refl
+
+pub costs-held :
+    networkProblem (wordsOf (bytes "P 1 2 2 8\n2\n0 4294967295 0\n1 0 9 1\n0 8\n")) ≡ tiny 7 4294967295 (8 ∷ 9 ∷ [])
+unfolding opened
+costs-held = refl
 
 -- ## long texts
 

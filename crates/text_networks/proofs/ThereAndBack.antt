@@ -1,4 +1,4 @@
--- A problem with one objective, written as text: nothing in the text is refused, and it holds that problem.
+-- A problem with one objective, as text as it stands: nothing in the text is refused, and it holds that problem.
 use mathlib.Core.Path.{_≡_, refl, sym, subst, _∙_}
 use mathlib.Core.Bool.{false}
 use mathlib.Core.List.{List, [], _∷_, _++_, map, append-nil}
@@ -6,20 +6,21 @@ use Prim.Native.Nat.{ℕ, _+_, _≤_}
 use native.Mathlib.Omega.{arith}
 use lib.ListN.{length, getD, drop, length-append, length-map, drop-of-length-le}
 use lib.Seq.{drop-drop}
-use borrow.Author.Tests.{lt-ltb, le-ltb, eq-eqb, ne-eqb}
+use borrow.Author.Tests.{le-ltb, eq-eqb, ne-eqb}
 use Rattle.model.specs.Basics.{All}
-use Rattle.model.specs.Limits.{maxBytes, maxVariables, maxTables, maxDomain, wordEnd}
+use Rattle.model.specs.Limits.{maxBytes, maxVariables, maxTables, maxDomain}
 use Rattle.model.specs.Refusals.{accepted}
-use Rattle.model.specs.Problems.{Problem, Word, DomainSize, TableRules, RecordRules}
-use Rattle.model.specs.Encoding.{encode, WellFormed}
+use Rattle.model.specs.Problems.{Problem, DomainSize, TableRules, RecordRules}
+use Rattle.model.specs.Encoding.{encode}
 use Rattle.model.specs.Reading.{outside}
-use Rattle.model.proofs.Elements.{all-at, all-map}
+use Rattle.model.proofs.Elements.{all-map}
 use Rattle.text_words.specs.Texts.{number, valueOf, decimal, wordsOf}
 use Rattle.text_networks.specs.Findings.{Words, fine, andThen, field, termAt, valuesIn, runs}
-use Rattle.text_networks.specs.Networks.{sizeFinding, functionsFinding, largestOf}
-use Rattle.text_networks.specs.Networks.{networkFinding, functionTables, networkProblem}
-use Rattle.text_networks.specs.NetworkTexts.{letterP, networkText}
+use Rattle.text_networks.specs.Networks.{maxBound, sizeFinding, functionsFinding, largestOf}
+use Rattle.text_networks.specs.Networks.{networkFinding, functionTables, ceilingFor, networkProblem}
+use Rattle.text_networks.specs.NetworkTexts.{upperBoundOf, letterP, textOf}
 use Rattle.text_networks.specs.Conversions.{numberOf, textVerdict}
+use Rattle.text_networks.specs.Statements.{Writable}
 use Rattle.text_networks.proofs.Lists.{one-only}
 use Rattle.text_networks.proofs.TextNumbers.{functionsNumbers, headNumbers, textNumbers, text-words}
 use Rattle.text_networks.proofs.NumberWords.{Reads, reads-decimal, reads-left, reads-right, reads-at}
@@ -50,8 +51,9 @@ below-largest (d ∷ ds) =
 -- ## the whole text
 
 -- words that hold the numbers of q's text behind a name, and no more
-module _ (q : Problem) (r : RecordRules q) (one : q .objectives ≡ 1) (name : List ℕ) (rest : Words)
-    (h : Reads (textNumbers q) rest) (end : drop (length (textNumbers q)) rest ≡ []) where
+module _ (q : Problem) (r : RecordRules q) (one : q .objectives ≡ 1) (bounded : upperBoundOf q ≤ maxBound)
+    (name : List ℕ) (rest : Words) (h : Reads (textNumbers q) rest)
+    (end : drop (length (textNumbers q)) rest ≡ []) where
   variables-term : termAt 1 (name ∷ rest) ≡ number (length (q .domains))
   variables-term = h .0
 
@@ -61,7 +63,7 @@ module _ (q : Problem) (r : RecordRules q) (one : q .objectives ≡ 1) (name : L
   tables-term : termAt 3 (name ∷ rest) ≡ number (length (q .tables))
   tables-term = reads-at (textNumbers q) 2 rest h (omega arith)
 
-  bound-term : termAt 4 (name ∷ rest) ≡ number (getD (q .ceilings) 0 0)
+  bound-term : termAt 4 (name ∷ rest) ≡ number (upperBoundOf q)
   bound-term = reads-at (textNumbers q) 3 rest h (omega arith)
 
   body : Reads (q .domains ++ functionsNumbers (q .domains) (q .tables)) (drop 4 rest)
@@ -102,14 +104,16 @@ module _ (q : Problem) (r : RecordRules q) (one : q .objectives ≡ 1) (name : L
         domains-back,
         inside maxVariables (length ds) (r .some-variable) (r .few-variables),
         le-ltb maxTables (length (q .tables)) (r .few-tables),
-        lt-ltb (getD (q .ceilings) 0 0) wordEnd (all-at Word (q .ceilings) (r .ceiling-words) 0 0 (omega arith)),
+        inside maxBound (upperBoundOf q) (omega arith) bounded,
         sizes-found (largestOf ds) ds (drop 4 rest) (below-largest ds) (r .domain-sizes) sizes-read,
         eq-eqb (largestOf ds) (largestOf ds) refl,
       )
       (tables-back .0)
 
-  one-ceiling : getD (q .ceilings) 0 0 ∷ [] ≡ q .ceilings
-  one-ceiling = one-only (q .ceilings) (omega (arith, r .ceiling-each))
+  one-ceiling : ceilingFor (upperBoundOf q) ∷ [] ≡ q .ceilings
+  one-ceiling =
+      let same : ceilingFor (upperBoundOf q) ≡ getD (q .ceilings) 0 0 = omega arith in
+      rw same (one-only (q .ceilings) (omega (arith, r .ceiling-each)))
 
   problem-back : networkProblem (name ∷ rest) ≡ q
   unfolding networkProblem valueOf
@@ -122,31 +126,35 @@ module _ (q : Problem) (r : RecordRules q) (one : q .objectives ≡ 1) (name : L
 
 -- ## the text of a problem
 
-module _ (q : Problem) (w : WellFormed q) (one : q .objectives ≡ 1) where
+module _ (q : Problem) (w : Writable q) where
   rest : Words
   rest = map decimal (textNumbers q)
 
   numbers-read : Reads (textNumbers q) rest
   unfolding rest
   numbers-read = subst (Reads (textNumbers q)) (append-nil (map decimal (textNumbers q)))
-      (reads-decimal (textNumbers q) [] (numbers-fit q (w .rules)))
+      (reads-decimal (textNumbers q) [] (numbers-fit q (w .formed .rules) (w .bounded)))
 
   no-more : drop (length (textNumbers q)) rest ≡ []
   unfolding rest
   no-more = drop-of-length-le rest {i = length (textNumbers q)} (omega (arith, length-map (textNumbers q) decimal))
 
-  words-are : wordsOf (networkText q) ≡ (letterP ∷ []) ∷ rest
+  words-are : wordsOf (textOf q) ≡ (letterP ∷ []) ∷ rest
   unfolding rest
-  words-are = text-words q (w .rules .some-variable)
+  words-are = text-words q (w .formed .rules .some-variable)
 
   -- the problem that the text holds is the problem that was written
-  pub text-problem : networkProblem (wordsOf (networkText q)) ≡ q
-  text-problem = rw words-are (problem-back q (w .rules) one (letterP ∷ []) rest numbers-read no-more)
+  pub text-problem : networkProblem (wordsOf (textOf q)) ≡ q
+  text-problem =
+      rw words-are
+      (problem-back q (w .formed .rules) (w .one) (w .bounded) (letterP ∷ []) rest numbers-read no-more)
 
   -- nothing in the text is refused
-  pub text-finding : networkFinding (wordsOf (networkText q)) ≡ fine
-  text-finding = rw words-are (finding-fine q (w .rules) one (letterP ∷ []) rest numbers-read no-more)
+  pub text-finding : networkFinding (wordsOf (textOf q)) ≡ fine
+  text-finding =
+      rw words-are
+      (finding-fine q (w .formed .rules) (w .one) (w .bounded) (letterP ∷ []) rest numbers-read no-more)
 
-  pub text-accepted : textVerdict (networkText q) ≡ accepted
+  pub text-accepted : textVerdict (textOf q) ≡ accepted
   unfolding textVerdict andThen numberOf
-  text-accepted = rw (text-problem, text-finding, le-ltb maxBytes (length (encode q)) (w .short))
+  text-accepted = rw (text-problem, text-finding, le-ltb maxBytes (length (encode q)) (w .formed .short))

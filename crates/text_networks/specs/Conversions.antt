@@ -1,4 +1,5 @@
 -- What the two converting calls answer and leave in the lent buffer, for every input.
+use mathlib.Core.Bool.{Bool, _||_}
 use mathlib.Core.List.{List}
 use Prim.Native.Nat.{ℕ}
 use lib.Dec.{ltb}
@@ -12,8 +13,8 @@ use Rattle.model.specs.Reading.{verdictOf, problemOf}
 use Rattle.model.specs.Calls.{over, answers}
 use Rattle.text_words.specs.Texts.{wordsOf}
 use Rattle.text_networks.specs.Findings.{Finding, fine, dialect, stop, fault, andThen, findIf}
-use Rattle.text_networks.specs.Networks.{networkFinding, networkProblem}
-use Rattle.text_networks.specs.NetworkTexts.{networkText}
+use Rattle.text_networks.specs.Networks.{maxBound, networkFinding, networkProblem}
+use Rattle.text_networks.specs.NetworkTexts.{upperBoundOf, networkText}
 
 -- 17: not the format; 18: content that is refused; 19: the output buffer is too short
 abbrev pub badText : ℕ
@@ -57,10 +58,12 @@ textVerdict s =
 unfoldable pub fromTextOutcome : List ℕ → List ℕ → ConvertOutcome
 fromTextOutcome s output = converted (textVerdict s) (encode (networkProblem (wordsOf s))) output
 
--- From records to text: 1 to 11, 18 for more than one objective, 19.
+-- From records to text: 1 to 11, 18 for more than one objective or a ceiling that no upper bound stands for, 19.
+abbrev pub unwritable : Problem → Bool
+unwritable q = ltb 1 (q .objectives) || ltb maxBound (upperBoundOf q)
+
 unfoldable pub toTextVerdict : List ℕ → Verdict
-toTextVerdict s =
-    first (verdictOf s) (pick (ltb 1 (problemOf s .objectives)) (verdict badDialect 0) accepted)
+toTextVerdict s = first (verdictOf s) (pick (unwritable (problemOf s)) (verdict badDialect 0) accepted)
 
 unfoldable pub toTextOutcome : List ℕ → List ℕ → ConvertOutcome
 toTextOutcome s output = converted (toTextVerdict s) (networkText (problemOf s)) output

@@ -1,6 +1,9 @@
--- What a choice costs by a WCSP text: for each function the cost of the tuple that it has, or else the default.
+-- What a choice costs by a WCSP text: for each function the cost of the tuple that it has, or else the default; and
+-- whether the text allows it.
+use mathlib.Core.Bool.{Bool}
 use mathlib.Core.List.{List}
 use Prim.Native.Nat.{ℕ, zero, suc, _+_}
+use lib.Dec.{ltb}
 use lib.ListN.{length, drop}
 use Rattle.model.specs.Basics.{pick}
 use Rattle.model.specs.Vectors.{same}
@@ -24,3 +27,7 @@ functionsCost (suc r) xs ws = functionCost xs ws + functionsCost r xs (drop (fun
 
 abbrev pub networkCost : Words → List ℕ → ℕ
 networkCost ws xs = functionsCost (valueAt 3 ws) xs (functionsIn ws)
+
+-- a choice is allowed where it costs less than the upper bound
+abbrev pub networkAllows : Words → List ℕ → Bool
+networkAllows ws xs = ltb (networkCost ws xs) (valueAt 4 ws)

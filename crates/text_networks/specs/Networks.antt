@@ -1,7 +1,7 @@
 -- The WCSP text format: what is refused of a text, and the problem that it holds.
-use mathlib.Core.Bool.{Bool, true, false, not, _&&_, _||_}
+use mathlib.Core.Bool.{Bool, false, not, _&&_, _||_}
 use mathlib.Core.List.{List, [], _∷_, map}
-use Prim.Native.Nat.{ℕ, zero, suc, _+_, _*_, max}
+use Prim.Native.Nat.{ℕ, zero, suc, _+_, _-_, _*_, max}
 use lib.Dec.{eqb, ltb}
 use lib.ListN.{length, getD, drop, set, replicate}
 use Rattle.model.specs.Limits.{maxVariables, maxTables, maxDomain, maxArity, wordEnd}
@@ -36,9 +36,16 @@ largestFinding t = field fault (λ d. fine) t
 abbrev pub functionsNumber : Term → Finding
 functionsNumber t = field fault (λ r. findIf (ltb maxTables r) dialect) t
 
--- costs, and the upper bound
+-- a cost
 abbrev pub costFinding : Term → Finding
 costFinding t = field stop (λ c. findIf (not (ltb c wordEnd)) dialect) t
+
+-- the upper bound: costs stay below it, and below 0 there are none
+abbrev pub maxBound : ℕ
+maxBound = 4294967295
+
+abbrev pub boundFinding : Term → Finding
+boundFinding t = field stop (λ c. findIf (outside maxBound c) dialect) t
 
 -- a size is at most the largest one that is stated
 abbrev pub sizeFinding : ℕ → Term → Finding
@@ -129,13 +136,14 @@ networkFinding (name ∷ rest) =
     andThen (variablesFinding (termAt 1 ws)) (
     andThen (largestFinding (termAt 2 ws)) (
     andThen (functionsNumber (termAt 3 ws)) (
-    andThen (costFinding (termAt 4 ws)) (
+    andThen (boundFinding (termAt 4 ws)) (
     andThen (runs (valueAt 1 ws) (λ us. sizeFinding (valueAt 2 ws) (termAt 0 us)) 1 (drop 5 ws)) (
     andThen (findIf (not (eqb (largestOf (domainsIn ws)) (valueAt 2 ws))) fault)
     (functionsFinding (valueAt 3 ws) (domainsIn ws) (functionsIn ws)))))))
 
--- The problem that a text holds: one objective with the upper bound as ceiling; a table has the default cost but where
--- a tuple gives another. Where a table over domain sizes ds has the entry for values xs, after the index i:
+-- The problem that a text holds: one objective, whose ceiling is the greatest cost below the upper bound; a table has
+-- the default cost but where a tuple gives another. Where a table over domain sizes ds has the entry for values xs,
+-- after the index i:
 unfoldable pub indexFrom : ℕ → List ℕ → List ℕ → ℕ
 indexFrom i [] xs = i
 indexFrom i (d ∷ ds) [] = i
@@ -163,7 +171,7 @@ functionTables (suc r) ds ws = functionTable ds ws ∷ functionTables r ds (drop
 
 -- the ceiling that an upper bound stands for
 abbrev pub ceilingFor : ℕ → ℕ
-ceilingFor bound = bound
+ceilingFor bound = bound - 1
 
 unfoldable pub networkProblem : Words → Problem
 networkProblem ws =

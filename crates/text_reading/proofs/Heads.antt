@@ -1,22 +1,19 @@
 -- The first line of a text in which nothing is refused.
 use mathlib.Core.Path.{_≡_, ap, sym}
 use mathlib.Core.Logic.{⊎-elim}
-use mathlib.Core.List.{List, [], _∷_}
+use mathlib.Core.List.{List}
 use Prim.Native.Nat.{ℕ, _≤_, _<_}
 use native.Mathlib.Omega.{arith}
 use native.Mathlib.Nat.{eq-or-lt-of-le}
 use lib.ListN.{drop}
-use Rattle.model.specs.Basics.{All}
-use Rattle.model.specs.Limits.{maxVariables, maxTables, wordEnd}
-use Rattle.model.specs.Problems.{Word, DomainSize}
+use Rattle.model.specs.Limits.{wordEnd}
 use Rattle.text_words.specs.Texts.{wordsOf}
 use Rattle.text_words.specs.Reads.{WordSays, NumberSays}
 use Rattle.text_words.specs.declared.Word as DW
 use Rattle.text_words.specs.declared.Number as DN
-use Rattle.text_networks.specs.Findings.{Words, fine, fault, valueAt}
-use Rattle.text_networks.specs.Networks.{functionsFinding, domainsIn, functionsIn, networkFinding, networkProblem}
-use Rattle.text_networks.proofs.FineWords.{found-fine, both-fine}
-use Rattle.text_networks.proofs.FineTables.{values-count, tables-count}
+use Rattle.text_networks.specs.Findings.{fine, fault, valueAt}
+use Rattle.text_networks.specs.Networks.{networkFinding, ceilingFor}
+use Rattle.text_networks.proofs.FineWords.{found-fine}
 use Rattle.text_networks.proofs.TextCosts.{FineNetwork, network-fine}
 use Rattle.text_reading.specs.Heads.{HeadSays}
 use Rattle.text_reading.proofs.Numbers.{Passed, one-passed, passed-value}
@@ -56,17 +53,22 @@ module _ {s : List ℕ} {name : DW.Word} {n d r b : DN.Number} (l : FirstLine s 
   line-fine = network-fine (wordsOf s) (l .right)
 
   bound-read : b .value ≡ valueAt 4 (wordsOf s)
-  bound-read = passed-value fourth b (l .bound) (omega (arith, line-fine .bound))
+  bound-read = passed-value fourth b (l .bound) (omega (arith, line-fine .bound .1))
 
-  pub bound-fits : b .value < wordEnd
-  bound-fits = rw bound-read (line-fine .bound)
+  -- the ceiling is below it, and fits four bytes
+  pub bound-some : 1 ≤ b .value
+  bound-some = rw bound-read (line-fine .bound .0)
 
-  pub head-says : HeadSays s (record { variables = n .value; functions = r .value; bound = b .value; end = b .end })
+  pub ceiling-fits : ceilingFor (b .value) < wordEnd
+  ceiling-fits = omega (arith, bound-read, line-fine .bound .1)
+
+  pub head-says : HeadSays s
+      (record { variables = n .value; functions = r .value; ceiling = ceilingFor (b .value); end = b .end })
   head-says =
       record {
         variables = passed-value first n (l .variables) (omega (arith, line-fine .variables .1));
         functions = passed-value third r (l .functions) (omega (arith, line-fine .functions));
-        bound = bound-read;
+        ceiling = ap ceilingFor bound-read;
         within = l .bound .within;
         rest = one-passed fourth b (l .bound) .words;
       }

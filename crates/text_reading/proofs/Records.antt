@@ -82,7 +82,7 @@ module _ {s : List ℕ} {h : DH.Head} {d : DD.Domains} (read : SizesRead s h d) 
       values-count (valueAt 1 ws) (drop 5 ws) ∙ sym (h-says .variables) in
       let r : length (functionTables (valueAt 3 ws) (domainsIn ws) (functionsIn ws)) ≡ h .functions =
       tables-count (valueAt 3 ws) (domainsIn ws) (functionsIn ws) ∙ sym (h-says .functions) in
-      rw (n, r, ← h-says .functions, ← h-says .bound, ← domains-same, ← tables-start)
+      rw (n, r, ← h-says .functions, ← h-says .ceiling, ← domains-same, ← tables-start)
 
   all-short : length (headForm h) + length (domainBytes (domainList d)) + length tables ≤ maxBytes
   all-short =

@@ -20,11 +20,11 @@ ghost use Rattle.text_reading.specs.Functions.{ScopeAt, ScopeSays, Funct
 ghost use Rattle.text_reading.specs.Functions.{TuplePlace, TuplePut, TuplesPlace, TuplesPut, FunctionPut};
 ghost use Rattle.text_reading.specs.Functions.{FunctionsAt};
 
-// The numbers of the first line, and the place behind them.
+// The numbers of the first line, with the ceiling for its upper bound, and the place behind them.
 struct Head {
     variables: usize,
     functions: u64,
-    bound: u32,
+    ceiling: u32,
     end: usize,
 }
 
@@ -104,7 +104,7 @@ fn read_head(s: &[u8]) -> Head
     Head {
         variables: variables.value as usize,
         functions: functions.value,
-        bound: bound.value as u32,
+        ceiling: (bound.value - 1) as u32,
         end: bound.end,
     }
 }
@@ -116,7 +116,7 @@ fn put_head(h: Head, out: &mut [u8]) -> usize
     let mark = put_pair(b'H', b'D', 0, out);
     let counts = put_pair(h.variables as u8, 1, mark, out);
     let ceiling = put_two(h.functions as u32, counts, out);
-    put_four(h.bound, ceiling, out)
+    put_four(h.ceiling, ceiling, out)
 }
 
 fn read_domains(s: &[u8], at: usize, count: usize) -> Domains

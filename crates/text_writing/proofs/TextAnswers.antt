@@ -1,10 +1,10 @@
--- The call's four answers: a refused problem, more than one objective, a buffer that is too short, the text.
+-- The call's four answers: a refused problem, one that no text can hold, a buffer that is too short, the text.
 use mathlib.Core.Path.{_≡_, refl, _∙_, ap}
+use mathlib.Core.Bool.{true, false}
 use mathlib.Core.List.{List, [], _∷_, _++_}
-use Prim.Native.Nat.{ℕ, _+_, _≤_, _<_}
+use Prim.Native.Nat.{ℕ, _≤_, _<_}
 use native.Mathlib.Omega.{arith}
 use lib.ListN.{length, drop}
-use borrow.Author.Tests.{lt-ltb, le-ltb, ne-eqb}
 use Rattle.model.specs.Refusals.{Verdict, verdict, accepted}
 use Rattle.model.specs.Reading.{verdictOf, problemOf}
 use Rattle.model.specs.Calls.{over}
@@ -12,8 +12,8 @@ use Rattle.model.proofs.Reading.{accepted-place}
 use Rattle.problem.proofs.Chains.{stop-verdict, same-verdict}
 use Rattle.text_lines.specs.Written.{Written}
 use Rattle.text_networks.specs.NetworkTexts.{networkText}
-use Rattle.text_networks.specs.Conversions.{badDialect, outputShort, ConvertOutcome, converted, toTextVerdict}
-use Rattle.text_networks.specs.Conversions.{toTextOutcome}
+use Rattle.text_networks.specs.Conversions.{badDialect, outputShort, ConvertOutcome, converted, unwritable}
+use Rattle.text_networks.specs.Conversions.{toTextVerdict, toTextOutcome}
 use Rattle.text_networks.specs.Says.{answer, ConvertSays}
 use Rattle.text_networks.proofs.Converting.{tells, convert-refused, convert-short, convert-written}
 
@@ -48,22 +48,23 @@ module _ (s text : List ℕ) where
       ∙ ap (λ (v : Verdict). outcome v 0 text) (same-verdict e f))
 
   module _ (e : verdictOf s .number ≡ 0) where
-    pub many-answer : 1 < problemOf s .objectives → ConvertSays (toTextOutcome s text) text (answer badDialect 0 0)
+    pub unwritable-answer : unwritable (problemOf s) ≡ true
+        → ConvertSays (toTextOutcome s text) text (answer badDialect 0 0)
     unfolding toTextOutcome toTextVerdict
-    many-answer h =
+    unwritable-answer h =
         let form = networkText (problemOf s) in
         let told : toTextVerdict s ≡ verdict badDialect 0 =
-        rw (accepted-place s e, lt-ltb 1 (problemOf s .objectives) h) refl in
+        rw (accepted-place s e, h) refl in
         tells
         (ap (λ (v : Verdict). converted v form text) told
         ∙ convert-refused (verdict badDialect 0) form text (λ z. omega arith))
 
     -- The form is measured in no buffer, then written.
-    module _ (one : problemOf s .objectives ≡ 1) {none : List ℕ} {long : ℕ}
+    module _ (can : unwritable (problemOf s) ≡ false) {none : List ℕ} {long : ℕ}
         (measured : Written 0 (networkText (problemOf s)) [] none long) where
       fine : toTextOutcome s text ≡ converted accepted (networkText (problemOf s)) text
       unfolding toTextOutcome toTextVerdict
-      fine = rw (accepted-place s e, one) refl
+      fine = rw (accepted-place s e, can) refl
 
       pub short-answer : length (none ++ text) < long
           → ConvertSays (toTextOutcome s text) (none ++ text) (answer outputShort 0 0)

@@ -2,7 +2,7 @@
 use mathlib.Core.Path.{_∙_}
 use borrow.Author.Needs.{needs}
 use denote.Ref.{now}
-use Rattle.text_checking.proofs.Fields.{variables-code, largest-code, functions-code, cost-code}
+use Rattle.text_checking.proofs.Fields.{variables-code, largest-code, functions-code, bound-code}
 use Rattle.text_checking.proofs.Heads.{head-says}
 use Rattle.text_checking.proofs.check_head.Statement.{statement}
 use Rattle.text_checking.proofs.check_head.Tie as tie
@@ -27,7 +27,7 @@ returns c =
     (variables .limited .ensures ∙ variables-code (first .ensures))
     (largest .limited2 .ensures ∙ largest-code (second .ensures))
     (functions .limited3 .ensures ∙ functions-code (third .ensures))
-    (bound .limited4 .ensures ∙ cost-code (fourth .ensures)) (c .and-then3 .result)
+    (bound .limited4 .ensures ∙ bound-code (fourth .ensures)) (c .and-then3 .result)
     (rw (sizes .and-then .ensures, costs .and-then2 .ensures) at (c .and-then3 .ensures))
 
 pub check-head-spec : {M : Type 1} → statement M

@@ -1,7 +1,7 @@
 -- `text_reading::read_head` meets its contract: the numbers are below the cap, since nothing is refused.
 use borrow.Author.Needs.{needs}
 use denote.Ref.{now}
-use Rattle.text_reading.proofs.Heads.{FirstLine, bound-fits, head-says}
+use Rattle.text_reading.proofs.Heads.{FirstLine, bound-some, ceiling-fits, head-says}
 use Rattle.text_reading.proofs.read_head.Statement.{statement}
 use Rattle.text_reading.proofs.read_head.Tie as tie
 
@@ -35,5 +35,6 @@ read-head-spec =
     (λ c κs. search needs)  -- read-number-requires-2
     (λ c κs. search needs)  -- read-number-requires-3
     (λ c κs. search needs)  -- read-number-requires-4
-    (λ c. record { fits = bound-fits (line (c .before)) })  -- cast-t8
+    (λ c. bound-some (line (c .before)))  -- sub
+    (λ c. record { fits = ceiling-fits (line (c .before)) })  -- cast-t8
     (λ c. head-says (line (c .before))))  -- returns

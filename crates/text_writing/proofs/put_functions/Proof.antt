@@ -5,22 +5,23 @@ use Prim.Native.Nat.{_+_, _-_}
 use native.Mathlib.Omega.{arith}
 use lib.ListN.{drop}
 use denote.Ref.{now}
-use Rattle.model.specs.Reading.{tableLength, tableOf, tablesAt}
+use Rattle.model.specs.Reading.{tableLength}
 use Rattle.problem.specs.Records.{Whole, AllWhole}
 use Rattle.text_lines.proofs.Writing.{Underway, Split, begin, due, go-on, done}
 use Rattle.text_networks.specs.NetworkTexts.{functionText, functionsText}
+use Rattle.text_writing.specs.Forms.{writtenAt, writtenFrom}
 use Rattle.text_writing.proofs.Functions.{function-next, function-none, record-next}
 use Rattle.text_writing.proofs.put_functions.Statement.{statement}
 use Rattle.text_writing.proofs.put_functions.Tie as tie
 
 abbrev Inv-loop : tie.InvT-loop
-Inv-loop s at r sizes to out₀ here₀ next₀ left₀ out here next left =
+Inv-loop s at r sizes bound to out₀ here₀ next₀ left₀ out here next left =
     AllWhole left sizes s here
-    × Underway to (functionsText sizes (tablesAt r sizes s at)) out₀ (functionsText sizes (tablesAt left sizes s here))
-    out next
+    × Underway to (functionsText sizes (writtenFrom bound r sizes s at)) out₀
+    (functionsText sizes (writtenFrom bound left sizes s here)) out next
 
 abbrev μ-loop : tie.MeasureT-loop
-μ-loop s at r sizes to out₀ here₀ next₀ left₀ out here next left = left
+μ-loop s at r sizes bound to out₀ here₀ next₀ left₀ out here next left = left
 
 abbrev start-of : tie.At-loop Inv-loop μ-loop → tie.Start Inv-loop μ-loop
 start-of c = c .before .before .before .before
@@ -28,7 +29,7 @@ start-of c = c .before .before .before .before
 loop-holds : tie.Need-loop-holds Inv-loop μ-loop
 loop-holds c =
     let start : tie.Start Inv-loop μ-loop = c .before .before .before in
-    (start .pre .0, begin (now (start .args .out)) (start .pre .2))
+    (start .pre .0, begin (now (start .args .out)) (start .pre .3))
 
 -- in the loop: the record here is whole, and those behind it; its function is due
 whole : (c : tie.In-loop Inv-loop μ-loop)
@@ -47,18 +48,19 @@ ahead : (c : tie.In-loop Inv-loop μ-loop)
     let a = start-of (c .before) .args in
     let ds = now (a .sizes) in
     let s = now (a .s) in
-    Split (functionsText ds (tablesAt (w .left) ds s (w .here))) (functionText ds (tableOf ds (drop (w .here) s)))
-    (functionsText ds (tablesAt (w .left - 1) ds s (w .here + tableLength ds (drop (w .here) s))))
+    Split (functionsText ds (writtenFrom (a .bound) (w .left) ds s (w .here)))
+    (functionText ds (writtenAt (a .bound) ds s (w .here)))
+    (functionsText ds (writtenFrom (a .bound) (w .left - 1) ds s (w .here + tableLength ds (drop (w .here) s))))
 ahead c =
     let w = c .before .loop in
     let a = start-of (c .before) .args in
-    function-next (now (a .sizes)) (now (a .s)) (w .here) (w .left) (w .left - 1) (omega arith)
+    function-next (a .bound) (now (a .sizes)) (now (a .s)) (w .here) (w .left) (w .left - 1) (omega arith)
 
 put-function-requires : tie.Need-put-function-requires Inv-loop μ-loop
 put-function-requires c κs =
     let turn : tie.In-loop Inv-loop μ-loop = c .before in
     let start : tie.Start Inv-loop μ-loop = start-of (turn .before) in
-    (whole turn .0, start .pre .1, due (ahead turn) (turn .before .loop .inv .1))
+    (whole turn .0, start .pre .1, start .pre .2, due (ahead turn) (turn .before .loop .inv .1))
 
 place-after-requires : tie.Need-place-after-requires Inv-loop μ-loop
 place-after-requires c κs =

@@ -15,12 +15,19 @@ use Rattle.text_writing.proofs.put_network.Tie as tie
 behind : (c : tie.Start) → length (now (c .args .sizes)) ≡ suc (length (now (c .args .sizes)) - 1)
 behind c = omega (arith, c .pre .some)
 
+-- the upper bound fits four bytes
+add-bound : tie.Need-add-bound
+add-bound c =
+    let start : tie.Start = c .before .before .before .before .before in
+    omega (arith, start .pre .ceiling, start .pre .bounded)
+
 put-first-line-requires : tie.Need-put-first-line-requires
 put-first-line-requires c κs =
     let most : tie.After-largest-of = c .before .before in
     let start : tie.Start = most .before .before .before .before in
     let a = start .args in
-    first-due (now (a .s)) (a .t2) (now (a .sizes)) (start .pre) _ (most .largest-of .ensures) _ refl (now (a .out))
+    first-due (now (a .s)) (a .t2) (now (a .sizes)) (start .pre) _ (most .largest-of .ensures) _ refl _ refl
+    (now (a .out))
 
 put-line-requires : tie.Need-put-line-requires
 put-line-requires c κs =
@@ -29,8 +36,8 @@ put-line-requires c κs =
     let most : tie.After-largest-of = put .before .before .before in
     let start : tie.Start = most .before .before .before .before in
     let a = start .args in
-    sizes-due (now (a .s)) (a .t2) (now (a .sizes)) (start .pre) _ (most .largest-of .ensures) _ refl (now (a .out))
-    (put .put-first-line .ensures) _ _ (behind start) (size .wide .ensures)
+    sizes-due (now (a .s)) (a .t2) (now (a .sizes)) (start .pre) _ (most .largest-of .ensures) _ refl _ refl
+    (now (a .out)) (put .put-first-line .ensures) _ _ (behind start) (size .wide .ensures)
 
 put-functions-requires : tie.Need-put-functions-requires
 put-functions-requires c κs =
@@ -43,7 +50,8 @@ put-functions-requires c κs =
     let a = start .args in (
       rw (started .tables-start .ensures) (start .pre .whole),
       start .pre .small,
-      functions-next (now (a .s)) (a .t2) (now (a .sizes)) (start .pre) _ (most .largest-of .ensures) _
+      omega arith,
+      functions-next (now (a .s)) (a .t2) (now (a .sizes)) (start .pre) _ (most .largest-of .ensures) _ refl _
           (started .tables-start .ensures) (now (a .out)) (put .put-first-line .ensures) _ _ (behind start)
           (size .wide .ensures) (sizes .put-line .ensures) .placed,
     )
@@ -59,7 +67,7 @@ returns c =
     let start : tie.Start = most .before .before .before .before in
     let a = start .args in
     last
-    (functions-next (now (a .s)) (a .t2) (now (a .sizes)) (start .pre) _ (most .largest-of .ensures) _
+    (functions-next (now (a .s)) (a .t2) (now (a .sizes)) (start .pre) _ (most .largest-of .ensures) _ refl _
     (started .tables-start .ensures) (now (a .out)) (put .put-first-line .ensures) _ _ (behind start)
     (size .wide .ensures) (sizes .put-line .ensures))
     (end .put-functions .ensures)
@@ -70,6 +78,7 @@ put-network-spec =
     (tie.spec
     (λ c κs. search needs)  -- largest-of-requires
     (λ c. search needs)  -- element-copy-out-bound
+    add-bound
     put-first-line-requires
     (λ c. search needs)  -- sub-last
     (λ c. search needs)  -- shared-slice-read-wide
