@@ -8,15 +8,15 @@ pub use crate::cut::solve_cut;
 use crate::reading::{read_problem, Reading};
 use frontier::lent::{Answer, PointRecord};
 use frontier::limits::{LEAST_WORK, MAX_OBJECTIVES, MAX_POINTS, MAX_VARIABLES};
-use frontier::{Problem, Refusal, Table};
+use frontier::{Problem, Refusal, Table, FORBIDDEN};
 
 /// A frontier list: cost vectors in rising order, objective 0 compared first, each with its
 /// earliest choice. The order of the map's keys is that of the reference, section 3.
 pub(crate) type FrontierList = BTreeMap<Vec<u64>, Vec<u8>>;
 
-/// Whether each cost is strictly below its ceiling.
-pub(crate) fn is_consistent(costs: &[u64], ceilings: &[u32]) -> bool {
-    costs.iter().zip(ceilings).all(|(c, &t)| *c < u64::from(t))
+/// Whether each cost is at most its ceiling.
+pub(crate) fn is_within(costs: &[u64], ceilings: &[u32]) -> bool {
+    costs.iter().zip(ceilings).all(|(c, &t)| *c <= u64::from(t))
 }
 
 /// Whether `one` matches or beats `other`: it is at most as large in each objective, which holds
@@ -44,6 +44,12 @@ fn selected_entry(table: &Table, domains: &[u8], assignment: &[u8]) -> u64 {
         index * usize::from(domains[variable]) + usize::from(assignment[variable])
     };
     u64::from(table.costs[table.scope.iter().fold(0, step)])
+}
+
+/// Whether an assignment meets a forbidden entry in one of these tables, of whichever objective.
+fn meets_forbidden(problem: &Problem, tables: &[&Table], assignment: &[u8]) -> bool {
+    let entry = |table: &Table| selected_entry(table, &problem.domains, assignment);
+    tables.iter().any(|table| entry(table) == FORBIDDEN.into())
 }
 
 /// The cost vector of an assignment under some of a problem's tables.
@@ -76,7 +82,8 @@ pub(crate) fn frontier(problem: &Problem, variables: &[usize], tables: &[&Table]
     let mut assignment = vec![0; problem.variables()];
     loop {
         let costs = cost_vector(problem, tables, &assignment);
-        if is_consistent(&costs, &problem.ceilings) {
+        let forbidden = meets_forbidden(problem, tables, &assignment);
+        if !forbidden && is_within(&costs, &problem.ceilings) {
             // Choices are met from the earliest on, so the first with a vector stays.
             met.entry(costs)
                 .or_insert_with(|| variables.iter().map(|&v| assignment[v]).collect());
@@ -120,7 +127,7 @@ pub(crate) fn write_flat(
     if list.len() > flat_room(problem, costs, choices) {
         return Refusal::Full.into();
     }
-    // A listed cost is below a 32-bit ceiling, so the narrowing keeps it.
+    // A listed cost is at most a 32-bit ceiling, so the narrowing keeps it.
     let listed_costs = list.keys().flatten().map(|&cost| cost as u32);
     for (slot, cost) in costs.iter_mut().zip(listed_costs) {
         *slot = cost;

@@ -1,8 +1,6 @@
 //! The cut call: each half's own frontier by enumeration, then the sums over all pairs.
 
-use crate::brute::{
-    drop_beaten, frontier, is_consistent, read_with_work, write_flat, FrontierList,
-};
+use crate::brute::{drop_beaten, frontier, is_within, read_with_work, write_flat, FrontierList};
 use crate::reading::Reading;
 use frontier::lent::Halves;
 use frontier::limits::MAX_POINTS;
@@ -57,14 +55,14 @@ fn merge_choices(halves: [(&Half, &[u8]); 2], variables: usize) -> Vec<u8> {
     merged
 }
 
-/// The sums over all pairs that are under the ceilings and not beaten by another such sum, each
-/// with the earliest of the merged choices that have it.
+/// The sums over all pairs that are within the ceilings and not beaten by another such sum, each
+/// with the earliest of the merged choices that have it. The halves have left out forbidden entries.
 fn pair_sums(problem: &Problem, first: &Half, second: &Half) -> FrontierList {
     let mut sums = FrontierList::new();
     for (one, one_choice) in &first.list {
         for (two, two_choice) in &second.list {
             let sum: Vec<u64> = one.iter().zip(two).map(|(a, b)| a + b).collect();
-            if !is_consistent(&sum, &problem.ceilings) {
+            if !is_within(&sum, &problem.ceilings) {
                 continue;
             }
             let halves = [(first, &one_choice[..]), (second, &two_choice[..])];

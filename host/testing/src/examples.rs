@@ -177,7 +177,7 @@ pub fn all_clauses(variables: u8) -> Problem {
 }
 
 /// Staircase: 128 choices that cost (0, 127), (1, 126), and so on in the order of choices, so
-/// the first ceiling alone says how long the frontier is. A fourth variable has one value.
+/// under a first ceiling of 63 the frontier has 64 points. A fourth variable has one value.
 pub fn staircase(ceilings: [u32; 2]) -> Problem {
     let mut tables = Vec::new();
     for (v, domain, weight) in [(0, 2, 64), (1, 8, 8), (2, 8, 1)] {
@@ -190,6 +190,14 @@ pub fn staircase(ceilings: [u32; 2]) -> Problem {
         ceilings: ceilings.to_vec(),
         domains: vec![2, 8, 8, 1],
         tables,
+    }
+}
+
+/// A staircase of so many points, at most 128. For none the second ceiling is one too low.
+pub fn stairs_of(points: u32) -> Problem {
+    match points {
+        0 => staircase([0, 126]),
+        _ => staircase([points - 1, 200]),
     }
 }
 
@@ -223,7 +231,7 @@ pub fn ten_problems() -> [Problem; 10] {
         objects([13, 100, 100]),
         xor(),
         all_clauses(5),
-        staircase([64, 200]),
+        stairs_of(64),
         every_arity(),
     ]
 }

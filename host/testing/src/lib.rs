@@ -9,6 +9,7 @@ pub mod brute;
 pub mod c_compiler;
 pub mod cache;
 pub mod canonical;
+pub mod ceilings;
 pub mod checker;
 pub mod chooser_run;
 pub mod cut;

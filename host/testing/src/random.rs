@@ -62,12 +62,12 @@ struct Entries {
 
 impl Entries {
     /// Mostly small entries. Multiples of 256 powers tell whether all four bytes of a number
-    /// are used, and the wide ones have sums of 2^32 and more.
+    /// are used, and the wide ones have sums of exactly 2^32 - 1, and of more.
     fn random(rng: &mut Rng) -> Entries {
         let last = rng.pick(&[1, 2, 3, 3, 9, 40]);
         let scale = rng.pick(&[1, 1, 1, 1, 0x100, 0x1_0000, 0x100_0000]);
         let wide = [0, 1, 0x7fff_ffff, 0x8000_0000, FORBIDDEN - 1];
-        let values = if rng.once_in(12) {
+        let values = if rng.once_in(6) {
             wide.to_vec()
         } else {
             (0..=last).map(|value| value * scale).collect()
@@ -110,8 +110,8 @@ fn random_scope(rng: &mut Rng, variables: &[u8], arity: usize) -> Vec<u8> {
     rest
 }
 
-/// Ceilings 0, 1, tight around the cost of some choice, loose, or the greatest. In every second
-/// problem they are generous in all objectives, since several tight ones leave few choices.
+/// Ceilings 0, 1, at the cost of some choice or beside it, loose, or at the greatest or beside it. In every
+/// second problem they are generous in all objectives, since several tight ones leave few choices.
 fn random_ceilings(rng: &mut Rng, problem: &Problem) -> Vec<u32> {
     let choice = random_choice(rng, problem);
     let tables: Vec<&Table> = problem.tables.iter().collect();
@@ -121,9 +121,9 @@ fn random_ceilings(rng: &mut Rng, problem: &Problem) -> Vec<u32> {
     let ceiling = |cost: u64, rng: &mut Rng| match least + rng.below(20 - least) {
         0 => 0,
         1 => 1,
-        2..=7 => narrow(cost + rng.below(3) as u64),
+        2..=7 => narrow((cost + rng.below(3) as u64).saturating_sub(1)),
         8..=13 => narrow(cost * 2 + 10),
-        _ => FORBIDDEN,
+        _ => rng.pick(&[FORBIDDEN, FORBIDDEN, FORBIDDEN - 1]),
     };
     costs.iter().map(|&cost| ceiling(cost, rng)).collect()
 }
@@ -196,7 +196,36 @@ fn grouped_problem(rng: &mut Rng, shape: &Shape, parted: bool) -> (Problem, Vec<
         problem.tables.push(table);
     }
     problem.ceilings = random_ceilings(rng, &problem);
+    if rng.once_in(10) {
+        meet_the_greatest_ceiling(rng, &mut problem);
+    }
     (problem, group_of)
+}
+
+/// Gives one objective the greatest ceiling, and as its only costs a charge of 0 or 1 and a table over at most one
+/// variable. Its greatest entry costs just the ceiling with the charge; without a charge it is forbidden.
+fn meet_the_greatest_ceiling(rng: &mut Rng, problem: &mut Problem) {
+    let objective = rng.below(problem.objectives());
+    let variable = rng.below(problem.variables());
+    let (scope, size) = match rng.once_in(2) {
+        true => (Vec::new(), 1),
+        false => (vec![variable as u8], problem.domains[variable]),
+    };
+    let charge = rng.below(2) as u32;
+    let costs = (0..size).map(|_| rng.pick(&[0, FORBIDDEN - charge]));
+    let table = Table {
+        objective: objective as u8,
+        scope,
+        costs: costs.collect(),
+    };
+    problem
+        .tables
+        .retain(|other| other.objective != table.objective);
+    problem
+        .tables
+        .push(Table::new(table.objective, &[], &[charge]));
+    problem.tables.push(table);
+    problem.ceilings[objective] = FORBIDDEN;
 }
 
 /// For each variable the least variable that tables connect it with.

@@ -5,7 +5,7 @@ use crate::mixed::Mixed;
 use crate::random::{random_problem, Shape};
 use crate::reading::read_problem;
 use crate::said::{laid_out, Said};
-use crate::texts::compare_forms;
+use crate::texts::{compare_forms, draw_ends};
 use crate::wcsp::{from_text, in_one_objective};
 use chooser::junk::Rng;
 use frontier::lent::Answer;
@@ -33,6 +33,9 @@ pub const STRANGE: [&str; 18] = [
     "9",
     "2",
 ];
+
+/// Upper bounds of which the first and the last are refused.
+const BOUNDS: [u64; 4] = [0, 1, 4_294_967_295, 4_294_967_296];
 
 /// How many bytes the problem of a text has; 0 where there is none.
 pub fn read_need(text: &[u8]) -> usize {
@@ -74,8 +77,13 @@ pub fn generated(rng: &mut Rng) -> Vec<u8> {
             ..Shape::small()
         },
     };
-    let problem = in_one_objective(&random_problem(rng, &shape));
-    let words = Said::of(rng, &problem).words(rng);
+    let mut problem = in_one_objective(&random_problem(rng, &shape));
+    draw_ends(rng, &mut problem);
+    let mut said = Said::of(rng, &problem);
+    if rng.once_in(8) {
+        said.bound = rng.pick(&BOUNDS);
+    }
+    let words = said.words(rng);
     damaged(rng, words, 3)
 }
 
@@ -180,7 +188,7 @@ impl FarSizes {
 fn far_words(rng: &mut Rng) -> Vec<String> {
     let far = FarSizes::new(rng);
     let (variables, functions) = (far.sizes.len(), rng.below(4));
-    let bound = rng.pick(&["9", far.long.1]);
+    let bound = rng.pick(&["9", "0", far.long.1]);
     let mut words = vec!["far".into(), variables.to_string(), far.largest()];
     words.extend([functions.to_string(), bound.into()]);
     words.extend(far.sizes.iter().map(|&size| far.size(size)));
@@ -206,7 +214,9 @@ impl Mixed {
         let mut inputs = vec![self.bytes.clone()];
         if let Ok(reading) = read_problem(&self.bytes) {
             let rng = &mut self.text_rng();
-            let said = Said::of(rng, &in_one_objective(&reading.problem));
+            let mut problem = in_one_objective(&reading.problem);
+            draw_ends(rng, &mut problem);
+            let said = Said::of(rng, &problem);
             inputs.push(said.text(rng));
             let words = said.words(rng);
             inputs.push(damaged(rng, words, 1 << 30));

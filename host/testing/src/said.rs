@@ -1,5 +1,6 @@
 //! Texts in any layout, written by a generator that shares nothing with the converter: what a text says is
-//! drawn first, then how it is written, and what a choice costs by it is told by the format's own words.
+//! drawn first, then how it is written; what a choice costs by it, and whether it is a solution, is told by the
+//! format's own words.
 
 use crate::brute::next_choice;
 use chooser::junk::Rng;
@@ -8,7 +9,8 @@ use frontier::{Problem, Table};
 /// What a text says.
 #[derive(Clone, Debug)]
 pub struct Said {
-    pub bound: u32,
+    /// The upper bound: what costs as much or more is no solution.
+    pub bound: u64,
     pub sizes: Vec<u8>,
     pub functions: Vec<Function>,
 }
@@ -23,12 +25,13 @@ pub struct Function {
 
 impl Said {
     /// One of the many texts that say a problem with one objective: any default, tuples in any order, some of
-    /// them equal to the default.
+    /// them equal to the default. The bound is one above the ceiling, so that a text with the greatest ceiling
+    /// is refused.
     pub fn of(rng: &mut Rng, problem: &Problem) -> Said {
         let functions = problem.tables.iter();
         let functions = functions.map(|table| Function::of(rng, table, &problem.domains));
         Said {
-            bound: problem.ceilings[0],
+            bound: u64::from(problem.ceilings[0]) + 1,
             functions: functions.collect(),
             sizes: problem.domains.clone(),
         }
@@ -42,23 +45,28 @@ impl Said {
             .sum()
     }
 
+    /// Whether a choice is a solution.
+    pub fn allows(&self, choice: &[u8]) -> bool {
+        self.cost(choice) < self.bound
+    }
+
     /// The words of the text, each number written in one of many ways.
     pub fn words(&self, rng: &mut Rng) -> Vec<String> {
         let largest = self.sizes.iter().copied().max().unwrap_or(0);
         let mut numbers = vec![
-            self.sizes.len() as u32,
+            self.sizes.len() as u64,
             largest.into(),
-            self.functions.len() as u32,
+            self.functions.len() as u64,
             self.bound,
         ];
-        numbers.extend(self.sizes.iter().copied().map(u32::from));
+        numbers.extend(self.sizes.iter().copied().map(u64::from));
         for function in &self.functions {
-            numbers.push(function.scope.len() as u32);
-            numbers.extend(function.scope.iter().copied().map(u32::from));
-            numbers.extend([function.default, function.tuples.len() as u32]);
+            numbers.push(function.scope.len() as u64);
+            numbers.extend(function.scope.iter().copied().map(u64::from));
+            numbers.extend([function.default.into(), function.tuples.len() as u64]);
             for (values, cost) in &function.tuples {
-                numbers.extend(values.iter().copied().map(u32::from));
-                numbers.push(*cost);
+                numbers.extend(values.iter().copied().map(u64::from));
+                numbers.push((*cost).into());
             }
         }
         let mut words = vec![rng
@@ -125,7 +133,7 @@ fn rare(entry: u32) -> u32 {
 }
 
 /// A number as its digits, and one time in `odd` with zeros in front, a plus, or as a 0 with a minus.
-fn numeral(rng: &mut Rng, number: u32, odd: usize) -> String {
+fn numeral(rng: &mut Rng, number: u64, odd: usize) -> String {
     if !rng.once_in(odd) {
         return number.to_string();
     }

@@ -12,6 +12,7 @@ use chooser::hex::to_hex;
 use chooser::junk::Rng;
 use frontier::lent::Answer;
 use frontier::limits::{MAX_BYTES, TEXT_LEN};
+use frontier::{Problem, Table, FORBIDDEN};
 
 /// What lent bytes hold where they are all the same.
 pub const JUNK: u8 = 0xa5;
@@ -56,7 +57,7 @@ pub fn compare_text(
 ) -> Result<(), String> {
     let compared = compare_forms(problem, lent, call, to_text);
     let back = compared.and_then(|(answer, left)| {
-        match answer.number > 0 || says(&left[..answer.count as usize], problem) {
+        match answer.number > 0 || says_again(&left[..answer.count as usize], problem) {
             true => Ok(()),
             false => Err("the text does not give the problem back".into()),
         }
@@ -92,23 +93,66 @@ pub fn compare_forms<T: Debug + PartialEq>(
     }
 }
 
-/// Whether a text says exactly the records of a problem.
-fn says(text: &[u8], problem: &[u8]) -> bool {
+/// Whether a text that was written of a problem says its records: the same, but that an entry which forbids has
+/// become one above the ceiling.
+fn says_again(text: &[u8], problem: &[u8]) -> bool {
     let mut read = vec![0; MAX_BYTES];
     let answer = from_text(text, &mut read);
-    answer.number == 0 && read[..answer.count as usize] == *problem
+    let written = read_problem(problem).expect("a problem that was written");
+    answer.number == 0 && read[..answer.count as usize] == back(&written.problem).encode()
+}
+
+/// What a problem is after there and back: a forbidden entry has become the upper bound.
+pub fn back(problem: &Problem) -> Problem {
+    let mut problem = problem.clone();
+    let bound = problem.ceilings[0] + 1;
+    let entries = problem.tables.iter_mut().flat_map(|table| &mut table.costs);
+    entries
+        .filter(|entry| **entry == FORBIDDEN)
+        .for_each(|entry| *entry = bound);
+    problem
+}
+
+/// What a choice costs by the records of a problem with one objective; none if it is not allowed.
+pub fn allowed_cost(problem: &Problem, choice: &[u8]) -> Option<u64> {
+    let step = |index: usize, &variable: &u8| {
+        let variable = usize::from(variable);
+        index * usize::from(problem.domains[variable]) + usize::from(choice[variable])
+    };
+    let entry = |table: &Table| table.costs[table.scope.iter().fold(0, step)];
+    let entries: Vec<u32> = problem.tables.iter().map(entry).collect();
+    let cost = entries.iter().map(|&entry| u64::from(entry)).sum();
+    let is_allowed = !entries.contains(&FORBIDDEN) && cost <= u64::from(problem.ceilings[0]);
+    is_allowed.then_some(cost)
+}
+
+/// Now and then gives a problem with one objective a ceiling at the end of its range, and a forbidden entry or
+/// one just below it.
+pub fn draw_ends(rng: &mut Rng, problem: &mut Problem) {
+    if rng.once_in(4) {
+        problem.ceilings[0] = rng.pick(&[0, FORBIDDEN - 2, FORBIDDEN - 1, FORBIDDEN]);
+    }
+    for table in &mut problem.tables {
+        if rng.once_in(4) {
+            let place = rng.below(table.costs.len());
+            table.costs[place] = rng.pick(&[FORBIDDEN, FORBIDDEN, FORBIDDEN - 1]);
+        }
+    }
 }
 
 impl Mixed {
     /// What a text call is asked for: the case's bytes, and those of an accepted problem also with all
-    /// tables in one objective, good and damaged.
+    /// tables in one objective, good, with ceilings and entries at the ends of their range, and damaged.
     pub fn text_inputs(&self) -> Vec<Vec<u8>> {
         let mut inputs = vec![self.bytes.clone()];
         if let Ok(reading) = read_problem(&self.bytes) {
-            let good = in_one_objective(&reading.problem).encode();
-            let mut damaged = good.clone();
-            damage(&mut self.text_rng(), &mut damaged);
-            inputs.extend([good, damaged]);
+            let rng = &mut self.text_rng();
+            let good = in_one_objective(&reading.problem);
+            let mut ends = good.clone();
+            draw_ends(rng, &mut ends);
+            let mut damaged = good.encode();
+            damage(rng, &mut damaged);
+            inputs.extend([good.encode(), ends.encode(), damaged]);
         }
         inputs
     }

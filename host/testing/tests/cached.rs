@@ -9,12 +9,12 @@ use chooser::junk::{junk, junk_buffers, Rng};
 use frontier::lent::{self, Answer, Buffers, CachedAnswer, CachedNumbers};
 use frontier::limits::{LEAST_WORK, MAX_BYTES, MAX_POINTS, MAX_SLOTS, SLOT_BYTES};
 use frontier::refusal::{FULL, STORE, WORK};
-use frontier::{Chooser, Problem, Refusal, Store, Table};
+use frontier::{Chooser, Problem, Refusal, Store, Table, FORBIDDEN};
 use testing::brute;
 use testing::cache::{any_store, compare_cached, put_number, slot, slots_in, Run};
 use testing::cache::{CHOICES_AT, COSTS_AT, COUNT_AT, LENGTH_AT, NEXT_AT};
 use testing::canonical::form_of;
-use testing::examples::{brimful, lone, staircase, ten_problems, three, turned};
+use testing::examples::{brimful, lone, stairs_of, ten_problems, three, turned};
 use testing::guard::End;
 use testing::guarded::{at_both_ends, Guarded};
 use testing::layouts::{layouts, random_layout};
@@ -90,11 +90,11 @@ impl Asked {
 /// Small problems that differ, some of them with no consistent choice and one with more than 64 points.
 fn pool(rng: &mut Rng, size: usize) -> Vec<Problem> {
     let mut forms = BTreeSet::new();
-    let mut problems = vec![staircase([65, 200]), staircase([64, 200])];
+    let mut problems = vec![stairs_of(65), stairs_of(64)];
     while problems.len() < size {
         let mut problem = random_problem(rng, &Shape::small());
         if rng.once_in(6) {
-            problem.ceilings[0] = 0;
+            problem.tables.push(Table::new(0, &[], &[FORBIDDEN]));
         }
         if forms.insert(form_of(&problem)) {
             problems.push(problem);
@@ -173,7 +173,7 @@ fn runs_with_33_slots_are_runs_with_32() {
 
 /// Problems by letters, each with as many points as the letter's place, from 1 on.
 fn lettered(letter: char) -> Problem {
-    staircase([letter as u32 - 'A' as u32 + 1, 200])
+    stairs_of(letter as u32 - 'A' as u32 + 1)
 }
 
 /// Asks for problems by letters, and gives those that were hits.
@@ -211,7 +211,7 @@ fn as_many_problems_as_slots_are_held() {
 /// The room that counts is the caller's, whoever stored the answer, and 15 is told with the hit.
 #[test]
 fn number_15_is_told_by_the_room_of_the_call() {
-    let problem = staircase([40, 200]);
+    let problem = stairs_of(40);
     for first in [0, 1, 39, 40, 41, 64] {
         let mut asked = Asked::new(SLOT_BYTES);
         let due = if first < 40 { FULL } else { 0 };
@@ -227,7 +227,7 @@ fn number_15_is_told_by_the_room_of_the_call() {
 fn an_empty_frontier_is_stored() {
     for room in [0, 3, 64] {
         let mut asked = Asked::new(SLOT_BYTES);
-        let problem = staircase([0, 200]);
+        let problem = stairs_of(0);
         assert_eq!(asked.ask(&problem, room), (0, 0));
         assert_eq!(asked.ask(&problem, 0), (0, 1));
         assert_eq!(asked.ask(&problem, 64), (0, 1));
@@ -238,7 +238,7 @@ fn an_empty_frontier_is_stored() {
 #[test]
 fn more_than_64_points_are_not_stored_and_cost_no_slot() {
     let mut asked = Asked::new(SLOT_BYTES);
-    let (held, long) = (staircase([64, 200]), staircase([65, 200]));
+    let (held, long) = (stairs_of(64), stairs_of(65));
     for room in [0, 63, 64, 70] {
         assert_eq!(asked.ask(&long, room), (FULL, 0));
     }
@@ -315,7 +315,7 @@ fn every_layout_is_a_hit() {
 /// Problems of 60,000 bytes fill the place of the form, and 64 points of four costs and 24 choices those of the answer.
 #[test]
 fn the_largest_problems_and_answers_fit_a_slot() {
-    let mut wide = staircase([64, 200]);
+    let mut wide = stairs_of(64);
     wide.ceilings.extend([1, 1]);
     wide.domains.resize(24, 1);
     let mut asked = Asked::new(2 * SLOT_BYTES);

@@ -3,10 +3,10 @@
 
 use frontier::lent;
 use frontier::lent::{Answer, Buffers, CutCall, Least, PointRecord, SolveCall};
-use frontier::limits::{LEAST_WORK, MAX_BYTES};
-use frontier::{Problem, Refusal, Table};
+use frontier::limits::{LEAST_WORK, MAX_BYTES, MAX_POINTS};
+use frontier::{Problem, Refusal, Table, FORBIDDEN};
 use testing::brute::{bound_prefix, list_points, solve_cut, solve_problem};
-use testing::examples::{bent, brimful, colours, lone, pair, staircase, three};
+use testing::examples::{bent, brimful, colours, lone, pair, stairs_of, three};
 use testing::owned::{cut_by, frontier_by, frontier_of, list_text_by, Cut, Listed};
 
 type BoundCall = fn(&[u8], &[u8]) -> Least;
@@ -35,6 +35,15 @@ fn assert_points(problem: &Problem, expected: &[(&[u32], &[u8])]) {
     let bytes = problem.encode();
     for call in SOLVE_CALLS {
         assert_eq!(frontier_by(call, &bytes), Ok(listed(expected)));
+    }
+    for call in LIST_CALLS {
+        let mut points = [junk_point(); MAX_POINTS];
+        let answer = call(&bytes, &mut points, &mut [7; LEAST_WORK]);
+        assert_eq!(answer, Answer::accepted(expected.len()));
+        for (point, (costs, choice)) in points.iter().zip(expected) {
+            assert_eq!(point.costs[..costs.len()], **costs);
+            assert_eq!(point.choice[..choice.len()], **choice);
+        }
     }
     assert_eq!(lent::bound_prefix(&bytes, &[]).number, 0);
 }
@@ -91,6 +100,15 @@ fn cut_of(bytes: &[u8], sides: &[u8]) -> Result<Cut, Refusal> {
     library
 }
 
+/// One variable of one value and these charges of arity 0, under one ceiling.
+fn charged(charges: &[u32], ceiling: u32) -> Problem {
+    let charge = |&charge: &u32| Table::new(0, &[], &[charge]);
+    Problem {
+        tables: charges.iter().map(charge).collect(),
+        ..lone(1, ceiling)
+    }
+}
+
 /// A problem of two objectives with this table behind an arity-0 one.
 fn with_table(domains: &[u8], table: Table) -> Problem {
     Problem {
@@ -121,32 +139,111 @@ fn colours_prints_as_the_reference_says() {
 fn colours_under_other_ceilings() {
     let one: (&[u32], &[u8]) = (&[1, 4], &[0, 0, 1]);
     let both = [one, (&[10, 0], &[0, 0, 0])];
-    assert_points(&colours([10, 100]), &[one]);
+    assert_points(&colours([9, 100]), &[one]);
+    assert_points(&colours([10, 100]), &both);
     assert_points(&colours([11, 100]), &both);
-    assert_points(&colours([2, 4]), &[]);
+    assert_points(&colours([2, 3]), &[]);
+    assert_points(&colours([2, 4]), &[one]);
     assert_points(&colours([2, 5]), &[one]);
+    assert_points(&colours([0, 100]), &[]);
 }
 
 #[test]
 fn lone_variables() {
     assert_points(&lone(1, 1), &[(&[0], &[0])]);
-    assert_points(&lone(1, 0), &[]);
+    assert_points(&lone(1, 0), &[(&[0], &[0])]);
     assert_points(&lone(8, 1), &[(&[0], &[0])]);
+    assert_points(&lone(8, FORBIDDEN), &[(&[0], &[0])]);
 }
 
 #[test]
 fn room_0_suffices_for_no_point_and_for_no_more() {
-    assert_eq!(solve_within(&lone(1, 0), 0, 0), Answer::accepted(0));
+    let none = charged(&[1], 0);
+    assert_eq!(solve_within(&none, 0, 0), Answer::accepted(0));
+    assert_eq!(solve_within(&lone(1, 0), 0, 0), refusal(15, 0).into());
     assert_eq!(solve_within(&lone(1, 1), 0, 1), refusal(15, 0).into());
     assert_eq!(solve_within(&lone(1, 1), 1, 0), refusal(15, 0).into());
     assert_eq!(solve_within(&lone(1, 1), 1, 1), Answer::accepted(1));
     for list in LIST_CALLS {
         let mut work = vec![5; LEAST_WORK];
-        let none = list(&lone(1, 0).encode(), &mut [], &mut work);
-        assert_eq!(none, Answer::accepted(0));
-        let one = list(&lone(1, 1).encode(), &mut [], &mut work);
-        assert_eq!(one, refusal(15, 0).into());
+        let answer = list(&none.encode(), &mut [], &mut work);
+        assert_eq!(answer, Answer::accepted(0));
+        let answer = list(&lone(1, 0).encode(), &mut [], &mut work);
+        assert_eq!(answer, refusal(15, 0).into());
     }
+}
+
+#[test]
+fn a_sum_of_4_294_967_295_is_allowed_and_an_entry_of_it_is_not() {
+    const F: u32 = FORBIDDEN;
+    let point: (&[u32], &[u8]) = (&[F], &[0]);
+    let cases: [(&[u32], u32, bool); 9] = [
+        (&[F], F, false),
+        (&[F, 0], F, false),
+        (&[F - 1, 1], F, true),
+        (&[0x8000_0000, 0x7fff_ffff], F, true),
+        (&[F - 1, 1], F - 1, false),
+        (&[F - 1, 2], F, false),
+        (&[F - 1, F - 1], F, false),
+        (&[F], F - 1, false),
+        (&[F], 0, false),
+    ];
+    for (charges, ceiling, listed) in cases {
+        assert_points(&charged(charges, ceiling), &[point][..usize::from(listed)]);
+    }
+    assert_points(&charged(&[F - 1], F - 1), &[(&[F - 1], &[0])]);
+}
+
+/// Three with one forbidden entry more, over any of its variables or none, of any objective. What else it charges
+/// is far below the ceilings.
+#[test]
+fn a_forbidden_entry_leaves_its_combination_out_under_every_ceiling() {
+    const F: u32 = FORBIDDEN;
+    let points: [(&[u32], &[u8]); 3] = [(&[0, 2], &[0]), (&[1, 1], &[1]), (&[2, 0], &[2])];
+    for ceiling in [2, 3, F - 1, F] {
+        for objective in [0, 1] {
+            let mut problem = three([ceiling; 2]);
+            problem.tables.push(Table::new(objective, &[0], &[0, F, 0]));
+            assert_points(&problem, &[points[0], points[2]]);
+            problem.tables.push(Table::new(objective, &[], &[F]));
+            assert_points(&problem, &[]);
+        }
+    }
+    // The value that beats the others is left out, and one that it beats is listed.
+    let mut problem = lone(2, F);
+    problem.tables = vec![Table::new(0, &[0], &[F, F - 1])];
+    assert_points(&problem, &[(&[F - 1], &[1])]);
+}
+
+/// Pair with forbidden entries in the halves, and sums of exactly 4,294,967,295 over both.
+#[test]
+fn halves_leave_forbidden_entries_out() {
+    const F: u32 = FORBIDDEN;
+    let points: [(&[u32], &[u8]); 3] = [(&[0, 2], &[0, 0]), (&[1, 1], &[0, 1]), (&[2, 0], &[1, 1])];
+    for ceiling in [2, F - 1, F] {
+        for objective in [0, 1] {
+            let mut problem = pair([ceiling; 2]);
+            problem.tables.push(Table::new(objective, &[1], &[F, 0]));
+            let cut = cut_of(&problem.encode(), &[0, 1]);
+            assert_eq!(cut, Ok((listed(&points[1..]), [2, 1])));
+            let exchanged = cut_of(&problem.encode(), &[1, 0]);
+            assert_eq!(exchanged, Ok((listed(&points[1..]), [1, 2])));
+            problem.tables.push(Table::new(objective, &[], &[F]));
+            let nothing = cut_of(&problem.encode(), &[1, 1]);
+            assert_eq!(nothing, Ok((vec![], [0, 2])));
+        }
+    }
+    let mut sums = pair([F, F]);
+    sums.tables = vec![
+        Table::new(0, &[0], &[F - 1, F]),
+        Table::new(0, &[1], &[2, 1]),
+    ];
+    let sum: (&[u32], &[u8]) = (&[F, 0], &[0, 1]);
+    assert_points(&sums, &[sum]);
+    assert_eq!(
+        cut_of(&sums.encode(), &[0, 1]),
+        Ok((listed(&[sum]), [1, 1]))
+    );
 }
 
 #[test]
@@ -156,24 +253,26 @@ fn three_and_its_room() {
     assert_eq!(solve_within(&three([3, 3]), 5, 9), refusal(15, 0).into());
     assert_eq!(solve_within(&three([3, 3]), 9, 2), refusal(15, 0).into());
     assert_eq!(solve_within(&three([3, 3]), 6, 3), Answer::accepted(3));
-    assert_points(&three([2, 3]), &points[..2]);
-    assert_eq!(solve_within(&three([2, 3]), 4, 2), Answer::accepted(2));
+    assert_points(&three([2, 3]), &points);
+    assert_eq!(solve_within(&three([2, 3]), 4, 2), refusal(15, 0).into());
+    assert_points(&three([1, 3]), &points[..2]);
+    assert_eq!(solve_within(&three([1, 3]), 4, 2), Answer::accepted(2));
 }
 
 #[test]
 fn room_is_at_most_64() {
     assert_eq!(
-        solve_within(&staircase([64, 200]), 9999, 9999),
+        solve_within(&stairs_of(64), 9999, 9999),
         Answer::accepted(64)
     );
     assert_eq!(
-        solve_within(&staircase([65, 200]), 9999, 9999),
+        solve_within(&stairs_of(65), 9999, 9999),
         refusal(15, 0).into()
     );
     for list in LIST_CALLS {
         let mut points = [junk_point(); 100];
         let mut work = vec![5; LEAST_WORK];
-        let bytes = staircase([65, 200]).encode();
+        let bytes = stairs_of(65).encode();
         let full = list(&bytes, &mut points, &mut work);
         assert_eq!(full, refusal(15, 0).into());
         assert!(points.iter().all(|point| *point == junk_point()));
@@ -189,7 +288,9 @@ fn pair_by_halves() {
     // Now the first pair that gives 1 1 has the later choice.
     let exchanged = cut_of(&pair([9, 9]).encode(), &[1, 0]);
     assert_eq!(exchanged, Ok((listed(&points), [2, 2])));
-    let narrow = cut_of(&pair([2, 2]).encode(), &[0, 1]);
+    let equal = cut_of(&pair([2, 2]).encode(), &[0, 1]);
+    assert_eq!(equal, Ok((listed(&points), [2, 2])));
+    let narrow = cut_of(&pair([1, 1]).encode(), &[0, 1]);
     assert_eq!(narrow, Ok((listed(&points[1..2]), [2, 2])));
 }
 
@@ -213,21 +314,24 @@ fn a_half_without_variables() {
     let whole = frontier_of(&bytes).unwrap();
     assert_eq!(cut_of(&bytes, &[0, 0]), Ok((whole.clone(), [3, 1])));
     assert_eq!(cut_of(&bytes, &[1, 1]), Ok((whole, [1, 3])));
-    // Under a ceiling of 0 even the empty choice is not consistent.
-    assert_eq!(
-        cut_of(&pair([9, 0]).encode(), &[0, 0]),
-        Ok((vec![], [0, 0]))
-    );
+    // The empty choice costs 0, which a ceiling of 0 allows.
+    let last = listed(&[(&[2, 0], &[1, 1])]);
+    let tight = pair([9, 0]).encode();
+    assert_eq!(cut_of(&tight, &[0, 0]), Ok((last.clone(), [1, 1])));
+    assert_eq!(cut_of(&tight, &[1, 1]), Ok((last, [1, 1])));
+    let none = pair([0, 0]).encode();
+    assert_eq!(cut_of(&none, &[0, 0]), Ok((vec![], [0, 1])));
+    assert_eq!(cut_of(&none, &[1, 1]), Ok((vec![], [1, 0])));
 }
 
 #[test]
 fn a_half_above_64_points_is_refused() {
-    // A charge of 60 on the fourth variable leaves few sums under the ceiling.
-    let mut problem = staircase([64, 200]);
+    // A charge of 60 on the fourth variable leaves few sums within the ceiling.
+    let mut problem = stairs_of(64);
     problem.tables.push(Table::new(0, &[3], &[60]));
     let (list, sizes) = cut_of(&problem.encode(), &[0, 0, 0, 1]).unwrap();
     assert_eq!((list.len(), sizes), (4, [64, 1]));
-    problem.ceilings[0] = 65;
+    problem.ceilings[0] = 64;
     assert_eq!(frontier_of(&problem.encode()).unwrap().len(), 5);
     for sides in [[0, 0, 0, 1], [1, 1, 1, 0]] {
         assert_eq!(cut_of(&problem.encode(), &sides), Err(refusal(15, 0)));

@@ -62,7 +62,7 @@ fn traits_of(case: &Case, sides: &[u8]) -> Vec<(&'static str, bool)> {
         ("half 1 empty", empty(1)),
         ("several points in both", sizes[0] > 1 && sizes[1] > 1),
         ("fewer points than pairs", list.len() < pairs),
-        ("no sum under the ceilings", list.is_empty() && pairs > 0),
+        ("no sum within the ceilings", list.is_empty() && pairs > 0),
         ("sizes moved by an exchange", moved),
         ("many points", list.len() > 8),
         ("many variables", number.is_none() && sides.len() > 12),

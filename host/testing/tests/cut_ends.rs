@@ -6,7 +6,7 @@ use frontier::limits::{LEAST_WORK, MAX_BYTES};
 use frontier::refusal::{CUT_SHORT, FULL, SIDES, WORK};
 use frontier::Refusal;
 use testing::brute::solve_cut;
-use testing::examples::{colours, pair, pair_with_constant, staircase};
+use testing::examples::{colours, pair, pair_with_constant, stairs_of};
 use testing::fence::{assert_fences, fenced, inside};
 use testing::mixed::compare_cut;
 
@@ -37,7 +37,6 @@ type Lent = (Vec<u8>, Vec<u8>, Buffers);
 fn different_ends() -> Vec<Lent> {
     let good = pair([9, 9]).encode();
     let leftover = [&good[..], &[0]].concat();
-    let stairs = |first: u32| staircase([first, 200]).encode();
     let mut rng = Rng::new(1);
     let mut lent = |bytes: &[u8], sides: &[u8], points: usize, work: usize| {
         let buffers = junk(&mut rng, 2 * points, sides.len() * points, work);
@@ -52,12 +51,12 @@ fn different_ends() -> Vec<Lent> {
         lent(&good, &[0, 2], 3, LEAST_WORK),
         lent(&good[..good.len() - 1], &[0, 1], 3, LEAST_WORK),
         lent(&leftover, &[0, 1], 3, LEAST_WORK),
-        lent(&pair([9, 0]).encode(), &[0, 1], 3, LEAST_WORK),
+        lent(&pair([0, 0]).encode(), &[0, 1], 3, LEAST_WORK),
         lent(&colours([100, 100]).encode(), &[0, 0, 1], 3, LEAST_WORK),
         lent(&[], &[], 0, 0),
         lent(&[0; MAX_BYTES + 1], &[0], 1, LEAST_WORK),
-        lent(&stairs(64), &[0, 1, 0, 1], 70, LEAST_WORK),
-        lent(&stairs(65), &[0, 0, 0, 1], 70, LEAST_WORK),
+        lent(&stairs_of(64).encode(), &[0, 1, 0, 1], 70, LEAST_WORK),
+        lent(&stairs_of(65).encode(), &[0, 0, 0, 1], 70, LEAST_WORK),
     ]
 }
 

@@ -7,7 +7,7 @@ use frontier::lent::Answer;
 use frontier::limits::{LEAST_WORK, MAX_OBJECTIVES, MAX_POINTS, MAX_VARIABLES};
 use frontier::refusal::{FULL, LINKED};
 use frontier::{Problem, Refusal, Table, FORBIDDEN};
-use testing::examples::{pair_with_constant, staircase, ten_problems};
+use testing::examples::{pair_with_constant, stairs_of, ten_problems};
 use testing::mixed::compare_cut;
 use testing::owned::{cut_by, frontier_by, Cut, Listed};
 
@@ -62,11 +62,11 @@ fn every_cut_of_ten_problems() {
 
 #[test]
 fn unequal_halves() {
-    // Below 64 only variables 1 and 2 have a choice left, of eight values each.
+    // Up to 63 only variables 1 and 2 have a choice left, of eight values each.
     for sides in all_sides(4) {
         let chosen = |side: u8| sides[1..3].iter().filter(|&&s| s == side).count();
         let sizes = [0, 1].map(|side| 8_u32.pow(chosen(side) as u32));
-        let cut = cut_sizes(&staircase([64, 200]), &sides);
+        let cut = cut_sizes(&stairs_of(64), &sides);
         assert_eq!(cut, Ok((64, sizes)), "sides {sides:?}");
     }
 }
@@ -102,25 +102,25 @@ fn stepped(ceilings: [u32; 2]) -> Problem {
 #[test]
 fn an_exchange_moves_the_arity_0_record() {
     let list = vec![Listed::new(&[1, 3], &[0, 0]), Listed::new(&[2, 2], &[0, 1])];
-    let problem = stepped([3, 9]);
+    let problem = stepped([2, 9]);
     assert_eq!(cut(&problem, &[0, 1]), Ok((list.clone(), [2, 2])));
     assert_eq!(cut(&problem, &[1, 0]), Ok((list, [2, 3])));
 }
 
 #[test]
 fn an_empty_half_0_has_the_arity_0_record() {
-    let tight = pair_with_constant([2, 9]);
+    let tight = pair_with_constant([1, 9]);
     assert_eq!(cut_sizes(&tight, &[0, 0]), Ok((1, [1, 1])));
     assert_eq!(cut_sizes(&tight, &[1, 1]), Ok((1, [1, 2])));
-    // Now the charge alone is not below its ceiling.
-    let tighter = pair_with_constant([1, 9]);
+    // Now the charge alone is above its ceiling.
+    let tighter = pair_with_constant([0, 9]);
     for sides in all_sides(2) {
         assert_eq!(cut_sizes(&tighter, &sides), Ok((0, [0, 1])), "{sides:?}");
     }
 }
 
 /// A half may have 64 points and no more, also where a charge on the other half leaves so few sums
-/// under the ceiling that the plain call lists them.
+/// within the ceiling that the plain call lists them.
 #[test]
 fn halves_around_64_points() {
     for (points, charge) in [
@@ -132,7 +132,7 @@ fn halves_around_64_points() {
         (65, 60),
         (100, 60),
     ] {
-        let mut problem = staircase([points, 200]);
+        let mut problem = stairs_of(points);
         problem.tables.push(Table::new(0, &[3], &[charge]));
         let list = (points - charge) as usize;
         if list <= MAX_POINTS {
@@ -167,7 +167,7 @@ fn two_staircases(ceilings: [u32; 2]) -> Problem {
 #[test]
 fn the_sums_of_4096_pairs() {
     for (more, also) in [(0, 0), (1, 0), (31, 32), (0, 63), (32, 32), (1, 63)] {
-        let problem = two_staircases([64 + more, 64 + also]);
+        let problem = two_staircases([63 + more, 63 + also]);
         let mut wide = problem.clone();
         wide.ceilings.resize(MAX_OBJECTIVES, 1);
         wide.domains.resize(MAX_VARIABLES, 1);
@@ -183,7 +183,7 @@ fn the_sums_of_4096_pairs() {
         }
     }
     for sides in all_sides(4) {
-        let (list, _) = cut(&two_staircases([64, 64]), &sides).expect("one point");
+        let (list, _) = cut(&two_staircases([63, 63]), &sides).expect("one point");
         assert_eq!(list, [Listed::new(&[63, 63], &[0, 7, 0, 7])]);
     }
 }
@@ -236,10 +236,13 @@ fn charged(charges: [u32; 2], ceiling: u32) -> Problem {
 fn sums_at_their_ceiling_and_above_32_bits() {
     const HALF: u32 = 0x8000_0000;
     for (charges, ceiling, points) in [
-        ([1, 1], 3, 1),
-        ([1, 1], 2, 0),
-        ([HALF - 1, HALF - 1], FORBIDDEN, 1),
-        ([HALF - 1, HALF], FORBIDDEN, 0),
+        ([0, 0], 0, 1),
+        ([1, 1], 2, 1),
+        ([1, 1], 1, 0),
+        ([HALF - 1, HALF - 1], FORBIDDEN - 1, 1),
+        ([HALF - 1, HALF], FORBIDDEN - 1, 0),
+        ([HALF - 1, HALF], FORBIDDEN, 1),
+        ([FORBIDDEN - 1, 1], FORBIDDEN, 1),
         ([HALF, HALF], FORBIDDEN, 0),
         ([FORBIDDEN - 1, FORBIDDEN - 1], FORBIDDEN, 0),
     ] {

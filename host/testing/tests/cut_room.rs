@@ -6,7 +6,7 @@ use frontier::lent;
 use frontier::lent::{Answer, Buffers, Halves};
 use frontier::limits::{LEAST_WORK, MAX_POINTS};
 use frontier::{Problem, Refusal};
-use testing::examples::{bent, pair, pair_with_constant, staircase};
+use testing::examples::{bent, pair, pair_with_constant, stairs_of};
 use testing::mixed::compare_cut;
 use testing::random::{parted_problem, Shape};
 
@@ -33,15 +33,16 @@ fn expected_halves(points: usize, [first, second]: [u32; 2], room: usize) -> Hal
 /// The side list that parts the steps of a staircase: those of 64 and of 1 from those of 8.
 const STEPS: [u8; 4] = [0, 1, 0, 1];
 
-/// The half sizes of a staircase of so many points, at most 64.
+/// The half sizes of a staircase of so many points, at most 64. For none each half has a point, and their sum is
+/// above a ceiling.
 fn step_sizes(points: usize) -> [u32; 2] {
-    [points.min(8) as u32, points.div_ceil(8) as u32]
+    [points.clamp(1, 8) as u32, points.max(1).div_ceil(8) as u32]
 }
 
 /// Asserts the answer for a staircase of so many points, with buffers that have this room exactly,
 /// that almost have one more, or of which one has more.
 fn assert_room(points: usize, room: usize) {
-    let bytes = staircase([points as u32, 200]).encode();
+    let bytes = stairs_of(points as u32).encode();
     let mut rng = Rng::new(room as u64);
     let (costs, choices) = (2 * room, 4 * room);
     for (costs, choices) in [
@@ -76,7 +77,7 @@ fn every_room_for_64_points() {
 #[test]
 fn room_is_never_above_64() {
     for (points, length) in [(64, 256), (64, 9_999), (65, 260), (65, 9_999), (128, 9_999)] {
-        let bytes = staircase([points as u32, 200]).encode();
+        let bytes = stairs_of(points as u32).encode();
         let lent = junk(&mut Rng::new(2), length, length, LEAST_WORK);
         let expected = expected_halves(points, [8, 8], length);
         assert_eq!(checked_cut(&bytes, &STEPS, &lent), expected);
@@ -101,11 +102,12 @@ fn assert_every_length(problem: &Problem, points: usize, sizes: [u32; 2]) {
 #[test]
 fn every_length_around_the_need() {
     assert_every_length(&pair([9, 9]), 3, [2, 2]);
-    assert_every_length(&pair([2, 2]), 1, [2, 2]);
+    assert_every_length(&pair([2, 2]), 3, [2, 2]);
+    assert_every_length(&pair([1, 1]), 1, [2, 2]);
     assert_every_length(&bent([9, 9]), 5, [3, 3]);
-    assert_every_length(&pair([9, 0]), 0, [0, 0]);
-    assert_every_length(&pair([1, 1]), 0, [0, 0]);
-    assert_every_length(&pair_with_constant([2, 2]), 0, [1, 2]);
+    assert_every_length(&pair([9, 0]), 1, [1, 1]);
+    assert_every_length(&pair([0, 0]), 0, [0, 0]);
+    assert_every_length(&pair_with_constant([1, 1]), 0, [1, 2]);
 }
 
 #[test]
@@ -144,7 +146,7 @@ fn filled(byte: u8) -> Buffers {
 #[test]
 fn other_junk_gives_the_same_bytes() {
     let mut rng = Rng::new(6);
-    let stairs = [64, 65].map(|points| (staircase([points, 200]), STEPS.to_vec()));
+    let stairs = [64, 65].map(|points| (stairs_of(points), STEPS.to_vec()));
     let random = (0..3_000).map(|_| parted_problem(&mut rng, &Shape::small()));
     let cuts: Vec<(Problem, Vec<u8>)> = stairs.into_iter().chain(random).collect();
     for (i, (problem, sides)) in cuts.iter().enumerate() {

@@ -6,7 +6,8 @@ use std::ops::Range;
 use chooser::junk::{junk, Rng};
 use frontier::lent::{solve_problem, Answer, SolveCall};
 use frontier::limits::{LEAST_WORK, MAX_OBJECTIVES, MAX_POINTS, MAX_VARIABLES};
-use frontier::measure::{solve_by_passes, solve_measured, Form};
+use frontier::measure::{solve_by_passes, solve_measured, Form, Measures};
+use frontier::{Problem, Table, FORBIDDEN};
 use testing::checker::case::ask_seeds;
 use testing::checker::law::agreement_law;
 use testing::random::{random_problem, Shape};
@@ -66,6 +67,55 @@ fn the_measuring_call_tells_what_the_search_took() {
         let (_, refused) = solve_measured(&bytes[1..], costs, choices, work);
         assert_eq!(refused.numbers(), [0; 5], "{name}");
     });
+}
+
+/// Twelve variables of three values and two objectives, with this ceiling for both. Objective 0 has tables over pairs
+/// in which two of five entries forbid and the others cost nothing, objective 1 has what each value costs.
+fn forbidding_problem(rng: &mut Rng, ceiling: u32) -> Problem {
+    let (variables, values) = (12, 3);
+    let mut tables = Vec::new();
+    for u in 0..variables {
+        tables.push(Table {
+            objective: 1,
+            scope: vec![u],
+            costs: (0..values).map(|_| rng.below(20) as u32).collect(),
+        });
+        for v in u + 1..variables {
+            if !rng.once_in(3) {
+                continue;
+            }
+            tables.push(Table {
+                objective: 0,
+                scope: vec![u, v],
+                costs: (0..values * values)
+                    .map(|_| rng.pick(&[FORBIDDEN, FORBIDDEN, 0, 0, 0]))
+                    .collect(),
+            });
+        }
+    }
+    Problem {
+        ceilings: vec![ceiling; 2],
+        domains: vec![values; usize::from(variables)],
+        tables,
+    }
+}
+
+/// No sum comes near the greatest ceiling, so that it leaves out what the next one does. The second form counts in
+/// 32 bits: if it told forbidden entries less well there, it would look at more partial choices.
+#[test]
+fn forbidden_entries_are_seen_as_well_under_the_greatest_ceiling() {
+    let measured = |seed: u64, ceiling: u32| -> (Answer, Measures) {
+        let bytes = forbidding_problem(&mut Rng::new(seed), ceiling).encode();
+        let mut lent = junk(&mut Rng::new(7), 256, 1_536, LEAST_WORK);
+        solve_measured(&bytes, &mut lent.costs, &mut lent.choices, &mut lent.work)
+    };
+    for seed in 0..50 {
+        assert_eq!(
+            measured(seed, FORBIDDEN),
+            measured(seed, FORBIDDEN - 1),
+            "seed {seed}"
+        );
+    }
 }
 
 #[test]

@@ -4,7 +4,7 @@
 use std::collections::BTreeMap;
 
 use frontier::lent;
-use frontier::FORBIDDEN;
+use frontier::{Table, FORBIDDEN};
 use testing::brute::{bound_prefix, list_points, solve_cut, solve_problem};
 use testing::checker::case::{ask, Case};
 use testing::checker::law::{
@@ -12,6 +12,7 @@ use testing::checker::law::{
     sides_refusal, whole_law, Bounder, Cutter, Solver,
 };
 use testing::checker::mismerged::{each_mischosen_cutter, each_mismerged_cutter};
+use testing::checker::misread::{each_misreading_cutter, each_misreading_solver};
 use testing::checker::mutants::{
     each_faulty_bounder, each_faulty_lister, each_misread_bounder, each_missided_cutter,
     each_missized_cutter, each_untidy_solver, each_wrong_solver, wrong_lists, WRONG_LISTS,
@@ -140,6 +141,21 @@ fn traits_of(case: &mut Case) -> Vec<String> {
         format!("points {}", list.len().min(6)),
         format!("forbids {forbids}"),
     ];
+    let costs = list.iter().flat_map(|point| &point.costs);
+    let mut pairs = list
+        .iter()
+        .flat_map(|point| point.costs.iter().zip(&problem.ceilings));
+    let no_scope = |t: &&Table| t.scope.is_empty() && t.costs[0] == FORBIDDEN;
+    let present = [
+        ("ceiling met", pairs.any(|(cost, ceiling)| cost == ceiling)),
+        ("greatest cost", costs.clone().any(|&cost| cost == u32::MAX)),
+        (
+            "arity 0 forbids",
+            problem.tables.iter().any(|t| no_scope(&t)),
+        ),
+    ];
+    let present = present.into_iter().filter(|&(_, present)| present);
+    traits.extend(present.map(|(name, _)| name.to_string()));
     traits.extend(
         problem
             .tables
@@ -170,6 +186,7 @@ fn the_random_problems_are_varied() {
     let mut wanted: Vec<String> = WRONG_LISTS.map(String::from).to_vec();
     wanted.extend(["cut", "forbids true", "forbids false"].map(String::from));
     wanted.extend(["rising true", "rising false"].map(String::from));
+    wanted.extend(["ceiling met", "greatest cost", "arity 0 forbids"].map(String::from));
     wanted.extend((1..=4).flat_map(|i| [format!("p {i}"), format!("d {i}")]));
     wanted.extend((1..=6).flat_map(|i| [format!("n {i}"), format!("points {i}")]));
     wanted.extend((0..=3).map(|i| format!("arity {i}")));
@@ -233,12 +250,14 @@ fn assert_caught(name: &str, law: impl Fn(&mut Case) -> Verdict) {
 #[test]
 fn faulty_flat_calls_are_caught() {
     each_wrong_solver(|name, call| assert_caught(name, |case| flat_law(case, call)));
+    each_misreading_solver(|name, call| assert_caught(name, |case| flat_law(case, call)));
     each_untidy_solver(|name, call| assert_caught(name, |case| flat_law(case, call)));
 }
 
 #[test]
 fn faulty_flat_calls_are_caught_by_the_brute_force() {
     each_wrong_solver(|name, call| assert_caught(name, |case| agreement_law(case, call)));
+    each_misreading_solver(|name, call| assert_caught(name, |case| agreement_law(case, call)));
     each_untidy_solver(|name, call| assert_caught(name, |case| agreement_law(case, call)));
 }
 
@@ -249,6 +268,7 @@ fn faulty_flat_calls_are_caught_by_mixed_cases() {
         assert!(differs, "{name} is not caught");
     };
     each_wrong_solver(assert_differs);
+    each_misreading_solver(assert_differs);
     each_untidy_solver(assert_differs);
 }
 
@@ -289,6 +309,7 @@ fn faulty_cut_calls_are_caught() {
     each_missized_cutter(assert_cut_caught);
     each_missided_cutter(assert_cut_caught);
     each_mismerged_cutter(assert_cut_caught);
+    each_misreading_cutter(assert_cut_caught);
 }
 
 #[test]
@@ -320,4 +341,5 @@ fn faulty_cut_calls_are_caught_by_mixed_cases() {
     };
     each_missized_cutter(assert_differs);
     each_missided_cutter(assert_differs);
+    each_misreading_cutter(assert_differs);
 }

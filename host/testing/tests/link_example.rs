@@ -7,7 +7,7 @@ use std::process::{Command, Output};
 
 use testing::c_compiler::{write_later_header, C99};
 use testing::chooser_run::folder;
-use testing::examples::{colours, objects, staircase};
+use testing::examples::{colours, objects, stairs_of};
 use testing::owned::list_text;
 use testing::places::root;
 
@@ -57,7 +57,7 @@ fn run(program: &Path, file: &Path) -> Output {
 fn assert_lists(program: &Path, name: &str) {
     let firmware = fs::read(root().join("examples/firmware.bin")).expect("the example");
     let [first, second] = [colours([100, 100]), objects([13, 100, 100])].map(|p| p.encode());
-    for bytes in [firmware, first, second, staircase([64, 200]).encode()] {
+    for bytes in [firmware, first, second, stairs_of(64).encode()] {
         let file = scratch(&format!("{name}.bin"));
         fs::write(&file, &bytes).expect("a file can be written");
         let output = run(program, &file);
@@ -69,7 +69,7 @@ fn assert_lists(program: &Path, name: &str) {
     for (bytes, complaint) in [
         (vec![], "refused with number 2"),
         (vec![0; 60_001], "refused with number 1"),
-        (staircase([65, 200]).encode(), "refused with number 15"),
+        (stairs_of(65).encode(), "refused with number 15"),
     ] {
         let file = scratch(&format!("{name}.bin"));
         fs::write(&file, &bytes).expect("a file can be written");

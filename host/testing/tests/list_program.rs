@@ -7,8 +7,9 @@ use std::thread;
 
 use chooser::junk::Rng;
 use frontier::limits::MAX_BYTES;
+use frontier::Table;
 use testing::examples::{
-    brimful, colours, every_arity, lone, objects, pair, staircase, ten_problems, three,
+    brimful, colours, every_arity, lone, objects, pair, stairs_of, ten_problems, three,
 };
 use testing::owned::list_text;
 use testing::places::root;
@@ -72,18 +73,25 @@ fn refusals_have_number_and_place() {
     assert_prints(&bytes[..154], "refused 2 at 133\n");
     assert_prints(&[&bytes[..], &[0]].concat(), "refused 11 at 155\n");
     assert_prints(b"XX", "refused 3 at 0\n");
-    assert_prints(&staircase([65, 200]).encode(), "refused 15 at 0\n");
+    assert_prints(&stairs_of(65).encode(), "refused 15 at 0\n");
 }
 
 #[test]
 fn no_point_is_an_answer() {
-    assert_prints(&lone(1, 0).encode(), "points 0 objectives 1 variables 1\n");
     let text = "points 0 objectives 2 variables 3\n";
-    assert_prints(&colours([2, 4]).encode(), text);
+    assert_prints(&colours([2, 3]).encode(), text);
     assert_prints(
         &every_arity().encode(),
         "points 0 objectives 4 variables 4\n",
     );
+}
+
+#[test]
+fn a_cost_may_be_its_ceiling() {
+    let text = "points 1 objectives 1 variables 1\n0 : 0\n";
+    assert_prints(&lone(1, 0).encode(), text);
+    let text = "points 1 objectives 2 variables 3\n1 4 : 0 0 1\n";
+    assert_prints(&colours([2, 4]).encode(), text);
 }
 
 #[test]
@@ -105,9 +113,9 @@ fn around_sixty_thousand_bytes() {
 
 #[test]
 fn there_is_room_for_64_points() {
-    let text = list_text(&staircase([64, 200]).encode());
+    let text = list_text(&stairs_of(64).encode());
     assert_eq!(text.lines().count(), 65);
-    assert_lists(&staircase([64, 200]).encode());
+    assert_lists(&stairs_of(64).encode());
 }
 
 #[test]
@@ -115,8 +123,9 @@ fn the_greatest_costs_have_all_their_digits() {
     let mut problem = three([u32::MAX, u32::MAX]);
     problem.tables[0].costs = vec![0, 1_000_000_000, u32::MAX - 1];
     problem.tables[1].costs = vec![u32::MAX - 1, 10, 9];
+    problem.tables.push(Table::new(0, &[], &[1]));
     let text = "points 3 objectives 2 variables 1\n\
-                0 4294967294 : 0\n1000000000 10 : 1\n4294967294 9 : 2\n";
+                1 4294967294 : 0\n1000000001 10 : 1\n4294967295 9 : 2\n";
     assert_prints(&problem.encode(), text);
 }
 

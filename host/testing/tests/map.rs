@@ -22,7 +22,7 @@ const DEMANDS: Table = Table {
 
 const REQUESTS: Table = Table {
     head: "| Request |",
-    rows: 3,
+    rows: 4,
     columns: [(2, ""), (3, ""), (4, "")],
 };
 

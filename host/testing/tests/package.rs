@@ -7,7 +7,7 @@ use std::ops::Range;
 use frontier::limits::{LEAST_WORK, MAX_POINTS};
 use frontier::{Chooser, Frontier, Problem, Refusal};
 use testing::brute::bound_prefix;
-use testing::examples::{brimful, staircase, ten_problems};
+use testing::examples::{brimful, stairs_of, ten_problems};
 use testing::mixed::Mixed;
 use testing::owned::{cut_of, frontier_of, Listed};
 use testing::reading::read_problem;
@@ -89,7 +89,7 @@ fn room_is_as_asked_for() {
             assert_eq!(chooser.solve(&bytes).map(owned), Ok(due.clone()));
         }
     }
-    let long = staircase([65, 200]).encode();
+    let long = stairs_of(65).encode();
     assert_eq!(Chooser::new().solve(&long), Err(Refusal::Full));
 }
 

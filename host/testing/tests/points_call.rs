@@ -16,7 +16,7 @@ use testing::brute::list_points;
 use testing::checker::case::{ask_seeds, Case};
 use testing::checker::law::points_law;
 use testing::checker::{ensure, Verdict};
-use testing::examples::{brimful, colours, objects, staircase, three};
+use testing::examples::{brimful, colours, objects, stairs_of, three};
 use testing::fence::{assert_fences, fenced, inside};
 use testing::mixed::compare_seeds;
 use testing::point_records::{compare_points, junk_points};
@@ -140,8 +140,8 @@ fn different_ends() -> Vec<(Vec<u8>, Vec<PointRecord>, Vec<u32>)> {
         lent(&[], 0, 0),
         lent(&[0; MAX_BYTES + 1], 1, LEAST_WORK),
         lent(&brimful().encode(), 70, LEAST_WORK),
-        lent(&staircase([64, 200]).encode(), 70, LEAST_WORK),
-        lent(&staircase([65, 200]).encode(), 99, LEAST_WORK),
+        lent(&stairs_of(64).encode(), 70, LEAST_WORK),
+        lent(&stairs_of(65).encode(), 99, LEAST_WORK),
     ]
 }
 

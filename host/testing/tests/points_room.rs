@@ -7,7 +7,7 @@ use frontier::lent::{Answer, PointRecord};
 use frontier::limits::{LEAST_WORK, MAX_OBJECTIVES, MAX_POINTS, MAX_VARIABLES};
 use frontier::refusal::CUT_SHORT;
 use frontier::{Problem, Refusal, Table};
-use testing::examples::{bent, colours, lone, objects, pair, staircase, ten_problems, three};
+use testing::examples::{bent, colours, lone, objects, pair, stairs_of, ten_problems, three};
 use testing::point_records::{compare_points, junk_points};
 use testing::random::{random_problem, Shape};
 
@@ -41,12 +41,13 @@ fn assert_every_length(problem: &Problem, points: usize) {
 
 #[test]
 fn every_length_for_no_point() {
-    assert_every_length(&lone(1, 0), 0);
-    assert_every_length(&colours([2, 4]), 0);
+    assert_every_length(&stairs_of(0), 0);
+    assert_every_length(&colours([2, 3]), 0);
 }
 
 #[test]
 fn every_length_for_some_points() {
+    assert_every_length(&lone(1, 0), 1);
     assert_every_length(&lone(8, 1), 1);
     assert_every_length(&colours([100, 100]), 2);
     assert_every_length(&three([3, 3]), 3);
@@ -57,7 +58,7 @@ fn every_length_for_some_points() {
 #[test]
 fn every_length_for_64_points_and_for_more() {
     for points in [64, 65] {
-        assert_every_length(&staircase([points as u32, 200]), points);
+        assert_every_length(&stairs_of(points as u32), points);
     }
 }
 
@@ -65,7 +66,7 @@ fn every_length_for_64_points_and_for_more() {
 fn every_number_of_points_with_one_record_too_few_enough_or_more() {
     for points in 0..=MAX_POINTS {
         for length in points.saturating_sub(1)..=points + 1 {
-            assert_length(&staircase([points as u32, 200]), points, length);
+            assert_length(&stairs_of(points as u32), points, length);
         }
     }
 }
@@ -74,7 +75,7 @@ fn every_number_of_points_with_one_record_too_few_enough_or_more() {
 fn room_is_never_above_64() {
     for points in [64, 65, 66, 128] {
         for length in [66, 128, 129, 1_000] {
-            assert_length(&staircase([points as u32, 200]), points, length);
+            assert_length(&stairs_of(points as u32), points, length);
         }
     }
 }

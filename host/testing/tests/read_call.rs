@@ -19,7 +19,7 @@ use testing::mixed::Mixed;
 use testing::random::{random_problem, Shape};
 use testing::read_texts::{compare_read, generated, read_need};
 use testing::said::Said;
-use testing::texts::{fenced_call, lengths, JUNK};
+use testing::texts::{allowed_cost, back, draw_ends, fenced_call, lengths, JUNK};
 use testing::wcsp::in_one_objective;
 
 /// Asserts that the call answers and leaves a buffer of this length as the converter does; the number.
@@ -186,10 +186,13 @@ const REFUSED_FUNCTIONS: [(&str, &str); 14] = [
 /// Every kind of 18, by its name; the limits have a test of their own.
 #[test]
 fn every_kind_of_18() {
+    assert_number(0, "the least bound", "P 1 1 0 1 1");
     let texts = [
         ("a negative bound", "P 1 1 0 -1 1"),
         ("a negative domain size", "P 1 1 0 5 -1"),
         ("a bound that is too large", "P 1 1 0 4294967296 1"),
+        ("a bound of 0", "P 1 1 0 0 1"),
+        ("a bound of 0, written otherwise", "P 1 1 0 -00 1"),
         ("a domain of 0", "P 1 0 0 5 0"),
         ("no variable", "P 0 0 0 5"),
     ];
@@ -209,8 +212,10 @@ fn every_kind_of_18() {
 }
 
 /// Texts with 18 somewhere and 17 elsewhere, but not behind a listed negative number.
-const BOTH: [(&str, &str); 12] = [
+const BOTH: [(&str, &str); 14] = [
     ("a word", "P 1 1 0 4294967296 1 x"),
+    ("a word behind a bound of 0", "P 1 1 0 0 1 x"),
+    ("a variable behind a bound of 0", "P 1 1 1 0 1 1 1 0 0"),
     ("missing sizes", "P 25 9 0 5 9 1"),
     ("a value of a domain of nine", "P 1 9 1 5 9 1 0 0 1 9 4"),
     ("a scope of nine", "P 1 2 1 5 2 9 0 0 0 0 0 0 0 0 1"),
@@ -225,7 +230,7 @@ const BOTH: [(&str, &str); 12] = [
 ];
 
 /// Texts with 17 behind a listed negative number.
-const UNREAD: [(&str, &str); 10] = [
+const UNREAD: [(&str, &str); 11] = [
     ("no sizes", "P 1 1 0 -1"),
     ("words", "P 1 1 1 -1 x y z"),
     ("a largest domain not met", "P 2 5 0 5 3 -1"),
@@ -234,6 +239,7 @@ const UNREAD: [(&str, &str); 10] = [
     ("a shared function", "P 1 2 1 5 2 1 0 0 -1 and more"),
     ("undeclared values", "P 1 2 1 5 2 1 0 0 2 1 -4 9 9"),
     ("behind 18", "P 1 2 2 4294967296 2 0 -5"),
+    ("behind a bound of 0", "P 1 2 2 0 2 0 -5"),
     ("a second negative number", "P 1 2 2 -5 -5 -5"),
     ("a long one", "P 1 1 0 -123456789012345678901234567890 x"),
 ];
@@ -438,32 +444,38 @@ fn a_text_may_end_after_any_byte() {
     }
 }
 
-/// What the text call writes is read as the same bytes.
+/// What the text call writes is read as the same bytes, but that forbidden entries have become the upper bound.
 #[test]
 fn there_and_back() {
     let rng = &mut Rng::new(11);
     for case in 0..5_000 {
         let shape = [Shape::small(), Shape::many_variables(), Shape::wide()];
         let problem = in_one_objective(&random_problem(rng, &shape[case % 3]));
-        let bytes = problem.encode();
-        let text = to_text(&bytes).expect("one objective");
-        assert_eq!(from_text(text.as_bytes()), Ok(bytes), "{text}");
+        let text = to_text(&problem.encode()).expect("one objective and a bound");
+        let due = back(&problem).encode();
+        assert_eq!(from_text(text.as_bytes()), Ok(due), "{text}");
     }
 }
 
-/// By the format's own words, and by the records read from the text, every complete choice costs the same;
-/// and written again and read again it is the same problem.
+/// By the format's own words, and by the records read from the text, every complete choice costs the same, and
+/// the same ones are allowed; and so they are when it is written again and read again.
 #[test]
 fn every_choice_costs_the_same_by_a_text_and_by_its_problem() {
     let rng = &mut Rng::new(12);
-    let mut asked = 0;
+    let [mut asked, mut allowed] = [0; 2];
     for _ in 0..1_500 {
-        let drawn = in_one_objective(&random_problem(rng, &Shape::small()));
+        let mut drawn = random_problem(rng, &Shape::small());
+        draw_ends(rng, &mut drawn);
+        let drawn = in_one_objective(&drawn);
         let said = Said::of(rng, &drawn);
         let text = said.text(rng);
         let bytes = from_text(&text).expect("a text within the limits");
         let problem = Problem::decode(&bytes).expect("what is written is accepted");
-        assert_eq!(problem.ceilings, [said.bound]);
+        let written = to_text(&bytes).expect("one objective and a bound");
+        let again = from_text(written.as_bytes()).expect("what is written is read");
+        let again = Problem::decode(&again).expect("what is read is accepted");
+        assert_eq!(problem.ceilings.len(), 1);
+        assert_eq!(u64::from(problem.ceilings[0]), said.bound - 1);
         assert_eq!(problem.domains, said.sizes);
         let scopes = |tables: &[Table]| -> Vec<Vec<u8>> {
             tables.iter().map(|table| table.scope.clone()).collect()
@@ -474,12 +486,18 @@ fn every_choice_costs_the_same_by_a_text_and_by_its_problem() {
             let cost = bound_prefix(&bytes, &choice).least[0];
             let text = text.escape_ascii();
             assert_eq!(cost, said.cost(&choice), "{choice:?} of {text}");
+            let due = said.allows(&choice).then_some(cost);
+            for problem in [&problem, &again] {
+                assert_eq!(allowed_cost(problem, &choice), due, "{choice:?} of {text}");
+            }
             asked += 1;
+            allowed += usize::from(due.is_some());
         }
-        let written = to_text(&bytes).expect("one objective");
-        assert_eq!(from_text(written.as_bytes()), Ok(bytes));
     }
-    assert!(asked > 30_000, "{asked}");
+    assert!(
+        allowed > 10_000 && asked > allowed + 10_000,
+        "{allowed} of {asked}"
+    );
 }
 
 #[test]

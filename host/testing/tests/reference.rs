@@ -134,7 +134,15 @@ fn examples_are_listed_as_told() {
     let names: Vec<&str> = examples().iter().map(|example| example.name).collect();
     assert_eq!(
         names,
-        ["Colours", "Three", "Pair", "Fixed", "Turned", "One"]
+        [
+            "Colours",
+            "Three",
+            "Pair",
+            "Fixed",
+            "Turned",
+            "One",
+            "Forbidden"
+        ]
     );
     for example in examples() {
         let bytes = example.bytes();

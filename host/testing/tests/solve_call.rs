@@ -13,7 +13,7 @@ use frontier::Refusal;
 use testing::brute::solve_problem;
 use testing::checker::case::ask_seeds;
 use testing::checker::law::agreement_law;
-use testing::examples::{brimful, colours, objects, staircase, three};
+use testing::examples::{brimful, colours, objects, stairs_of, three};
 use testing::fence::{assert_fences, fenced, inside};
 use testing::mixed::{compare_seeds, compare_solve, Mixed};
 
@@ -106,8 +106,8 @@ fn different_ends() -> Vec<(Vec<u8>, Buffers)> {
         (vec![], lent(0, 0)),
         (vec![0; MAX_BYTES + 1], lent(1, LEAST_WORK)),
         (brimful().encode(), lent(70, LEAST_WORK)),
-        (staircase([64, 200]).encode(), lent(70, LEAST_WORK)),
-        (staircase([65, 200]).encode(), lent(99, LEAST_WORK)),
+        (stairs_of(64).encode(), lent(70, LEAST_WORK)),
+        (stairs_of(65).encode(), lent(99, LEAST_WORK)),
     ]
 }
 

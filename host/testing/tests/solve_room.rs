@@ -7,7 +7,7 @@ use frontier::lent::{Answer, Buffers};
 use frontier::limits::{LEAST_WORK, MAX_BYTES, MAX_POINTS};
 use frontier::{Problem, Refusal};
 use testing::examples::{
-    bent, colours, every_arity, lone, objects, staircase, ten_problems, three,
+    bent, colours, every_arity, lone, objects, stairs_of, ten_problems, three,
 };
 use testing::mixed::compare_solve;
 use testing::random::{random_problem, Shape};
@@ -29,7 +29,7 @@ fn expected_answer(points: usize, room: usize) -> Answer {
 
 /// A problem of so many points in rising order, with two objectives and more that cost nothing.
 fn stairs(points: usize, objectives: usize) -> Problem {
-    let mut problem = staircase([points as u32, 200]);
+    let mut problem = stairs_of(points as u32);
     problem.ceilings.resize(objectives, 1);
     problem
 }
@@ -95,7 +95,8 @@ fn assert_every_length(problem: &Problem, points: usize) {
 #[test]
 fn every_length_around_the_need() {
     assert_every_length(&lone(8, 1), 1);
-    assert_every_length(&lone(1, 0), 0);
+    assert_every_length(&lone(1, 0), 1);
+    assert_every_length(&stairs_of(0), 0);
     assert_every_length(&colours([100, 100]), 2);
     assert_every_length(&three([3, 3]), 3);
     assert_every_length(&objects([13, 100, 100]), 3);

@@ -141,6 +141,23 @@ fn the_chooser_is_measured_against_another_build() {
     assert_eq!(last, "12 problems, 24 answers compared, 0 faults", "{text}");
 }
 
+/// Against itself with ceilings one larger the chooser has other answers, since the family's ceilings are tight.
+#[test]
+fn another_build_may_be_handed_ceilings_one_larger() {
+    let program = env!("CARGO_BIN_EXE_speed");
+    let output = speed(&["--only", "tight", "--against", program, "--raised"]);
+    let text = text_of(&output.stdout);
+    assert_eq!(output.status.code(), Some(1), "{text}");
+    assert!(
+        text.contains("The other library is handed each ceiling one larger."),
+        "{text}"
+    );
+    let fault = "tight_m_4: the other library: line 1 DIFFERS: 'points 2 ";
+    assert!(text.contains(fault), "{text}");
+    let last = text.lines().last().unwrap_or_default();
+    assert_eq!(last, "12 problems, 24 answers compared, 4 faults", "{text}");
+}
+
 /// A stand-in for toulbar2 that always finds the same optimum.
 #[cfg(unix)]
 #[test]
@@ -199,6 +216,7 @@ fn help_names_the_options() {
         "--growth",
         "--generated",
         "--against",
+        "--raised",
         "numbers=N",
     ] {
         assert!(text.contains(option), "{option}");
@@ -207,7 +225,7 @@ fn help_names_the_options() {
 
 #[test]
 fn what_cannot_be_run_is_complained_about() {
-    let complaints: [(&[&str], &str); 10] = [
+    let complaints: [(&[&str], &str); 11] = [
         (
             &["--only", "nothing"],
             "there is no family 'nothing'; the families are comp, ",
@@ -228,6 +246,10 @@ fn what_cannot_be_run_is_complained_about() {
         (
             &["--plain-only", "--against", "speed"],
             "with --plain-only nothing is measured against another library",
+        ),
+        (
+            &["--raised"],
+            "--raised is for another library; name it with --against",
         ),
         (&["--fast"], "there is no option '--fast'"),
     ];

@@ -10,7 +10,7 @@ use frontier::limits::{
     MAX_BYTES, MAX_DOMAIN, MAX_OBJECTIVES, MAX_TABLES, MAX_VARIABLES, TEXT_LEN,
 };
 use frontier::refusal::{DIALECT, OUTPUT};
-use frontier::{to_text, Problem, Refusal, Table};
+use frontier::{to_text, Problem, Refusal, Table, FORBIDDEN};
 use testing::examples::{brimful, colours, every_arity, lone, ten_problems};
 use testing::guarded::at_both_ends;
 use testing::mixed::{compare_seeds, Mixed};
@@ -49,7 +49,7 @@ fn numbers() -> BTreeSet<u8> {
     (0..=11).chain([DIALECT, OUTPUT]).collect()
 }
 
-// 20,000 mixed cases are 42,438 inputs and 254,628 calls, in parts that run side by side.
+// 20,000 mixed cases are over 50,000 inputs, with six calls each, in parts that run side by side.
 
 #[test]
 fn mixed_cases_0_to_10_000() {
@@ -77,12 +77,12 @@ fn nothing_is_touched_beside_a_buffer() {
 /// As many bytes, variables, values and tables as there may be, and the greatest numbers everywhere.
 fn at_the_limits() -> Vec<Problem> {
     let mut full = in_one_objective(&brimful());
-    full.ceilings = vec![u32::MAX];
+    full.ceilings = vec![FORBIDDEN - 1];
     full.tables
         .iter_mut()
-        .for_each(|table| table.costs.fill(u32::MAX));
+        .for_each(|table| table.costs.fill(FORBIDDEN));
     let scope = [23, 0, 10];
-    let entries = [u32::MAX].repeat(MAX_DOMAIN.pow(3));
+    let entries = [FORBIDDEN].repeat(MAX_DOMAIN.pow(3));
     let mut wide = Problem {
         ceilings: vec![0],
         domains: vec![MAX_DOMAIN as u8; MAX_VARIABLES],
@@ -95,7 +95,7 @@ fn at_the_limits() -> Vec<Problem> {
         .tables
         .iter_mut()
         .for_each(|table| table.costs.fill(0));
-    vec![full, wide, zeros, lone(1, 0), lone(8, u32::MAX)]
+    vec![full, wide, zeros, lone(1, 0), lone(8, FORBIDDEN - 1)]
 }
 
 #[test]
@@ -145,6 +145,29 @@ fn more_objectives_are_refused_before_the_buffer() {
         }
     }
     assert_eq!(to_text(&colours([9, 9]).encode()), Err(Refusal::Dialect));
+}
+
+/// The greatest ceiling has no upper bound above it, with entries and without.
+#[test]
+fn the_greatest_ceiling_is_refused_before_the_buffer() {
+    for tables in [vec![], vec![Table::new(0, &[0], &[0, FORBIDDEN])]] {
+        for ceiling in [0, 1, u32::MAX - 2, u32::MAX - 1, u32::MAX] {
+            let problem = Problem {
+                ceilings: vec![ceiling],
+                domains: vec![2],
+                tables: tables.clone(),
+            };
+            for length in [0, TEXT_LEN] {
+                let number = assert_length(&problem.encode(), length).number;
+                let due = match (ceiling, length) {
+                    (u32::MAX, _) => DIALECT,
+                    (_, 0) => OUTPUT,
+                    _ => 0,
+                };
+                assert_eq!(number, due, "{ceiling}, {length} bytes");
+            }
+        }
+    }
 }
 
 /// Numbers 1 to 11 with their places, whatever the objectives and the buffer are.

@@ -2,16 +2,17 @@
 //! or read by it: of generated problems with one objective the least cost is the same, and the choice that
 //! toulbar2 finds has it. Texts of the kinds in its documentation, made here, are read or refused as they should.
 //!
-//! No family of problems is left out: toulbar2 takes upper bounds from 0 to 4,294,967,295, with 0 and with
-//! what no choice stays under it finds no solution, and it takes entries of 4,294,967,295, several functions
-//! over the same variables, functions without a tuple and texts of 255,000 bytes. What it is not asked is
-//! which of several choices comes first: it may find any.
+//! No family of problems is left out: toulbar2 takes upper bounds from 1 to 4,294,967,295, which are strict, with
+//! what no choice stays under it finds no solution, and it takes costs that are the upper bound, as forbidden
+//! entries are written, or more, up to 4,294,967,295, several functions over the same variables, functions without
+//! a tuple and texts of 255,000 bytes. What it is not asked is which of several choices comes first: it may find
+//! any.
 
 use std::path::{Path, PathBuf};
 use std::thread;
 
 use chooser::junk::Rng;
-use frontier::{from_text, to_text, Chooser, Problem, Refusal};
+use frontier::{from_text, to_text, Chooser, Problem, Refusal, FORBIDDEN};
 use testing::chooser_run::folder;
 use testing::examples::{brimful, colours_first, lone};
 use testing::random::{random_problem, Shape};
@@ -34,7 +35,7 @@ fn generated(seed: u64) -> Problem {
 /// Asserts that toulbar2 finds the least cost of the problem in its text; whether there is one.
 fn assert_same(chooser: &mut Chooser, problem: &Problem, file: &Path) -> bool {
     let bytes = problem.encode();
-    let text = to_text(&bytes).expect("it has one objective");
+    let text = to_text(&bytes).expect("it has one objective and a bound");
     assert_means(chooser, &text, &bytes, file)
 }
 
@@ -91,15 +92,13 @@ fn texts_at_the_limits_mean_the_same() {
     let (folder, mut chooser) = (folder("toulbar2_limits"), Chooser::new());
     let file = folder.join("limit.wcsp");
     let mut same = |problem: &Problem| assert_same(&mut chooser, problem, &file);
-    for ceiling in [0, 1, u32::MAX] {
-        assert_eq!(same(&lone(8, ceiling)), ceiling > 0);
-        assert_eq!(same(&lone(1, ceiling)), ceiling > 0);
-        assert_eq!(same(&colours_first(ceiling)), ceiling > 1);
+    for ceiling in [0, 1, 2, u32::MAX - 1] {
+        assert!(same(&lone(8, ceiling)) && same(&lone(1, ceiling)));
+        assert_eq!(same(&colours_first(ceiling)), ceiling > 0);
     }
-    assert!(same(&colours_first(2)));
     let mut full = in_one_objective(&brimful());
-    full.ceilings = vec![u32::MAX];
-    for entry in [1, u32::MAX - 1, u32::MAX] {
+    full.ceilings = vec![u32::MAX - 1];
+    for entry in [1, u32::MAX - 1, FORBIDDEN] {
         full.tables
             .iter_mut()
             .for_each(|table| table.costs.fill(entry));

@@ -3,7 +3,7 @@
 use frontier::lent;
 use frontier::lent::{Answer, CutCall, PointRecord, SolveCall};
 use frontier::limits::LEAST_WORK;
-use frontier::{Problem, Table};
+use frontier::{Problem, Table, FORBIDDEN};
 use testing::brute::{bound_prefix, list_points, solve_cut, solve_problem};
 use testing::examples::{
     all_clauses, colours, colours_first, constant, days_and_gain, objects, pair_with_constant,
@@ -36,13 +36,16 @@ const OBJECTS: [(&[u32], &[u8]); 3] = [
 ];
 
 #[test]
-fn objects_under_four_ceilings() {
+fn objects_under_other_ceilings() {
     let problem = objects([13, 100, 100]);
     assert_eq!((problem.tables.len(), problem.encode().len()), (16, 274));
     assert_points(&problem, &OBJECTS);
-    assert_points(&objects([13, 5, 6]), &OBJECTS[2..]);
+    assert_points(&objects([13, 4, 6]), &OBJECTS[2..]);
+    assert_points(&objects([13, 5, 6]), &[OBJECTS[0], OBJECTS[2]]);
     assert_points(&objects([13, 6, 6]), &[OBJECTS[0], OBJECTS[2]]);
-    assert_points(&objects([10, 100, 100]), &OBJECTS[..2]);
+    assert_points(&objects([9, 100, 100]), &OBJECTS[..2]);
+    assert_points(&objects([10, 100, 100]), &OBJECTS);
+    assert_points(&objects([FORBIDDEN; 3]), &OBJECTS);
 }
 
 #[test]
@@ -146,7 +149,7 @@ fn all_2_clauses_over_ten_variables() {
 
 #[test]
 fn the_row_that_tells_halves_apart() {
-    let bytes = pair_with_constant([2, 9]).encode();
+    let bytes = pair_with_constant([1, 9]).encode();
     let expected = vec![Listed::new(&[1, 2], &[0, 0])];
     for call in CUT_CALLS {
         for sides in [[0, 1], [1, 0]] {
@@ -158,11 +161,11 @@ fn the_row_that_tells_halves_apart() {
 
 #[test]
 fn entries_use_all_four_bytes_and_the_last_variable_runs_fastest() {
-    // Sizes 2, 3 and 4: the entry of (a, b, c) is at 12a + 4b + c.
+    // Sizes 2, 3 and 4: the entry of (a, b, c) is at 12a + 4b + c. One number is within the ceiling.
     let mut costs = vec![0x0100_0000; 24];
     costs[12 + 2 * 4 + 1] = 0x00ff_ffff;
     let problem = Problem {
-        ceilings: vec![0x0100_0000],
+        ceilings: vec![0x00ff_ffff],
         domains: vec![2, 3, 4],
         tables: vec![Table::new(0, &[0, 1, 2], &costs)],
     };

@@ -5,9 +5,11 @@ use chooser::junk::Rng;
 use frontier::lent::Answer;
 use frontier::limits::{MAX_BYTES, MAX_TABLES, TEXT_LEN};
 use frontier::refusal::{DIALECT, OUTPUT, TEXT};
-use frontier::{Problem, Refusal, Table};
+use frontier::{Problem, Refusal, Table, FORBIDDEN};
+use testing::checker::all_choices;
 use testing::examples::{brimful, colours, colours_first, every_arity, lone, turned};
 use testing::random::{random_problem, Shape};
+use testing::texts::{allowed_cost, back, draw_ends};
 use testing::wcsp::{from_text, in_one_objective, to_text};
 
 /// What every byte of a lent buffer holds.
@@ -61,17 +63,17 @@ fn over_one(function: &str) -> String {
 
 #[test]
 fn texts_are_those_of_the_prose() {
-    assert_eq!(text(&lone(8, 1).encode()).as_deref(), Ok("P 1 8 0 1\n8\n"));
-    let colours = "P 3 2 3 100\n2 2 2\n2 0 1 0 2\n0 0 1\n1 1 1\n2 0 2 0 2\n0 0 3\n1 1 3\n\
+    assert_eq!(text(&lone(8, 1).encode()).as_deref(), Ok("P 1 8 0 2\n8\n"));
+    let colours = "P 3 2 3 101\n2 2 2\n2 0 1 0 2\n0 0 1\n1 1 1\n2 0 2 0 2\n0 0 3\n1 1 3\n\
                    2 1 2 0 2\n0 0 6\n1 1 6\n";
     assert_eq!(text(&colours_first(100).encode()).as_deref(), Ok(colours));
-    let turned = "P 2 3 2 9\n2 3\n2 1 0 0 5\n0 0 4\n0 1 1\n1 0 3\n1 1 5\n2 0 2\n\
+    let turned = "P 2 3 2 10\n2 3\n2 1 0 0 5\n0 0 4\n0 1 1\n1 0 3\n1 1 5\n2 0 2\n\
                   2 0 1 0 5\n0 1 3\n0 2 1\n1 0 2\n1 1 6\n1 2 5\n";
     let written = text(&in_one_objective(&self::turned()).encode());
     assert_eq!(written.as_deref(), Ok(turned));
 }
 
-/// All four arities with the greatest entry, a table of zeros, and a charge of 0.
+/// All four arities with the greatest entry that forbids nothing, a table of zeros, and a charge of 0.
 #[test]
 fn entries_of_0_have_no_line_but_for_arity_0() {
     let problem = Problem {
@@ -79,18 +81,35 @@ fn entries_of_0_have_no_line_but_for_arity_0() {
         domains: vec![1, 2, 2],
         tables: vec![
             Table::new(0, &[], &[0]),
-            Table::new(0, &[], &[u32::MAX]),
+            Table::new(0, &[], &[FORBIDDEN - 1]),
             Table::new(0, &[1], &[0, 0]),
-            Table::new(0, &[2, 0, 1], &[0, 0, u32::MAX, 10]),
+            Table::new(0, &[2, 0, 1], &[0, 0, FORBIDDEN - 1, 10]),
         ],
     };
-    let due = "P 3 2 4 0\n1 2 2\n0 0 0\n0 4294967295 0\n1 1 0 0\n3 2 0 1 0 2\n1 0 0 4294967295\n\
+    let due = "P 3 2 4 1\n1 2 2\n0 0 0\n0 4294967294 0\n1 1 0 0\n3 2 0 1 0 2\n1 0 0 4294967294\n\
                1 0 1 10\n";
     assert_eq!(text(&problem.encode()).as_deref(), Ok(due));
 }
 
+/// With and without variables, under the least ceiling, the greatest that has a text, and one between.
 #[test]
-fn problems_are_refused_before_their_objectives_and_these_before_the_buffer() {
+fn a_forbidden_entry_is_written_as_the_upper_bound() {
+    for (ceiling, bound) in [(0, "1"), (41, "42"), (FORBIDDEN - 1, "4294967295")] {
+        let problem = Problem {
+            ceilings: vec![ceiling],
+            domains: vec![2],
+            tables: vec![
+                Table::new(0, &[], &[FORBIDDEN]),
+                Table::new(0, &[0], &[FORBIDDEN, FORBIDDEN - 1]),
+            ],
+        };
+        let due = format!("P 1 2 2 {bound}\n2\n0 {bound} 0\n1 0 0 2\n0 {bound}\n1 4294967294\n");
+        assert_eq!(text(&problem.encode()), Ok(due));
+    }
+}
+
+#[test]
+fn problems_are_refused_before_objectives_and_ceiling_and_these_before_the_buffer() {
     let bytes = colours([9, 9]).encode();
     let mut leftover = bytes.clone();
     leftover.push(0);
@@ -100,8 +119,14 @@ fn problems_are_refused_before_their_objectives_and_these_before_the_buffer() {
             form(to_text, &leftover, length),
             Err(Refusal::Leftover(place).into())
         );
-        assert_eq!(form(to_text, &bytes, length), Err(Refusal::Dialect.into()));
+        let highest = lone(1, u32::MAX).encode();
+        for problem in [&bytes, &highest] {
+            let written = form(to_text, problem, length);
+            assert_eq!(written, Err(Refusal::Dialect.into()));
+        }
     }
+    let next = text(&lone(1, u32::MAX - 1).encode());
+    assert_eq!(next.as_deref(), Ok("P 1 1 0 4294967295\n1\n"));
     let one = colours_first(9).encode();
     let need = text(&one).expect("a text").len();
     for length in 0..need {
@@ -116,7 +141,7 @@ fn problems_are_refused_before_their_objectives_and_these_before_the_buffer() {
 fn a_text_of_the_greatest_length_is_there() {
     let mut full = in_one_objective(&brimful());
     for table in &mut full.tables {
-        table.costs.fill(u32::MAX);
+        table.costs.fill(FORBIDDEN - 1);
     }
     let length = text(&full.encode()).expect("a text").len();
     assert!((254_000..=TEXT_LEN).contains(&length), "{length}");
@@ -127,7 +152,7 @@ fn a_text_of_the_greatest_length_is_there() {
 #[test]
 fn texts_are_read_in_any_layout() {
     let due = Problem {
-        ceilings: vec![9],
+        ceilings: vec![8],
         domains: vec![2, 3],
         tables: vec![
             Table::new(0, &[1, 0], &[7, 7, 0, 7, 7, 4]),
@@ -222,8 +247,10 @@ fn content_that_is_refused_is_18() {
         "P 1 1 0 -1 1",         // a negative bound
         "P 1 1 0 5 -1",         // a negative domain size
         "P 1 1 0 4294967296 1", // a bound that is too large
-        "P 1 9 0 5 9",          // a domain of 9
-        "P 1 0 0 5 0",          // and of 0
+        "P 1 1 0 0 1",          // and one that no cost is below
+        "P 1 1 0 -0 1",
+        "P 1 9 0 5 9", // a domain of 9
+        "P 1 0 0 5 0", // and of 0
         "P 2 2 0 5 2 0",
         "P 0 0 0 5",                         // no variable
         &format!("P 25 1 0 5 {sizes}"),      // 25 variables
@@ -231,7 +258,10 @@ fn content_that_is_refused_is_18() {
         "P 4 1 1 5 1 1 1 1 4 0 1 2 3 0 0",
     ];
     assert_refused(DIALECT, &texts);
-    assert!(problem(&format!("P 24 1 0 4294967295 {}", "1 ".repeat(24))).is_ok());
+    let ceiling = |text: &str| problem(text).map(|problem| problem.ceilings[0]);
+    assert_eq!(ceiling("P 1 1 0 1 1"), Ok(0));
+    let widest = format!("P 24 1 0 4294967295 {}", "1 ".repeat(24));
+    assert_eq!(ceiling(&widest), Ok(u32::MAX - 1));
     let charges = "0 4294967295 0 ".repeat(MAX_TABLES);
     assert!(problem(&format!("P 1 1 256 5 1 {charges}")).is_ok());
 }
@@ -240,6 +270,7 @@ fn content_that_is_refused_is_18() {
 fn of_17_and_18_it_is_17_wherever_both_stand() {
     let texts = [
         "P 1 1 0 4294967296 1 x",              // words behind what is refused
+        "P 1 1 0 0 1 x",                       // behind a bound of 0, too
         "P 25 9 0 5 9 1",                      // sizes are missing
         "P 1 9 1 5 9 1 0 0 1 9 4",             // a value of the domain of 9
         "P 1 2 1 5 2 9 0 0 0 0 0 0 0 0 1",     // a variable in a scope of nine
@@ -272,6 +303,7 @@ fn behind_the_first_listed_negative_number_nothing_is_read() {
         "P 1 2 1 5 2 1 0 0 -1 and more", // a function that is shared
         "P 1 2 1 5 2 1 0 0 2 1 -4 9 9",
         "P 1 2 2 4294967296 2 0 -5", // behind content that is refused as well
+        "P 1 2 2 0 2 0 -5",
     ];
     assert_refused(DIALECT, &texts);
     // What stands before it is read.
@@ -340,8 +372,9 @@ fn the_records_limit_is_18_before_19() {
 
 #[test]
 fn a_short_buffer_is_19_and_keeps_what_it_held() {
-    let bytes = in_one_objective(&every_arity()).encode();
-    let text = text(&bytes).expect("a text");
+    let problem = in_one_objective(&every_arity());
+    let text = text(&problem.encode()).expect("a text");
+    let bytes = back(&problem).encode();
     for length in 0..bytes.len() {
         let answer = form(from_text, text.as_bytes(), length).map_err(|answer| answer.number);
         assert_eq!(answer, Err(OUTPUT), "{length}");
@@ -352,18 +385,67 @@ fn a_short_buffer_is_19_and_keeps_what_it_held() {
     }
 }
 
+/// A cost that is the upper bound or more, 4,294,967,295 included, stays as the text has it.
+#[test]
+fn costs_from_the_bound_on_are_read_as_they_stand() {
+    let costs = [4, 5, 6, FORBIDDEN - 1, FORBIDDEN];
+    let words = (0..)
+        .zip(costs)
+        .map(|(value, cost)| format!("{value} {cost} "));
+    let tuples = words.collect::<String>();
+    let read = problem(&format!("P 1 5 2 5 5 1 0 0 5 {tuples} 0 4294967295 0"));
+    let tables = read.map(|problem| problem.tables);
+    let due = [
+        Table::new(0, &[0], &costs),
+        Table::new(0, &[], &[FORBIDDEN]),
+    ];
+    assert_eq!(tables.as_deref(), Ok(&due[..]));
+}
+
+/// To the byte where no entry is forbidden; and forbidden ones have become the upper bound.
 #[test]
 fn there_and_back_gives_the_records() {
     let mut rng = Rng::new(2);
+    let [mut same, mut other] = [0; 2];
     for case in 0..5_000 {
         let shape = [Shape::small(), Shape::many_variables(), Shape::wide()];
         let problem = in_one_objective(&random_problem(&mut rng, &shape[case % 3]));
         let bytes = problem.encode();
-        let text = text(&bytes).expect("one objective");
-        assert_eq!(
-            form(from_text, text.as_bytes(), bytes.len()),
-            Ok(bytes),
-            "{text}"
-        );
+        let text = text(&bytes).expect("one objective and a bound");
+        let read = form(from_text, text.as_bytes(), bytes.len());
+        if problem
+            .tables
+            .iter()
+            .any(|table| table.costs.contains(&FORBIDDEN))
+        {
+            assert_eq!(read, Ok(back(&problem).encode()), "{text}");
+            other += 1;
+        } else {
+            assert_eq!(read, Ok(bytes), "{text}");
+            same += 1;
+        }
     }
+    assert!(same > 1_000 && other > 1_000, "{same} {other}");
+}
+
+#[test]
+fn there_and_back_the_same_choices_are_allowed_and_cost_the_same() {
+    let mut rng = Rng::new(3);
+    let [mut allowed, mut not] = [0; 2];
+    for _ in 0..3_000 {
+        let mut drawn = random_problem(&mut rng, &Shape::small());
+        draw_ends(&mut rng, &mut drawn);
+        let drawn = in_one_objective(&drawn);
+        let text = text(&drawn.encode()).expect("one objective and a bound");
+        let read = problem(&text).expect("what is written is read");
+        for choice in all_choices(&drawn) {
+            let cost = allowed_cost(&drawn, &choice);
+            assert_eq!(allowed_cost(&read, &choice), cost, "{choice:?} of {text}");
+            match cost {
+                Some(_) => allowed += 1,
+                None => not += 1,
+            }
+        }
+    }
+    assert!(allowed > 10_000 && not > 10_000, "{allowed} {not}");
 }

@@ -92,10 +92,11 @@ impl<'a> Reader<'a> {
         let variables = self.within(Refusal::Text, 1, MAX_VARIABLES as u64)?;
         let largest = self.number(Refusal::Text)?;
         let functions = self.within(Refusal::Text, 0, MAX_TABLES as u64)?;
-        let bound = self.within(Refusal::Dialect, 0, u32::MAX.into())?;
+        let bound = self.within(Refusal::Dialect, 1, u32::MAX.into())?;
         let [r0, r1, ..] = functions.value.to_le_bytes();
         self.push(&[b'H', b'D', variables.value as u8, 1, r0, r1]);
-        self.push(&(bound.value as u32).to_le_bytes());
+        // A bound of 0 is refused already, and nothing is pushed.
+        self.push(&(bound.value.saturating_sub(1) as u32).to_le_bytes());
         let mut sizes = Vec::new();
         let mut is_met = false;
         for _ in 0..count(&variables) {

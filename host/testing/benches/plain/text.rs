@@ -4,7 +4,7 @@
 use crate::reader::{number, CostRecord, Cursor, Domains};
 use frontier::lent::Answer;
 use frontier::limits::{MAX_ARITY, MAX_BYTES, TEXT_LEN};
-use frontier::Refusal;
+use frontier::{Refusal, FORBIDDEN};
 
 /// Appends a number and what follows it.
 fn push(text: &mut Vec<u8>, number: u32, behind: u8) {
@@ -21,8 +21,16 @@ fn push(text: &mut Vec<u8>, number: u32, behind: u8) {
     text.push(behind);
 }
 
+/// What an entry costs in the text: a forbidden one the upper bound.
+fn written(entry: u32, bound: u32) -> u32 {
+    match entry {
+        FORBIDDEN => bound,
+        _ => entry,
+    }
+}
+
 /// Appends a record with variables. The values of an entry are counted on from those of the one before.
-fn push_function(text: &mut Vec<u8>, record: &CostRecord, domains: &Domains) {
+fn push_function(text: &mut Vec<u8>, record: &CostRecord, domains: &Domains, bound: u32) {
     let (arity, entries) = (record.scope.len(), || {
         record.table.chunks_exact(4).map(number)
     });
@@ -42,7 +50,7 @@ fn push_function(text: &mut Vec<u8>, record: &CostRecord, domains: &Domains) {
             for value in &values[..arity] {
                 text.extend_from_slice(&[b'0' + value, b' ']);
             }
-            push(text, entry, b'\n');
+            push(text, written(entry, bound), b'\n');
         }
         for (value, &variable) in values[..arity].iter_mut().zip(record.scope).rev() {
             *value += 1;
@@ -68,8 +76,10 @@ fn try_text(problem: &[u8]) -> Result<Vec<u8>, Refusal> {
         b' ',
     );
     push(&mut text, header.tables as u32, b' ');
-    // The ceiling stands behind the mark and four bytes of fields.
-    push(&mut text, number(&problem[6..]), b'\n');
+    // The ceiling stands behind the mark and four bytes of fields. Of the greatest the text is dropped at the end.
+    let ceiling = number(&problem[6..]);
+    let bound = ceiling.wrapping_add(1);
+    push(&mut text, bound, b'\n');
     for &size in sizes {
         text.extend_from_slice(&[b'0' + size, b' ']);
     }
@@ -78,16 +88,16 @@ fn try_text(problem: &[u8]) -> Result<Vec<u8>, Refusal> {
         let record = cursor.cost_record(&header, &domains)?;
         if record.scope.is_empty() {
             text.extend_from_slice(b"0 ");
-            push(&mut text, number(record.table), b' ');
+            push(&mut text, written(number(record.table), bound), b' ');
             text.extend_from_slice(b"0\n");
         } else {
-            push_function(&mut text, &record, &domains);
+            push_function(&mut text, &record, &domains, bound);
         }
     }
     cursor.end()?;
-    match header.objectives {
-        1 => Ok(text),
-        _ => Err(Refusal::Dialect),
+    match header.objectives == 1 && ceiling < u32::MAX {
+        true => Ok(text),
+        false => Err(Refusal::Dialect),
     }
 }
 

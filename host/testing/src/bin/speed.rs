@@ -9,6 +9,7 @@ use std::time::Duration;
 use chooser::progress::show_progress;
 use chooser::worker::{asked_limit, WORKER};
 use frontier::limits::LEAST_WORK;
+use testing::ceilings::raised;
 use testing::places::data;
 use testing::plain::{Settings, SETTINGS};
 use testing::reading::read_problem;
@@ -20,8 +21,8 @@ use testing::speed::sides::{serve_chooser, Calls, ChooserSide, Form, PlainSide, 
 use testing::speed::toulbar2;
 
 const USAGE: &str = "usage: speed [--limit SECONDS] [--only FAMILY] [--plain-only | --first-form]
-             [--against PROGRAM] [--sets | --growth | --generated SEED] [--work NUMBERS]
-             [--settings NAME=VALUE,..]
+             [--against PROGRAM [--raised]] [--sets | --growth | --generated SEED]
+             [--work NUMBERS] [--settings NAME=VALUE,..]
 Runs the problems of data/nightly and data/stress through the chooser and through plain Rust, each
 for at most SECONDS of processor time (default 2), compares the answers with the expected ones, and
 prints a table with a row for each family: the first part of a problem's name that is no number.
@@ -31,6 +32,8 @@ prints a table with a row for each family: the first part of a problem's name th
   --against PROGRAM
                  measures against the library of another build of this program, not plain Rust,
                  in turns of which the quickest counts
+  --raised       hands that library each ceiling one larger, because a cost equal to its ceiling
+                 is not allowed by versions before 3.0.0: then its answers are the same
   --work NUMBERS lends the chooser so much work memory (default 8192, the least)
   --sets         runs three nights, the largest problems and the harder ones instead, a row for each
   --growth       runs generated problems of growing size instead: n, d and p in turn
@@ -64,6 +67,8 @@ struct Options {
     plain_only: bool,
     /// Another build of this program, with another library.
     against: Option<PathBuf>,
+    /// Whether the other library is handed ceilings one larger.
+    raised: bool,
     calls: Calls,
     source: Source,
 }
@@ -76,6 +81,7 @@ fn asked_options(arguments: &[String]) -> Result<Options, String> {
         settings: Settings::default(),
         plain_only: false,
         against: None,
+        raised: false,
         calls: Calls {
             form: Form::Second,
             work: LEAST_WORK,
@@ -96,6 +102,7 @@ fn asked_options(arguments: &[String]) -> Result<Options, String> {
                 let program = rest.next().ok_or("--against takes a program")?;
                 options.against = Some(program.into());
             }
+            "--raised" => options.raised = true,
             "--first-form" => options.calls.form = Form::First,
             "--work" => options.calls.work = asked_work(rest.next())?,
             "--sets" => options.source = Source::Sets,
@@ -106,6 +113,9 @@ fn asked_options(arguments: &[String]) -> Result<Options, String> {
     }
     if options.plain_only && options.against.is_some() {
         return Err("with --plain-only nothing is measured against another library".into());
+    }
+    if options.raised && options.against.is_none() {
+        return Err("--raised is for another library; name it with --against".into());
     }
     Ok(options)
 }
@@ -160,6 +170,8 @@ struct Sides {
     chooser: Option<ChooserSide>,
     /// The chooser with another library, in place of plain Rust.
     other: Option<ChooserSide>,
+    /// Whether that is handed ceilings one larger.
+    raised: bool,
     plain: PlainSide,
     toulbar2: bool,
     limit: Duration,
@@ -173,6 +185,7 @@ impl Sides {
         Ok(Sides {
             chooser,
             other: other.map(|program| start(Some(program))).transpose()?,
+            raised: options.raised,
             plain: PlainSide::new(options.settings, options.limit),
             toulbar2: columns.toulbar2,
             limit: options.limit,
@@ -200,7 +213,11 @@ impl Sides {
             let run = chooser.run(&case.bytes)?;
             return Ok((Some(run), self.plain.run(&case.bytes)));
         };
-        let (one, two) = run_in_turns(chooser, other, &case.bytes)?;
+        let other_bytes = match self.raised {
+            true => raised_bytes(case)?,
+            false => case.bytes.clone(),
+        };
+        let (one, two) = run_in_turns([chooser, other], [&case.bytes, &other_bytes])?;
         Ok((Some(one), two))
     }
 
@@ -212,19 +229,32 @@ impl Sides {
     }
 }
 
-/// Two libraries take turns at a problem, each time in new processes, and the least time of each
-/// counts; no further turn where one of them gives up.
+/// The bytes of a problem with each ceiling one larger.
+fn raised_bytes(case: &Case) -> Result<Vec<u8>, String> {
+    let reading = read_problem(&case.bytes).ok();
+    let problem = reading.and_then(|reading| raised(reading.problem));
+    let problem = problem.ok_or_else(|| {
+        format!(
+            "{} has a ceiling of {}, which --raised cannot make larger; leave --raised out, or lower it",
+            case.name,
+            u32::MAX
+        )
+    })?;
+    Ok(problem.encode())
+}
+
+/// Two libraries take turns at a problem, each on its own bytes and each time in new processes, and the
+/// least time of each counts; no further turn where one of them gives up.
 fn run_in_turns(
-    chooser: &mut ChooserSide,
-    other: &mut ChooserSide,
-    bytes: &[u8],
+    [chooser, other]: [&mut ChooserSide; 2],
+    [bytes, other_bytes]: [&[u8]; 2],
 ) -> Result<(Run, Run), String> {
-    let mut least = (chooser.run(bytes)?, other.run(bytes)?);
+    let mut least = (chooser.run(bytes)?, other.run(other_bytes)?);
     for _ in 1..TURNS {
         if !(least.0.is_answered() && least.1.is_answered()) {
             break;
         }
-        let again = (chooser.run_anew(bytes)?, other.run_anew(bytes)?);
+        let again = (chooser.run_anew(bytes)?, other.run_anew(other_bytes)?);
         least = (least.0.quicker(again.0), least.1.quicker(again.1));
     }
     Ok(least)
@@ -255,6 +285,9 @@ fn print_report(options: &Options, columns: Columns, report: &Report) {
     println!("Over: more than {slow} s, or given up.{nodes}");
     if columns.chooser {
         println!("Ratio: the chooser's speed over {baseline}, 1 is equal and less is slower.");
+    }
+    if options.raised {
+        println!("The other library is handed each ceiling one larger.");
     }
     let toulbar2 = match columns.toulbar2 {
         true => "toulbar2 runs on problems with one objective; its times are what passes.",

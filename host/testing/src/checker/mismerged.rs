@@ -11,8 +11,8 @@ use super::law::{half_problem, Cutter};
 /// What is done to a right list, given the sums pair by pair.
 type Tamper = fn(&mut Vec<Listed>, &[Listed]);
 
-/// The sums with their merged choices, pair by pair, as they come from the halves' lists. A sum
-/// above 32 bits becomes the greatest number, which no list has.
+/// The sums with their merged choices, pair by pair, as they come from the halves' lists, without those
+/// above 32 bits, which no list has.
 fn merged_pairs(problem: &Problem, sides: &[u8]) -> Vec<Listed> {
     let [first, second] = [0, 1].map(|side| {
         let half = half_problem(problem, sides, side);
@@ -22,12 +22,14 @@ fn merged_pairs(problem: &Problem, sides: &[u8]) -> Vec<Listed> {
         let costs = one.costs.iter().zip(&two.costs);
         let mut values = [one.choice.iter(), two.choice.iter()];
         let mut value = |&side: &u8| *values[usize::from(side)].next().expect("a value");
-        Listed {
-            costs: costs.map(|(a, &b)| a.saturating_add(b)).collect(),
+        Some(Listed {
+            costs: costs
+                .map(|(a, &b)| a.checked_add(b))
+                .collect::<Option<_>>()?,
             choice: sides.iter().map(&mut value).collect(),
-        }
+        })
     };
-    let with_each = |one| second.iter().map(move |two| merged(one, two));
+    let with_each = |one| second.iter().filter_map(move |two| merged(one, two));
     first.iter().flat_map(with_each).collect()
 }
 

@@ -5,13 +5,14 @@ pub mod case;
 pub mod flat;
 pub mod law;
 pub mod mismerged;
+pub mod misread;
 pub mod mutants;
 
 use std::collections::BTreeSet;
 
 use crate::owned::Listed;
 use frontier::limits::{MAX_DOMAIN, MAX_OBJECTIVES, MAX_TABLES, MAX_VARIABLES};
-use frontier::{Problem, Table};
+use frontier::{Problem, Table, FORBIDDEN};
 
 /// A verdict: what was found wrong, if anything.
 pub type Verdict = Result<(), String>;
@@ -63,15 +64,19 @@ pub fn all_choices(problem: &Problem) -> Vec<Vec<u8>> {
 /// A choice and its cost vector.
 pub type Costed = (Vec<u8>, Vec<u64>);
 
-/// The consistent choices with their cost vectors.
+/// The consistent choices with their cost vectors: none meets a forbidden entry or costs more than a ceiling.
 pub fn consistent_choices(problem: &Problem) -> Vec<Costed> {
-    let costed = all_choices(problem).into_iter().map(|x| {
+    let allowed = all_choices(problem).into_iter().filter(|x| {
+        let mut entries = problem.tables.iter().map(|table| entry(problem, table, x));
+        entries.all(|cost| cost < u64::from(FORBIDDEN))
+    });
+    let costed = allowed.map(|x| {
         let costs = cost_of(problem, &x);
         (x, costs)
     });
     let ceilings = &problem.ceilings;
-    let below = |costs: &[u64]| (0..costs.len()).all(|i| costs[i] < u64::from(ceilings[i]));
-    costed.filter(|(_, costs)| below(costs)).collect()
+    let over = |costs: &[u64]| (0..costs.len()).any(|i| costs[i] > u64::from(ceilings[i]));
+    costed.filter(|(_, costs)| !over(costs)).collect()
 }
 
 /// At most as large in each objective: "matches or beats".

@@ -74,19 +74,6 @@ pub fn wrong_lists(consistent: &[Costed], list: &[Listed]) -> Vec<(&'static str,
     wrong
 }
 
-/// The bytes with each ceiling one higher: a cost equal to its ceiling is then allowed. Bytes that
-/// are no problem stay as they are.
-fn with_higher_ceilings(problem: &[u8]) -> Vec<u8> {
-    let Ok(reading) = read_problem(problem) else {
-        return problem.to_vec();
-    };
-    let mut higher = reading.problem;
-    for ceiling in &mut higher.ceilings {
-        *ceiling = ceiling.saturating_add(1);
-    }
-    higher.encode()
-}
-
 /// The bytes with each scope sorted and its table as it was: the written order is ignored. Bytes that
 /// are no problem stay as they are.
 fn with_sorted_scopes(problem: &[u8]) -> Vec<u8> {
@@ -134,9 +121,6 @@ pub fn each_wrong_solver(test: impl Fn(&str, Solver)) {
     });
     let one_point = |_: &mut Buffers, answer: &mut Answer| answer.count = answer.count.min(1);
     test("stops after one point", &after(one_point));
-    test("ceiling allowed", &|problem, costs, choices, work| {
-        solve_problem(&with_higher_ceilings(problem), costs, choices, work)
-    });
     test("scopes sorted", &|problem, costs, choices, work| {
         solve_problem(&with_sorted_scopes(problem), costs, choices, work)
     });

@@ -4,7 +4,7 @@
 use super::directions::{Directions, Vector};
 use super::order::{has, scope_set, VariableSet};
 use frontier::limits::{MAX_DOMAIN, MAX_VARIABLES};
-use frontier::{Problem, Table};
+use frontier::{Problem, Table, FORBIDDEN};
 
 /// A value for each variable; those that have none yet are not read.
 pub type Values = [u8; MAX_VARIABLES];
@@ -81,7 +81,7 @@ impl<const D: usize> Function<D> {
                 place += rest % sizes[variable] * self.stride_of(variable);
                 rest /= sizes[variable];
             }
-            self.entries[place][usize::from(table.objective)] += u64::from(cost);
+            self.entries[place][usize::from(table.objective)] += weight(cost);
         }
     }
 
@@ -103,6 +103,14 @@ pub struct Bucket<const D: usize> {
     /// The messages sent: the position that received each, and its number among the functions
     /// there.
     pub sent: Vec<(usize, usize)>,
+}
+
+/// What an entry counts: its cost, and a forbidden one more than every ceiling.
+fn weight(entry: u32) -> u64 {
+    match entry {
+        FORBIDDEN => 1 << 32,
+        cost => cost.into(),
+    }
 }
 
 /// The buckets of a problem with its tables, in search order, and the sum of what no variable
@@ -127,7 +135,7 @@ pub fn fill_buckets<const D: usize>(
         let last = order.iter().rposition(|&variable| has(scope, variable));
         match last {
             Some(position) => buckets[position].add_table(table, &sizes),
-            None => base[usize::from(table.objective)] += u64::from(table.costs[0]),
+            None => base[usize::from(table.objective)] += weight(table.costs[0]),
         }
     }
     for function in buckets.iter_mut().flat_map(|bucket| &mut bucket.functions) {

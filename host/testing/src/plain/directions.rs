@@ -2,7 +2,7 @@
 
 use super::settings::MOST_SUMS;
 use frontier::limits::MAX_OBJECTIVES;
-use frontier::Problem;
+use frontier::{Problem, FORBIDDEN};
 
 /// A number in each direction: the p objectives, then the sums. Unused ones are 0. The number of
 /// directions is a parameter, so that problems with few of them do not pay for all.
@@ -42,19 +42,19 @@ type Four = [u64; MAX_OBJECTIVES];
 
 /// What is known of the objectives' costs before the search.
 pub struct Extent {
-    /// How far the entries below the ceiling lie apart, added up; the slack where they do not.
+    /// How far the entries within the ceiling lie apart, added up; the slack where they do not.
     spreads: Four,
     /// What the ceiling leaves above the least possible sum: at least a sixteenth of the largest
     /// sum there may be, since a larger weight would make corners overflow, and at least 1.
     slacks: Four,
-    /// Whether a ceiling forbids sums that the entries below it allow.
+    /// Whether a ceiling forbids sums that the entries within it allow.
     pub binds: bool,
 }
 
 impl Extent {
     pub fn new(problem: &Problem) -> Extent {
         let (lows, mosts) = sums_of_entries(problem);
-        let last = |j: usize| u64::from(problem.ceilings.get(j).map_or(0, |c| c.saturating_sub(1)));
+        let last = |j: usize| u64::from(problem.ceilings.get(j).copied().unwrap_or(0));
         let top = |j: usize| mosts[j].min(last(j));
         let slack = |j: usize| top(j).saturating_sub(lows[j]).max(top(j) >> 4) + 1;
         let spread = |j: usize| match mosts[j] - lows[j] {
@@ -69,13 +69,14 @@ impl Extent {
     }
 }
 
-/// For each objective the sums of the least and of the largest entries below its ceiling.
+/// For each objective the sums of the least and of the largest entries that are within its ceiling and allowed.
 fn sums_of_entries(problem: &Problem) -> (Four, Four) {
     let (mut lows, mut mosts) = ([0; MAX_OBJECTIVES], [0; MAX_OBJECTIVES]);
     for table in &problem.tables {
         let objective = usize::from(table.objective);
         let ceiling = problem.ceilings[objective];
-        let allowed = table.costs.iter().filter(|&&cost| cost < ceiling);
+        let within = |cost: u32| cost <= ceiling && cost < FORBIDDEN;
+        let allowed = table.costs.iter().filter(|&&cost| within(cost));
         if let (Some(&least), Some(&most)) = (allowed.clone().min(), allowed.max()) {
             lows[objective] += u64::from(least);
             mosts[objective] += u64::from(most);

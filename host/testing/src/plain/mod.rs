@@ -244,7 +244,7 @@ impl Task<'_> {
         let choices = choices.chunks_exact_mut(self.problem.variables());
         for ((point, costs), choices) in points.iter().zip(costs).zip(choices) {
             for (slot, &cost) in costs.iter_mut().zip(&point.costs) {
-                *slot = cost as u32; // below a 32-bit ceiling
+                *slot = cost as u32; // at most a 32-bit ceiling
             }
             for (variable, slot) in choices.iter_mut().enumerate() {
                 *slot = value_in(point.choice, variable);

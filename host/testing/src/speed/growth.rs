@@ -127,7 +127,7 @@ fn add_pair_tables(rng: &mut Rng, problem: &mut Problem, scope: [u8; 2]) {
     }
 }
 
-/// Ceilings a twentieth above the costs of the choice with the least sum of all costs.
+/// Ceilings that leave less than a twentieth above the costs of the choice with the least sum of all costs.
 fn near_ceilings(problem: &Problem) -> Vec<u32> {
     let mut summed = problem.clone();
     summed.ceilings = vec![FORBIDDEN];
@@ -139,11 +139,11 @@ fn near_ceilings(problem: &Problem) -> Vec<u32> {
     let settings = Settings::default();
     let (costs, choices) = (&mut lent.costs, &mut lent.choices);
     let answer = solve_problem(&settings, &bytes, costs, choices, work_length);
-    assert_eq!(answer.count, 1, "no choice has a sum of 2^32");
+    assert_eq!(answer.count, 1, "every sum is below 2^32");
     let tables: Vec<&Table> = problem.tables.iter().collect();
     let costs = cost_vector(problem, &tables, &lent.choices[..problem.variables()]);
     costs
         .iter()
-        .map(|&cost| (cost + cost / 20) as u32)
+        .map(|&cost| (cost + cost / 20).saturating_sub(1) as u32)
         .collect()
 }

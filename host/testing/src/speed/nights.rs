@@ -19,6 +19,9 @@ const KINDS: [usize; 4] = [56, 31, 7, 6];
 /// Of a hundred variables, how many have two values, three, and so on to eight.
 const DOMAINS: [usize; 7] = [30, 30, 16, 8, 8, 4, 4];
 
+/// A ceiling that no sum reaches here, and that can be raised by one.
+const LARGE: u32 = FORBIDDEN - 1;
+
 /// What the ceilings of a problem are like.
 #[derive(Clone, Copy, Debug, PartialEq, Eq)]
 enum Kind {
@@ -26,7 +29,7 @@ enum Kind {
     Budget,
     /// The same, and most of what is left goes to one objective.
     Share,
-    /// The greatest there are.
+    /// So large that only forbidden entries leave choices out.
     Free,
     /// So low that no choice keeps them.
     Short,
@@ -63,7 +66,7 @@ fn night_problem(rng: &mut Rng, is_largest: bool) -> Problem {
     };
     let objectives = 1 + share_of(rng, &OBJECTIVES);
     let mut problem = Problem {
-        ceilings: vec![FORBIDDEN; objectives],
+        ceilings: vec![LARGE; objectives],
         domains: (0..variables).map(|_| domain(rng)).collect(),
         tables: Vec::new(),
     };
@@ -168,7 +171,7 @@ fn add_shared_tables(rng: &mut Rng, problem: &mut Problem, scope: &[u8], scales:
     }
 }
 
-/// The ceilings of a kind: above the costs of a choice that no change of one value makes better.
+/// The ceilings of a kind: by the costs of a choice that no change of one value makes better.
 fn ceilings_of(rng: &mut Rng, problem: &Problem, kind: Kind) -> Vec<u32> {
     if kind == Kind::Free {
         return problem.ceilings.clone();
@@ -182,8 +185,8 @@ fn ceilings_of(rng: &mut Rng, problem: &Problem, kind: Kind) -> Vec<u32> {
         _ => 102 + rng.below(12) as u64,
     };
     let ceiling = |(objective, &cost): (usize, &u64)| {
-        let ceiling = cost * above(rng, objective) / 100 + 1;
-        u32::try_from(ceiling).unwrap_or(FORBIDDEN)
+        let ceiling = cost * above(rng, objective) / 100;
+        u32::try_from(ceiling).unwrap_or(LARGE)
     };
     costs.iter().enumerate().map(ceiling).collect()
 }

@@ -8,15 +8,17 @@ use std::iter::once;
 
 use crate::reading::read_problem;
 use frontier::lent::Answer;
-use frontier::{Problem, Refusal, Table};
+use frontier::{Problem, Refusal, Table, FORBIDDEN};
 use network::Network;
 
 /// Writes a problem as WCSP text (reference, section 13), with refusals 1 to 11, 18 and 19.
 pub fn to_text(problem: &[u8], text: &mut [u8]) -> Answer {
     match read_problem(problem) {
         Err(refusal) => refusal.into(),
-        Ok(reading) if reading.problem.objectives() > 1 => Refusal::Dialect.into(),
-        Ok(reading) => put(text_of(&reading.problem).as_bytes(), text),
+        Ok(reading) => match text_of(&reading.problem) {
+            None => Refusal::Dialect.into(),
+            Some(written) => put(written.as_bytes(), text),
+        },
     }
 }
 
@@ -31,10 +33,11 @@ pub fn from_text(text: &[u8], problem: &mut [u8]) -> Answer {
     }
 }
 
-/// The problem with all its tables in one objective, which has the first ceiling.
+/// The problem with all its tables in one objective, under the first ceiling, but at most the greatest that a
+/// text can have.
 pub fn in_one_objective(problem: &Problem) -> Problem {
     let mut problem = problem.clone();
-    problem.ceilings.truncate(1);
+    problem.ceilings = vec![problem.ceilings[0].min(u32::MAX - 1)];
     problem
         .tables
         .iter_mut()
@@ -53,25 +56,34 @@ fn put(form: &[u8], buffer: &mut [u8]) -> Answer {
     }
 }
 
-/// The text of a problem with one objective.
-fn text_of(problem: &Problem) -> String {
+/// The text of a problem with one objective, if 32 bits are enough for its upper bound: the least cost that
+/// is above the ceiling.
+fn text_of(problem: &Problem) -> Option<String> {
+    let [ceiling] = problem.ceilings[..] else {
+        return None;
+    };
+    let bound = ceiling.checked_add(1)?;
     let largest = problem.domains.iter().max().expect("a variable");
     let first = format!(
-        "P {} {largest} {} {}\n",
+        "P {} {largest} {} {bound}\n",
         problem.variables(),
         problem.tables.len(),
-        problem.ceilings[0]
     );
     let functions = problem.tables.iter();
-    let functions = functions.map(|table| function_text(table, &problem.domains));
+    let functions = functions.map(|table| function_text(table, &problem.domains, bound));
     let sizes = line(problem.domains.iter().copied().map(u32::from));
-    once(first).chain(once(sizes)).chain(functions).collect()
+    Some(once(first).chain(once(sizes)).chain(functions).collect())
 }
 
-/// A record's head, and a line for each entry that is not 0. Without variables the default is the entry.
-fn function_text(table: &Table, domains: &[u8]) -> String {
+/// A record's head, and a line for each entry that is not 0. Without variables the default is the entry. An
+/// entry that forbids costs the upper bound.
+fn function_text(table: &Table, domains: &[u8], bound: u32) -> String {
+    let written = |index: usize| match table.costs[index] {
+        FORBIDDEN => bound,
+        cost => cost,
+    };
     if table.scope.is_empty() {
-        return line([0, table.costs[0], 0]);
+        return line([0, written(0), 0]);
     }
     let arity = table.scope.len() as u32;
     let scope = table.scope.iter().copied().map(u32::from);
@@ -83,7 +95,7 @@ fn function_text(table: &Table, domains: &[u8]) -> String {
     );
     let tuple = |index: usize| {
         let values = values_at(&table.scope, domains, index);
-        line(values.into_iter().chain([table.costs[index]]))
+        line(values.into_iter().chain([written(index)]))
     };
     once(head).chain(charged.map(tuple)).collect()
 }

@@ -160,7 +160,8 @@ impl Network {
             .iter()
             .map(|function| function.table(&domains));
         Some(Problem {
-            ceilings: vec![cost(&self.bound)?],
+            // The bound is strict, so that the greatest cost that is allowed is one less.
+            ceilings: vec![cost(&self.bound)?.checked_sub(1)?],
             tables: tables.collect::<Option<Vec<Table>>>()?,
             domains,
         })

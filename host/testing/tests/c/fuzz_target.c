@@ -115,17 +115,32 @@ static uint32_t convert_all(converting *call, const uint8_t *form, size_t form_l
     return count;
 }
 
-/* Both converting calls: the input as a problem, the text of it read back to its bytes, and the input as a text. */
+/* The text of an input that is a problem, read back, is a problem of the same length and with the same text. It differs
+ * in forbidden entries alone, whose bytes are all 255 and which have become the upper bound. */
+static void text_back(const struct lent *lent, uint32_t count) {
+    static uint8_t text[FRONTIER_TEXT_LEN];
+    size_t back = convert(frontier_from_text, text_end - count, count, read_end, lent->size);
+    if (back != lent->size)
+        abort();
+    const uint8_t *read = read_end - back;
+    for (size_t i = 0; i < back; i++)
+        if (read[i] != lent->problem[i] && lent->problem[i] != 255)
+            abort();
+    memcpy(text, text_end - count, count);
+    if (convert(frontier_to_text, read, back, text_end, count) != count)
+        abort();
+    if (memcmp(text_end - count, text, count))
+        abort();
+}
+
+/* Both converting calls: the input as a problem, the text of it read back, and the input as a text. */
 static void text_all(const struct lent *lent) {
     size_t most = lent->size * FRONTIER_TEXT_LEN / FRONTIER_MAX_BYTES;
     if (most > FRONTIER_TEXT_LEN)
         most = FRONTIER_TEXT_LEN;
     uint32_t count = convert_all(frontier_to_text, lent->problem, lent->size, text_end, most);
-    if (count) {
-        size_t back = convert(frontier_from_text, text_end - count, count, read_end, lent->size);
-        if (back != lent->size || memcmp(read_end - back, lent->problem, back))
-            abort();
-    }
+    if (count)
+        text_back(lent, count);
     convert_all(frontier_from_text, lent->problem, lent->size, read_end, FRONTIER_MAX_BYTES);
 }
 
