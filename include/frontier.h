@@ -23,9 +23,10 @@
  * is below v or above.
  *
  * The cost of a choice (a value for each variable) in an objective is the sum of the entries that its values select in
- * that objective's records. A choice is allowed if every cost is strictly below its objective's ceiling. An entry of
- * 4294967295 is below no ceiling, so it forbids its combination. One choice beats another if it costs at most as much
- * in every objective and less in some. The frontier is the set of cost vectors of the allowed choices that no allowed
+ * that objective's records. A ceiling is the greatest cost that is allowed, and an entry of 4294967295 is forbidden
+ * under every ceiling: a choice is allowed if every cost is at most its objective's ceiling, and none of the entries
+ * that its values select, in whatever objective, is forbidden. One choice beats another if it costs at most as much in
+ * every objective and less in some. The frontier is the set of cost vectors of the allowed choices that no allowed
  * choice beats.
  *
  * A refusal gives a number and a place: the first byte of the record concerned (2 to 10, and 14 for the first
@@ -38,8 +39,8 @@
 #include <stdint.h>
 
 /* The version of this header, and in one number: 1002003 is 1.2.3. frontier_version gives that of the library. */
-#define FRONTIER_VERSION_MAJOR 2
-#define FRONTIER_VERSION_MINOR 2
+#define FRONTIER_VERSION_MAJOR 3
+#define FRONTIER_VERSION_MINOR 0
 #define FRONTIER_VERSION_PATCH 0
 #define FRONTIER_VERSION (FRONTIER_VERSION_MAJOR * 1000000 + FRONTIER_VERSION_MINOR * 1000 + FRONTIER_VERSION_PATCH)
 
@@ -85,7 +86,7 @@
 #define FRONTIER_REFUSED_FULL 15      /* more points than room; in the cut call also a half's frontier above 64 */
 #define FRONTIER_REFUSED_PREFIX 16    /* prefix longer than n, or a value not in its domain */
 #define FRONTIER_REFUSED_TEXT 17      /* not WCSP text, a false largest domain, an undeclared variable or value */
-#define FRONTIER_REFUSED_DIALECT 18   /* p above 1; of a text: outside the limits, negative, too large, given twice */
+#define FRONTIER_REFUSED_DIALECT 18   /* what the other form cannot have, as the two calls with text say */
 #define FRONTIER_REFUSED_OUTPUT 19    /* the buffer is shorter than the text, problem or form that it is for */
 #define FRONTIER_REFUSED_STORE 20     /* store under one slot, 63,000 bytes */
 
@@ -125,7 +126,7 @@ uint32_t frontier_version(void);
  *   place    one number, written               no    nothing
  *   count    one number, written               no    nothing
  *
- * A listed point is a cost vector and a choice that has it. The points stand in rising order of their vectors,
+ * A listed point is a cost vector and an allowed choice that has it. The points stand in rising order of their vectors,
  * objective 0 compared first, then 1, and so on. Each vector stands once, however many allowed choices have it, with
  * the earliest of them: the one with the smallest value of variable 0, among those the smallest of variable 1, and so
  * on.
@@ -177,9 +178,9 @@ uint8_t frontier_solve(const uint8_t *problem, size_t problem_len, uint32_t *cos
  * every objective and in half 0 what the records of arity 0 charge.
  *
  * The points are those that frontier_solve lists, in the same order and with the same choices, whichever side is 0.
- * They are made from the sums of one vector of each half's frontier, over all pairs. A sum is listed, once, if it is
- * strictly below the ceilings and no other such sum beats it; the choice with it is the earliest that a pair with this
- * sum gives, where a pair gives each variable the value that its half's listed choice has for it. Exchanging the sides
+ * They are made from the sums of one vector of each half's frontier, over all pairs. A sum is listed, once, if it is at
+ * most the ceilings and no other such sum beats it; the choice with it is the earliest that a pair with this sum
+ * gives, where a pair gives each variable the value that its half's listed choice has for it. Exchanging the sides
  * may change the half sizes, and whether a half has too many points, because the records of arity 0 then go with the
  * other variables.
  *
@@ -219,10 +220,10 @@ uint8_t frontier_cut(const uint8_t *problem, size_t problem_len, const uint8_t *
  * all are free, with length n none is, and then the bound is the cost itself.
  *
  * least[k] becomes the sum, over the records of objective k, of the least table entry that agrees with the prefix:
- * below 2^40, and 0 for k from p on. Ceilings play no part. The number of refusal is the result: 0 for none, 1 to 11
- * for the problem, or FRONTIER_REFUSED_PREFIX for the prefix, which is looked at last. *place becomes the place of the
- * refusal, and 0 without one. All four numbers of least and *place are always written, whatever they held; after a
- * refusal least is all 0. */
+ * below 2^40, and 0 for k from p on. Ceilings play no part, and a forbidden entry counts as the number that it is. The
+ * number of refusal is the result: 0 for none, 1 to 11 for the problem, or FRONTIER_REFUSED_PREFIX for the prefix,
+ * which is looked at last. *place becomes the place of the refusal, and 0 without one. All four numbers of least and
+ * *place are always written, whatever they held; after a refusal least is all 0. */
 uint8_t frontier_bound(const uint8_t *problem, size_t problem_len, const uint8_t *prefix, size_t prefix_len,
                        uint64_t least[FRONTIER_MAX_OBJECTIVES], uint32_t *place);
 
@@ -270,21 +271,23 @@ uint8_t frontier_points(const uint8_t *problem, size_t problem_len, struct front
  *   place    one number, written               no    nothing
  *   count    one number, written               no    nothing
  *
- * The first line of the text is P, n, the largest domain size, r and the ceiling; the second is the domain sizes. Then
- * each cost record follows, in their order. Its head is a line with the arity, the scope as the record names it, the
- * default cost 0, and how many entries of the table are not 0; each of these has a line in the table's order: the value
- * of each variable of the scope, and the entry. A record of arity 0 is one line: 0, its entry, 0. Numbers are decimal
- * without leading zeros, one space stands between two of a line, a line feed (10) ends each line, and there is no other
- * byte, so none of value 0 at the end. Every choice costs by the text what it costs by the problem, and the upper bound
- * of the text is the ceiling: what costs as much or more is not allowed.
+ * The first line of the text is P, n, the largest domain size, r and the upper bound, which is one above the ceiling;
+ * the second is the domain sizes. Then each cost record follows, in their order. Its head is a line with the arity, the
+ * scope as the record names it, the default cost 0, and how many entries of the table are not 0; each of these has a
+ * line in the table's order: the value of each variable of the scope, and the entry. A record of arity 0 is one line:
+ * 0, its entry, 0. A forbidden entry is written as the upper bound. Numbers are decimal without leading zeros, one
+ * space stands between two of a line, a line feed (10) ends each line, and there is no other byte, so none of value 0
+ * at the end. In a text what costs as much as the upper bound or more is not allowed; so the same choices are allowed
+ * by the text and by the problem, and each of them costs the same.
  *
  * A text has at most FRONTIER_TEXT_LEN bytes, which so do for every problem. Nothing in the answer depends on what the
  * buffer held before.
  *
  * The number of refusal is the result: 0 for none, 1 to 11 for the problem, then FRONTIER_REFUSED_DIALECT if p is above
- * 1, then FRONTIER_REFUSED_OUTPUT if text_len is less than the text has bytes. *place becomes the place of the refusal,
- * 0 with the last two and without one; *count becomes how many bytes the text has, and 0 after a refusal. Both are
- * always written, whatever they held. What the buffer holds afterwards:
+ * 1 or the ceiling is 4294967295, which has no upper bound above it, then FRONTIER_REFUSED_OUTPUT if text_len is less
+ * than the text has bytes. *place becomes the place of the refusal, 0 with the last two and without one; *count becomes
+ * how many bytes the text has, and 0 after a refusal. Both are always written, whatever they held. What the buffer
+ * holds afterwards:
  *
  *   result                 text
  *   FRONTIER_ACCEPTED      the first *count bytes are the text, the rest is unchanged
@@ -307,9 +310,11 @@ uint8_t frontier_to_text(const uint8_t *problem, size_t problem_len, uint8_t *te
  * tuples, and for each tuple the value of each variable of the scope, and a cost. Behind the last function nothing
  * follows. A function of arity 0 has no tuples.
  *
- * The problem has one objective, with the upper bound as its ceiling. Each function becomes a cost record, in their
- * order and with its scope as the function names it. An entry is the cost of its tuple, or the default where none is
- * given. Every choice costs by the problem what it costs by the text.
+ * The problem has one objective, whose ceiling is one below the upper bound. Each function becomes a cost record, in
+ * their order and with its scope as the function names it. An entry is the cost of its tuple, or the default where none
+ * is given, as the text has it, also where it is the upper bound or more. Every choice costs by the problem what it
+ * costs by the text, and the same choices are allowed. The text that frontier_to_text writes is read as its problem, to
+ * the byte but for forbidden entries: these are read as the upper bound, which is above the ceiling.
  *
  * A problem has at most FRONTIER_MAX_BYTES bytes, which so do for every text. Nothing in the answer depends on what the
  * buffer held before.
@@ -321,8 +326,9 @@ uint8_t frontier_to_text(const uint8_t *problem, size_t problem_len, uint8_t *te
  *                             not declared; a number of variables or functions, the largest domain size, a variable or
  *                             a value is negative; or a function of arity 0 has tuples
  *   FRONTIER_REFUSED_DIALECT  an arity, domain size, cost, upper bound or number of tuples is negative; a cost or the
- *                             upper bound is above 4294967295; a tuple is given twice in its function, or a variable in
- *                             its scope; or the problem would be outside a limit, that of its bytes included
+ *                             upper bound is above 4294967295; the upper bound is 0; a tuple is given twice in its
+ *                             function, or a variable in its scope; or the problem would be outside a limit, that of
+ *                             its bytes included
  *   FRONTIER_REFUSED_OUTPUT   problem_len is less than the problem has bytes
  *
  * But what stands behind the first negative arity, domain size, cost, upper bound or number of tuples is not read, so
@@ -405,9 +411,10 @@ uint8_t frontier_canonical(const uint8_t *problem, size_t problem_len, uint8_t *
  * was.
  *
  * The bytes of a store may be kept, in a file for example, and lent again later; they are the same in all versions with
- * the same major number, to the byte as docs/REFERENCE.md, section 15, has them. A store that did not begin cleared, or
- * that something else was written to, does no harm: nothing is read or written outside of what is lent. But what it
- * holds is taken for answers, which may then be wrong.
+ * the same major number, to the byte as docs/REFERENCE.md, section 15, has them. With another major number a store is to
+ * be cleared first, since it would give the answers of the old version. A store that did not begin cleared, or that
+ * something else was written to, does no harm: nothing is read or written outside of what is lent. But what it holds is
+ * taken for answers, which may then be wrong.
  *
  * The number of refusal is the result: 0 for none, 1 to 11 for the problem, then FRONTIER_REFUSED_WORK if work is too
  * short, then FRONTIER_REFUSED_STORE if store_len is less than FRONTIER_SLOT_BYTES, then FRONTIER_REFUSED_FULL if the

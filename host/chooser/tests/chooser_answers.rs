@@ -78,15 +78,16 @@ fn the_packed_example_says_what_the_text_says() {
 fn one_point_and_none_are_told() {
     let one = run_with(&["solve", "-"], &lone(1, 1).encode()).with(0);
     assert_eq!(one.text(), "1 point\n\ncost 0  |  module 0\n     0  |  0\n");
-    let none = run_with(&["solve", "-"], &lone(1, 0).encode()).with(0);
-    assert!(none.text().starts_with("no points: "), "{}", none.text());
-    let json = run_with(&["solve", "--json", "-"], &lone(1, 0).encode()).with(0);
+    let none = colours([2, 3]).encode();
+    let told = run_with(&["solve", "-"], &none).with(0);
+    assert!(told.text().starts_with("no points: "), "{}", told.text());
+    let json = run_with(&["solve", "--json", "-"], &none).with(0);
     assert_eq!(parse(json.text()).at("points").items(), []);
 }
 
 #[test]
 fn room_is_what_was_asked_for() {
-    let bytes = staircase([64, 200]).encode();
+    let bytes = staircase([63, 200]).encode();
     run_with(&["solve", "-"], &bytes).with(0);
     run_with(&["solve", "-", "--room", "64"], &bytes).with(0);
     let small = run_with(&["solve", "-", "--room=63"], &bytes).with(1);
@@ -94,8 +95,8 @@ fn room_is_what_was_asked_for() {
     let pair = pair([9, 9]).encode();
     run_with(&["cut", "-", "01", "--room", "3"], &pair).with(0);
     run_with(&["cut", "-", "01", "--room", "2"], &pair).with(1);
-    run_with(&["solve", "-", "--room", "0"], &lone(1, 0).encode()).with(0);
-    run_with(&["solve", "-", "--room", "0"], &lone(1, 1).encode()).with(1);
+    run_with(&["solve", "-", "--room", "0"], &colours([2, 3]).encode()).with(0);
+    run_with(&["solve", "-", "--room", "0"], &lone(1, 0).encode()).with(1);
     for room in ["65", "-1", "many", ""] {
         let ended = run_with(&["solve", "-", "--room", room], &bytes).with(2);
         ended.tells(&["--room takes a number from 0 to 64"]);
@@ -119,10 +120,12 @@ cycles      1880     9000
         let ended = run(&["bound", "examples/firmware.txt", prefix]).with(0);
         assert!(ended.text().starts_with("every choice costs at least\n"));
     }
-    let hopeless = run_with(&["bound", "-", "2"], &three([2, 3]).encode()).with(0);
+    let met = run_with(&["bound", "-", "2"], &three([2, 3]).encode()).with(0);
+    assert!(met.text().contains("cost 0         2        2\n"));
+    let hopeless = run_with(&["bound", "-", "2"], &three([1, 3]).encode()).with(0);
     assert!(hopeless
         .text()
-        .contains("cost 0         2        2  not below it\n"));
+        .contains("cost 0         2        1  above it\n"));
 }
 
 #[test]

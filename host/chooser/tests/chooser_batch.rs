@@ -19,7 +19,7 @@ fn problems() -> Vec<(&'static str, Vec<u8>)> {
         ("a", colours([100, 100]).encode()),
         ("b, \"c\"", objects([13, 100, 100]).encode()),
         ("empty", vec![]),
-        ("full", staircase([65, 200]).encode()),
+        ("full", staircase([64, 200]).encode()),
         ("large", vec![b'H'; 70_000]),
         ("three", three([3, 3]).encode()),
     ]

@@ -121,7 +121,7 @@ fn a_second_run_has_its_answers_from_the_first() {
 /// The last 32 problems that were stored, whatever runs they were stored in.
 #[test]
 fn the_last_32_problems_are_held() {
-    let problems: Vec<Problem> = (0..40).map(|points| staircase([points, 200])).collect();
+    let problems: Vec<Problem> = (0..40).map(|ceiling| staircase([ceiling, 200])).collect();
     let folder = batch_folder("last", &problems);
     let mut cache = Cache::new(brute::solve_problem, STORE_BYTES);
     for _ in 0..2 {
@@ -141,7 +141,7 @@ fn the_last_32_problems_are_held() {
 
 #[test]
 fn what_is_refused_is_not_held() {
-    let folder = batch_folder("refused", [&three([3, 3]), &staircase([65, 200])]);
+    let folder = batch_folder("refused", [&three([3, 3]), &staircase([64, 200])]);
     put(&folder, "p02", b"HD");
     put(&folder, "p03", &vec![b'H'; 70_000]);
     for hit in [false, true] {
@@ -205,7 +205,7 @@ fn useless(good: &[u8]) -> Vec<(Vec<u8>, String)> {
         (three([3, 3]).encode(), foreign.into()),
         (changed(0), foreign.into()),
         (changed(7), foreign.into()),
-        (with_version(2_001_001), of_version("2.1.1")),
+        (with_version(2_002_000), of_version("2.2.0")),
         (with_version(version() + 1_000_000), of_version("")),
         (changed(9), of_version("")),
         (

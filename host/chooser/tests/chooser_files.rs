@@ -232,7 +232,7 @@ fn run_closed(words: &[&str], close_error: bool, problem: &[u8]) -> (Option<i32>
 
 #[test]
 fn a_reader_that_ends_early_is_no_error() {
-    let bytes = staircase([64, 200]).encode();
+    let bytes = staircase([63, 200]).encode();
     for words in [
         &["solve", "-"][..],
         &["unpack", "-"],

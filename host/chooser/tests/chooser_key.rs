@@ -99,11 +99,13 @@ fn layouts_have_one_key_and_one_form() {
 #[test]
 fn names_do_not_count_and_costs_do() {
     let key = |text: &str| run_with(&["key", "-"], text.as_bytes()).with(0).out;
-    let one = "costs size < 9\nmodule a: x, y\ntable size over a:\n  x y\n  1 2\n";
-    let other = "# other names\ncosts time < 9\nmodule b: z, w\ntable time over b:\n  w z\n  2 1\n";
+    let one = "costs size <= 9\nmodule a: x, y\ntable size over a:\n  x y\n  1 2\n";
+    let other =
+        "# other names\ncosts time <= 9\nmodule b: z, w\ntable time over b:\n  w z\n  2 1\n";
     assert_eq!(key(one), key(other));
     assert_ne!(key(one), key(&one.replace("1 2", "1 3")));
-    assert_ne!(key(one), key(&one.replace("< 9", "< 8")));
+    assert_ne!(key(one), key(&one.replace("<= 9", "<= 8")));
+    assert_eq!(key(one), key(&one.replace("<= 9", "< 10")));
 }
 
 #[test]

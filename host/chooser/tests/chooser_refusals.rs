@@ -146,7 +146,7 @@ fn of_records() -> Vec<Case> {
 
 fn of_calls() -> Vec<Case> {
     let mut cases = vec![solve(
-        staircase([65, 200]).encode(),
+        staircase([64, 200]).encode(),
         15,
         "full",
         0,
@@ -196,7 +196,7 @@ fn of_calls() -> Vec<Case> {
     );
     ask(
         &["cut", "-", "0001"],
-        staircase([65, 200]),
+        staircase([64, 200]),
         15,
         "full",
         0,

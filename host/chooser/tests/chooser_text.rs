@@ -96,7 +96,7 @@ fn problem_in(text: &str) -> Problem {
 }
 
 const PLAIN: &str = "\
-costs a < 5, b
+costs a <= 5, b
 module m: x, y
 module n: u, v, w
 table a over m n:
@@ -122,9 +122,12 @@ fn layout_does_not_matter_and_names_decide() {
     assert_eq!(problem_in(&PLAIN.replace('\n', "  # said\n\n")), due);
     assert_eq!(problem_in(&format!("\u{feff}{}", PLAIN.trim_end())), due);
     assert_eq!(
-        problem_in(&PLAIN.replace(", ", ",").replace(" < ", "<")),
+        problem_in(&PLAIN.replace(", ", ",").replace(" <= ", "<=")),
         due
     );
+    for below in ["< 6", "<6"] {
+        assert_eq!(problem_in(&PLAIN.replace("<= 5", below)), due);
+    }
     assert_eq!(problem_in(&PLAIN.replace("never", "4294967295")), due);
     let rows = PLAIN.replace("    x 1 2 3\n    y 4 5 never", " y 4 5 never\n x 1 2 3");
     assert_eq!(problem_in(&rows), due);
@@ -138,7 +141,7 @@ fn layout_does_not_matter_and_names_decide() {
 #[test]
 fn no_word_is_kept_from_being_a_name() {
     let text = "\
-costs over < 9
+costs over <= 9
 module table: module, costs, never
 table over over table:
     module costs never
@@ -210,7 +213,7 @@ fn faults_of_statements_are_told_with_line_and_column() {
 
 #[test]
 fn faults_of_names_are_told_with_line_and_column() {
-    assert_fault(&with(", b", ", a"), 1, 14, "'a' names a cost already");
+    assert_fault(&with(", b", ", a"), 1, 15, "'a' names a cost already");
     assert_fault(
         &with("module n", "module m"),
         3,
@@ -250,18 +253,26 @@ fn faults_of_names_are_told_with_line_and_column() {
 
 #[test]
 fn faults_of_numbers_are_told_with_line_and_column() {
-    assert_fault(&with("< 5", "<"), 1, 10, "the ceiling is due");
-    assert_fault(&with("< 5", "< never"), 1, 11, "the ceiling is due");
+    assert_fault(&with("<= 5", "<="), 1, 11, "the ceiling is due");
+    assert_fault(&with("<= 5", "<= never"), 1, 12, "the ceiling is due");
     assert_fault(
-        &with("< 5", "< 4294967296"),
+        &with("<= 5", "<= 4294967296"),
+        1,
+        12,
+        "'4294967296' is too large; the ceiling is at most",
+    );
+    assert_fault(&with("<= 5", "<"), 1, 10, "the bound is due");
+    assert_fault(&with("<= 5", "< = 5"), 1, 11, "the bound is due");
+    assert_fault(
+        &with("<= 5", "< 0"),
         1,
         11,
-        "'4294967296' is too large",
+        "no cost is below 0; write '<= 0'",
     );
     assert_fault(
         &with("5, b", "5 6, b"),
         1,
-        11 + 2,
+        12 + 2,
         "'6' is one word too many",
     );
     assert_fault(
@@ -458,7 +469,7 @@ fn the_largest_problem_with_the_longest_names_is_read() {
 #[test]
 fn changed_texts_are_read_or_told_and_what_is_read_is_accepted() {
     let firmware = fs::read(root().join("examples/firmware.txt")).expect("it is there");
-    let marks = b" \t\n:,<#0179az-\xff_\r";
+    let marks = b" \t\n:,<=#0179az-\xff_\r";
     let mut rng = Rng::new(31);
     let (mut read, mut told) = (0, 0);
     for turn in 0..20_000 {

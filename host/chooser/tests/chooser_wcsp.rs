@@ -5,7 +5,7 @@ use std::fs;
 
 use chooser::junk::Rng;
 use testing::chooser_run::{folder, run, run_with};
-use testing::examples::{brimful, colours, colours_first};
+use testing::examples::{brimful, colours, colours_first, lone};
 use testing::random::{damage, random_problem, Shape};
 use testing::texts::need;
 use testing::wcsp::{in_one_objective, to_text};
@@ -80,6 +80,23 @@ fn more_costs_than_one_are_told_by_their_names() {
     run_with(&["wcsp", "-"], &colours([9, 9]).encode())
         .with(1)
         .tells(&["has 2: cost 0, cost 1\n"]);
+}
+
+/// The upper bound of a text is one above the ceiling, so that the greatest ceiling has none.
+#[test]
+fn a_ceiling_that_is_too_high_is_told_by_its_cost() {
+    let ended = run_with(&["wcsp", "-"], b"costs flash\nmodule uart: small\n").with(1);
+    assert_eq!(ended.out, b"");
+    ended.tells(&[
+        "chooser: standard input is refused with number 18 (dialect) at byte 0\n",
+        "\n  wrong: flash has the ceiling 4294967295, as a cost without one has, and the upper bound",
+        "\n  mend:  give it a lower ceiling; 4294967294 still allows every cost but 4294967295",
+    ]);
+    run_with(&["wcsp", "-"], &lone(1, u32::MAX).encode())
+        .with(1)
+        .tells(&["wrong: cost 0 has the ceiling 4294967295"]);
+    let next = run_with(&["wcsp", "-"], &lone(1, u32::MAX - 1).encode()).with(0);
+    assert_eq!(next.text(), "P 1 1 0 4294967295\n1\n");
 }
 
 #[test]

@@ -106,7 +106,7 @@ fn a_text_problem_is_not_taken_for_it() {
         for before in BEFORE {
             assert!(!is_wcsp(format!("{before}{text}").as_bytes()), "{text}");
         }
-        let written = to_text(&one.encode()).expect("one objective");
+        let written = to_text(&one.encode()).expect("one objective and a bound");
         assert!(is_wcsp(written.as_bytes()), "{written}");
         // A name with a number sign is one that a text problem can start with.
         let text = Said::of(rng, &one).text(rng);
@@ -158,7 +158,7 @@ fn the_name_of_the_file_decides_first() {
 }
 
 /// Texts that are refused, and what a person is told: line and column, what is wrong, number and word.
-const TOLD: [(&str, &str); 27] = [
+const TOLD: [(&str, &str); 28] = [
     (
         "",
         "1:1: the text is empty; a name comes first (refused with number 17, text)",
@@ -209,7 +209,11 @@ const TOLD: [(&str, &str); 27] = [
     ),
     (
         "P 1 1 0 4294967296 1",
-        "1:9: the upper bound is '4294967296', and may be 0 to 4294967295",
+        "1:9: the upper bound is '4294967296', and may be 1 to 4294967295; costs stay below it",
+    ),
+    (
+        "P 1 1 0 0 1",
+        "1:9: the upper bound is '0', and may be 1 to 4294967295; costs stay below it",
     ),
     (
         "P 1 1 0 5 1 1",

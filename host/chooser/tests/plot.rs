@@ -108,7 +108,12 @@ fn drawn_problems() -> Vec<Problem> {
     greatest.tables[0].costs = vec![0, 1_000_000_000, u32::MAX - 1];
     greatest.tables[1].costs = vec![u32::MAX - 1, 10, 9];
     let mut high = lone(1, u32::MAX);
-    high.tables = vec![Table::new(0, &[], &[u32::MAX - 1])];
+    high.tables = vec![
+        Table::new(0, &[], &[u32::MAX - 1]),
+        Table::new(0, &[], &[1]),
+    ];
+    let mut none = lone(1, 4);
+    none.tables = vec![Table::new(0, &[], &[5])];
     let mut four = every_arity();
     four.ceilings = vec![u32::MAX; 4];
     four.tables.remove(0);
@@ -116,13 +121,14 @@ fn drawn_problems() -> Vec<Problem> {
     crowd.tables.push(Table::new(3, &[1], &[2, 1, 0]));
     vec![
         colours([100, 100]),
-        colours([2, 4]),
-        staircase([64, 200]),
+        colours([2, 3]),
+        staircase([63, 200]),
         three([3, 3]),
         objects([13, 100, 100]),
         lone(1, 1),
         lone(1, 0),
         lone(3, u32::MAX),
+        none,
         high,
         greatest,
         four,
@@ -192,8 +198,8 @@ fn names_of_a_text_problem_are_shown() {
     let texts: Vec<String> = root.all("text").map(Element::text).collect();
     for text in [
         "firmware.txt",
-        "flash (below 2,400)",
-        "cycles (below 9,000)",
+        "flash (at most 2,400)",
+        "cycles (at most 9,000)",
     ] {
         assert!(texts.iter().any(|shown| shown == text), "{text}");
     }
@@ -244,7 +250,7 @@ fn what_cannot_be_drawn_is_complained_about_and_nothing_is_lost() {
     fs::write(&out, "old").expect("a file can be written");
     let out = out.to_str().expect("a path that is text");
     let full = scratch("full.bin");
-    fs::write(&full, staircase([65, 200]).encode()).expect("a file can be written");
+    fs::write(&full, staircase([64, 200]).encode()).expect("a file can be written");
     let full = full.to_str().expect("a path that is text");
     assert_complaint(&[full, "-o", out], 1, "number 15 (full)");
     assert_complaint(&["no/such/file", "-o", out], 2, "there is no file");

@@ -1,17 +1,18 @@
 //! The proved variant chooser from Rust.
 //!
 //! A problem has modules ([variables](limits::MAX_VARIABLES)) with several variants each (values),
-//! up to four costs (objectives) with a ceiling each, and cost tables over at most three modules. The
-//! chooser lists its efficient frontier: every cost vector below the ceilings that nothing beats, in
-//! rising order, each with the earliest choice of variants that has it. The same problem always gives
-//! the same list. That is proved, for every input, of the static library that this package links.
+//! up to four costs (objectives) with a ceiling each, and cost tables over at most three modules. A choice
+//! of variants is allowed if no cost is above its ceiling and no table [forbids](FORBIDDEN) it. The chooser
+//! lists the efficient frontier: every cost vector of an allowed choice that no other one beats, in rising
+//! order, each with the earliest allowed choice that has it. The same problem always gives the same list. That
+//! is proved, for every input, of the static library that this package links.
 //!
 //! ```
 //! use frontier::{Chooser, Problem, Table};
 //!
-//! // Two modules with two variants each; flash and cycles, both to stay below 100.
+//! // Two modules with two variants each; at most 50 of flash and 45 of cycles.
 //! let problem = Problem {
-//!     ceilings: vec![100, 100],
+//!     ceilings: vec![50, 45],
 //!     domains: vec![2, 2],
 //!     tables: vec![
 //!         Table::new(0, &[0], &[30, 50]),         // flash of the first module's variants

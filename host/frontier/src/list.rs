@@ -3,8 +3,8 @@
 use std::iter::Zip;
 use std::slice::ChunksExact;
 
-/// The efficient frontier of a problem: every cost vector below the ceilings that no other one beats,
-/// in rising order (the first objective compared first), each with the earliest choice that has it.
+/// The efficient frontier of a problem: every cost vector of an allowed choice that no other one beats,
+/// in rising order (the first objective compared first), each with the earliest allowed choice that has it.
 /// It stands in the buffers of the [`Chooser`](crate::Chooser) that found it.
 #[derive(Clone, Copy, Debug, PartialEq, Eq)]
 pub struct Frontier<'a> {
@@ -39,7 +39,7 @@ impl<'a> Frontier<'a> {
         }
     }
 
-    /// How many points it has; none where no choice is below every ceiling.
+    /// How many points it has; none where no choice is allowed.
     pub fn len(&self) -> usize {
         self.costs.len() / self.objectives
     }

@@ -3,7 +3,7 @@
 use crate::lent::bound_prefix;
 use crate::refusal::{check, Refusal};
 
-/// The entry that no ceiling is above, so that it forbids its combination.
+/// The entry that forbids its combination under every ceiling: a choice that meets it is not allowed.
 pub const FORBIDDEN: u32 = 4_294_967_295;
 
 /// A cost record: one objective's costs over a scope. The variable that stands last in the scope runs
@@ -32,7 +32,7 @@ impl Table {
 /// A problem: p ceilings, n domain sizes, r tables.
 #[derive(Clone, Debug, PartialEq, Eq)]
 pub struct Problem {
-    /// The ceiling of each objective: a point's cost is below it.
+    /// The ceiling of each objective: the greatest cost that is allowed.
     pub ceilings: Vec<u32>,
     /// How many values each variable has.
     pub domains: Vec<u8>,

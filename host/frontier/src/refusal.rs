@@ -100,8 +100,8 @@ pub enum Refusal {
     /// Number 17: a text is not in the WCSP format, states a false largest domain size, or has a variable
     /// or a value that is not declared.
     Text,
-    /// Number 18: the other form cannot have it. A problem has p above 1; or a text has what a problem may
-    /// not have, a negative number, or something twice.
+    /// Number 18: the other form cannot have it. A problem has p above 1, or the ceiling 4,294,967,295; or a text
+    /// has what a problem may not have, a negative number, an upper bound of 0, or something twice.
     Dialect,
     /// Number 19: the buffer for the text, the problem or the canonical form is shorter than that.
     Output,
@@ -272,8 +272,10 @@ impl Refusal {
                     .into()
             }
             Refusal::Dialect => {
-                "WCSP text has one objective, and the problem more; or a problem cannot have what \
-                 the text says: it is outside the limits, negative, too large or given twice"
+                "WCSP text has one objective, and the problem more; or its ceiling is the \
+                 greatest, which has no upper bound above it; or a problem cannot have what the \
+                 text says: it is outside the limits, negative, too large or given twice, or the \
+                 upper bound is 0"
                     .into()
             }
             Refusal::Output => "the buffer is shorter than what is to be written".into(),

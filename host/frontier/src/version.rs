@@ -6,7 +6,7 @@ use crate::ffi::frontier_version;
 /// a version may change.
 ///
 /// ```
-/// assert_eq!(frontier::version() / 1_000_000, 2);
+/// assert_eq!(frontier::version() / 1_000_000, 3);
 /// ```
 pub fn version() -> u32 {
     // SAFETY: the call takes nothing, and only gives a number.

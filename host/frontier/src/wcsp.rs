@@ -4,21 +4,22 @@ use crate::lent::{self, Answer};
 use crate::limits::{MAX_BYTES, TEXT_LEN};
 use crate::refusal::{check, Refusal};
 
-/// A problem with one objective as WCSP text, in which every choice costs the same. The ceiling is the
-/// upper bound, and records keep their order. With more objectives it is [`Refusal::Dialect`].
+/// A problem with one objective as WCSP text, in which the same choices are allowed and cost the same. The
+/// upper bound, which a cost stays below, is one above the ceiling; a forbidden entry costs as much. Records keep
+/// their order. With more objectives, or under the ceiling 4,294,967,295, it is [`Refusal::Dialect`].
 ///
 /// ```
-/// use frontier::{to_text, Problem, Table};
+/// use frontier::{to_text, Problem, Table, FORBIDDEN};
 ///
 /// // Two modules with two variants each, and what the pairs of variants cost.
 /// let problem = Problem {
 ///     ceilings: vec![100],
 ///     domains: vec![2, 2],
-///     tables: vec![Table::new(0, &[], &[7]), Table::new(0, &[1, 0], &[30, 0, 0, 50])],
+///     tables: vec![Table::new(0, &[], &[7]), Table::new(0, &[1, 0], &[30, 0, 0, FORBIDDEN])],
 /// };
 /// assert_eq!(
 ///     to_text(&problem.encode())?,
-///     "P 2 2 2 100\n2 2\n0 7 0\n2 1 0 0 2\n0 0 30\n1 1 50\n"
+///     "P 2 2 2 101\n2 2\n0 7 0\n2 1 0 0 2\n0 0 30\n1 1 101\n"
 /// );
 /// # Ok::<(), frontier::Refusal>(())
 /// ```
@@ -29,16 +30,16 @@ pub fn to_text(problem: &[u8]) -> Result<String, Refusal> {
     Ok(String::from_utf8(text).expect("the text has digits, spaces, line feeds and a P"))
 }
 
-/// The problem that a WCSP text says, with one objective, in which every choice costs the same. The upper
-/// bound is the ceiling, and functions keep their order. A text that is none is [`Refusal::Text`], and one
-/// that says what a problem cannot have is [`Refusal::Dialect`].
+/// The problem that a WCSP text says, with one objective, in which every choice costs the same. The ceiling is
+/// one below the upper bound, and functions keep their order. A text that is none is [`Refusal::Text`], and one
+/// that says what a problem cannot have, an upper bound of 0 for example, is [`Refusal::Dialect`].
 ///
 /// ```
 /// use frontier::{from_text, Problem, Refusal, Table};
 ///
 /// // Two variables of two values; equal values cost 5, others the default, which is 1.
 /// let problem = Problem::decode(&from_text(b"same 2 2 1 100  2 2  2 0 1 1 2  0 0 5  1 1 5")?)?;
-/// assert_eq!(problem.ceilings, [100]);
+/// assert_eq!(problem.ceilings, [99]);
 /// assert_eq!(problem.tables, [Table::new(0, &[0, 1], &[5, 1, 1, 5])]);
 /// assert_eq!(from_text(b"same 2 2"), Err(Refusal::Text));
 /// # Ok::<(), Refusal>(())

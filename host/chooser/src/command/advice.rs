@@ -183,15 +183,10 @@ impl Question<'_> {
     }
 
     fn dialect(&self, problem: &Problem) -> Advice {
-        let costs = self.source.names(problem).costs;
-        let wrong = format!(
-            "WCSP text has one cost, and this problem has {}: {}",
-            costs.len(),
-            costs.join(", ")
-        );
-        let mend = "leave one cost in the problem, and of the tables those that charge it; \
-                    'chooser solve' takes all costs together";
-        (wrong, mend.into())
+        match &self.source.names(problem).costs[..] {
+            [cost] => no_bound(cost),
+            costs => several_costs(costs),
+        }
     }
 }
 
@@ -223,8 +218,29 @@ fn full(room: usize, half: &str) -> Advice {
     let wrong = format!("the frontier has more points than there is room for ({room}){half}");
     let mend = match room < MAX_POINTS {
         true => format!("take a larger --room (up to {MAX_POINTS}), or lower a ceiling"),
-        false => "lower a ceiling: fewer choices stay below it".into(),
+        false => "lower a ceiling, so that fewer choices are allowed".into(),
     };
+    (wrong, mend)
+}
+
+fn several_costs(costs: &[String]) -> Advice {
+    let wrong = format!(
+        "WCSP text has one cost, and this problem has {}: {}",
+        costs.len(),
+        costs.join(", ")
+    );
+    let mend = "leave one cost in the problem, and of the tables those that charge it; \
+                'chooser solve' takes all costs together";
+    (wrong, mend.into())
+}
+
+fn no_bound(cost: &str) -> Advice {
+    let (most, less) = (u32::MAX, u32::MAX - 1);
+    let wrong = format!(
+        "{cost} has the ceiling {most}, as a cost without one has, and the upper bound of WCSP \
+         text, which is one above the ceiling, is at most that"
+    );
+    let mend = format!("give it a lower ceiling; {less} still allows every cost but {most} itself");
     (wrong, mend)
 }
 

@@ -27,7 +27,7 @@ impl Reply {
 /// The answer that these points are.
 pub fn points_reply(problem: &Problem, names: &Names, list: Frontier) -> Reply {
     let text = match list.len() {
-        0 => "no points: no choice has every cost below its ceiling\n".into(),
+        0 => "no points: every choice has a cost above its ceiling, or is forbidden\n".into(),
         1 => format!("1 point\n\n{}", points_table(names, list)),
         count => format!("{count} points\n\n{}", points_table(names, list)),
     };

@@ -125,8 +125,8 @@ fn bound_table(problem: &Problem, names: &Names, least: &[u64]) -> String {
     let mut lines = vec![words.map(String::from).to_vec()];
     for (cost, &least) in least.iter().enumerate() {
         let ceiling = problem.ceilings[cost];
-        let hopeless = least >= u64::from(ceiling);
-        let told = if hopeless { "not below it" } else { "" };
+        let hopeless = least > u64::from(ceiling);
+        let told = if hopeless { "above it" } else { "" };
         let numbers = [least.to_string(), ceiling.to_string(), told.into()];
         lines.push([vec![names.costs[cost].clone()], numbers.to_vec()].concat());
     }

@@ -15,10 +15,11 @@ usage: chooser wcsp FILE [-o OUT]
 
 Writes the problem in FILE ('-': standard input) as WCSP text, the format of
 toulbar2 and other solvers of weighted constraint problems, to standard output
-or to OUT. The problem must have one cost; its ceiling is the upper bound.
-Modules and variants have their numbers (from 0), and every choice costs the
-same. If FILE is WCSP text, it becomes a problem: a binary one if OUT ends in
-.bin, else a text problem with the names that 'chooser unpack' gives.
+or to OUT. The problem must have one cost. The upper bound, which a cost stays
+below, is one above its ceiling; 4294967295 is too high a ceiling for that.
+Modules and variants have their numbers (from 0), and every allowed choice costs
+the same. If FILE is WCSP text, it becomes a problem: a binary one if OUT ends
+in .bin, else a text problem with the names that 'chooser unpack' gives.
 
 FILE is WCSP text if its name ends in .wcsp; or if it does not start with HD,
 its first word starts no text problem (costs, module, table, or a comment), and

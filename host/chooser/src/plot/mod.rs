@@ -67,7 +67,7 @@ impl Picture {
     /// What is under the title.
     fn subtitle(&self) -> String {
         match self.points.len() {
-            0 => "no choice is below all ceilings, so there is no point".into(),
+            0 => "no choice is allowed, so there is no point".into(),
             1 => "1 point; rest the pointer on it for its choice".into(),
             count => format!("{count} points; rest the pointer on one for its choice"),
         }
@@ -76,7 +76,7 @@ impl Picture {
     /// The name of an axis.
     fn axis_title(&self, objective: usize) -> String {
         let (name, ceiling) = &self.objectives[objective];
-        format!("{name} (below {})", grouped((*ceiling).into()))
+        format!("{name} (at most {})", grouped((*ceiling).into()))
     }
 
     fn draw_head(&self, canvas: &mut Canvas, width: Tenths) {

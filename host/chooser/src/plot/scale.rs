@@ -44,7 +44,7 @@ pub fn draw(picture: &Picture) -> String {
         let x = at(cost.into());
         canvas.line("stairs", [left, y], [x, y]);
         let label = grouped(cost.into());
-        // A ceiling is to the right, so that is the side to keep away from.
+        // A ceiling is to the right or at the same place, so that is the side to keep away from.
         let (beside, anchor) = beside(x, left, &label);
         canvas.text("label", [beside, y - 80], anchor, &label);
         canvas.mark([x, y], 50, &picture.told(0));

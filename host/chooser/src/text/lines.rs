@@ -4,8 +4,8 @@ use std::str;
 
 use super::fault::Fault;
 
-/// A mark that is a word of its own wherever it stands.
-const MARKS: [char; 3] = [',', ':', '<'];
+/// The marks, each of which is a word of its own wherever it stands; the longer before its beginning.
+const MARKS: [&str; 4] = [",", ":", "<=", "<"];
 
 /// Starts a comment, which ends with its line.
 const COMMENT: char = '#';
@@ -81,9 +81,10 @@ fn line_of(number: usize, text: &str) -> Line<'_> {
 fn words_of(line: &str) -> Vec<Word<'_>> {
     let mut words = Vec::new();
     let mut open: Option<(usize, usize)> = None; // where a word begins: its byte and its column
-    for (column, (place, letter)) in (1..).zip(line.char_indices()) {
-        let is_mark = MARKS.contains(&letter);
-        if is_mark || letter.is_whitespace() {
+    let mut letters = (1..).zip(line.char_indices());
+    while let Some((column, (place, letter))) = letters.next() {
+        let mark = MARKS.iter().find(|mark| line[place..].starts_with(**mark));
+        if mark.is_some() || letter.is_whitespace() {
             words.extend(open.take().map(|(start, column)| Word {
                 text: &line[start..place],
                 column,
@@ -91,9 +92,9 @@ fn words_of(line: &str) -> Vec<Word<'_>> {
         } else if open.is_none() {
             open = Some((place, column));
         }
-        if is_mark {
-            let text = &line[place..place + letter.len_utf8()];
+        if let Some(text) = mark {
             words.push(Word { text, column });
+            letters.by_ref().take(text.len() - 1).for_each(drop);
         }
     }
     words.extend(open.map(|(start, column)| Word {

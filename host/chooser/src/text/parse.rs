@@ -43,7 +43,7 @@ pub fn parse(bytes: &[u8]) -> Result<Named, Fault> {
 /// What a problem lacks to be whole, and what to do.
 fn missing(named: &Named) -> Option<&'static str> {
     if named.names.costs.is_empty() {
-        return Some("a problem has 1 to 4 costs; start with a line as 'costs size < 100, time'");
+        return Some("a problem has 1 to 4 costs; start with a line as 'costs size <= 100, time'");
     }
     let none = named.names.modules.is_empty();
     none.then_some("a problem has 1 to 24 modules; add a line as 'module uart: small, fast'")
@@ -94,7 +94,7 @@ fn check_order(named: &Named, statement: &str) -> Result<(), String> {
     match statement {
         "costs" if has_costs => Err("the costs stand in one line; add these to it".into()),
         "module" | "table" if !has_costs => {
-            Err("the costs stand first; start with a line as 'costs size < 100, time'".into())
+            Err("the costs stand first; start with a line as 'costs size <= 100, time'".into())
         }
         "module" if tables > 0 => Err("modules stand before the tables; move this line up".into()),
         "module" if modules == MAX_VARIABLES => Err(one_more("module", MAX_VARIABLES)),
@@ -109,23 +109,33 @@ fn one_more(what: &str, most: usize) -> String {
     format!("this is one {what} more than {most}, the most there may be; leave one out")
 }
 
-/// `costs NAME < CEILING, NAME < CEILING`; without a ceiling the greatest is meant.
+/// `costs NAME <= CEILING, NAME <= CEILING`
 fn take_costs(named: &mut Named, cursor: &mut Cursor) -> Result<(), Fault> {
     loop {
         let name = new_name(cursor, "a cost", &named.names.costs)?;
         if named.problem.ceilings.len() == MAX_OBJECTIVES {
             return Err(cursor.fault_at(name, one_more("cost", MAX_OBJECTIVES)));
         }
-        let ceiling = match cursor.take_if("<") {
-            true => cursor.number("the ceiling")?,
-            false => u32::MAX,
-        };
+        let ceiling = take_ceiling(cursor)?;
         named.names.costs.push(name.text.into());
         named.problem.ceilings.push(ceiling);
         if !cursor.take_if(",") {
-            return cursor.end("costs have the form NAME < CEILING, with commas between");
+            return cursor.end("costs have the form NAME <= CEILING, with commas between");
         }
     }
+}
+
+/// `<= CEILING`, or `< BOUND`, which is one above the ceiling; without either the greatest ceiling is meant.
+fn take_ceiling(cursor: &mut Cursor) -> Result<u32, Fault> {
+    if cursor.take_if("<=") {
+        return cursor.number("the ceiling");
+    }
+    if !cursor.take_if("<") {
+        return Ok(u32::MAX);
+    }
+    let nothing = cursor.fault("no cost is below 0; write '<= 0' where a cost of 0 is allowed");
+    let bound = cursor.number("the bound")?;
+    bound.checked_sub(1).ok_or(nothing)
 }
 
 /// `module NAME: VARIANT, VARIANT`

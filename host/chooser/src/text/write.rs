@@ -29,7 +29,7 @@ fn costs_line(named: &Named) -> String {
     let costs: Vec<String> = pairs
         .map(|(name, &ceiling)| match ceiling {
             u32::MAX => name.clone(),
-            _ => format!("{name} < {ceiling}"),
+            _ => format!("{name} <= {ceiling}"),
         })
         .collect();
     format!("costs {}\n", costs.join(", "))

@@ -41,6 +41,14 @@ impl Due {
             _ => None,
         }
     }
+
+    /// What to do about a number outside of its limits, where these do not tell.
+    pub fn outside(self) -> &'static str {
+        match self {
+            Due::Bound => "; costs stay below it, so give one above those that are allowed",
+            _ => "",
+        }
+    }
 }
 
 impl fmt::Display for Due {

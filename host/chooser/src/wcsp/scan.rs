@@ -55,10 +55,10 @@ impl<'a> Scan<'a> {
     fn within(&mut self, due: Due, least: u64, most: u64) -> Result<(Word<'a>, Natural<'a>), End> {
         let (word, number) = self.number(due)?;
         if !(least..=most).contains(&number.capped()) {
-            let shown = word.quoted();
+            let (shown, mend) = (word.quoted(), due.outside());
             self.refuse(
                 word,
-                format!("{due} is {shown}, and may be {least} to {most}"),
+                format!("{due} is {shown}, and may be {least} to {most}{mend}"),
             );
         }
         Ok((word, number))
@@ -75,7 +75,7 @@ impl<'a> Scan<'a> {
         let (_, variables) = self.within(Due::Variables, 1, MAX_VARIABLES as u64)?;
         let largest = self.number(Due::Largest)?;
         let (_, functions) = self.within(Due::Functions, 0, MAX_TABLES as u64)?;
-        self.within(Due::Bound, 0, u32::MAX.into())?;
+        self.within(Due::Bound, 1, u32::MAX.into())?;
         let sizes = self.sizes(variables, largest)?;
         self.bytes = 10 + 3 * sizes.len() as u64;
         for function in 0..functions.capped() {
