@@ -37,7 +37,8 @@ module _ (ds xs : List ℕ) (complete : isChoice ds xs ≡ true) where
   turned-meets [] us h = rw h refl
   turned-meets (t ∷ ts) [] h = absurd h
   turned-meets (t ∷ ts) (u ∷ us) h =
-      ap₂ (λ (cost : ℕ) (rest : Bool). eqb cost forbidden || rest) (h .0 .entries xs complete) (turned-meets ts us (h .1))
+      ap₂ (λ (cost : ℕ) (rest : Bool). eqb cost forbidden || rest) (h .0 .entries xs complete)
+      (turned-meets ts us (h .1))
 
 pub layout-costs : (q r : Problem) → SameProblem q r → (xs : List ℕ) → isChoice (q .domains) xs ≡ true
     → costsOf q xs ≡ costsOf r xs

@@ -37,7 +37,8 @@ pub fitted-short : (cs ms fs : List ℕ) → Fitted cs ms fs → All WordCeiling
 fitted-short cs ms fs fit short =
     let each : (o : ℕ) → o < maxObjectives → WordCeiling (getD fs o 0) =
     λ o l. omega (arith, fit .each o l .0, all-at WordCeiling cs short o 0 (omega arith)) in
-    four-short fs (fit .long) (each 0 (omega arith)) (each 1 (omega arith)) (each 2 (omega arith)) (each 3 (omega arith))
+    four-short fs (fit .long) (each 0 (omega arith)) (each 1 (omega arith)) (each 2 (omega arith))
+    (each 3 (omega arith))
 
 -- what is below one ceiling is below the other, number by number
 under-fitted : (xs cs fs : List ℕ) → length xs ≡ length cs → length fs ≡ length cs
@@ -87,5 +88,6 @@ module _ (q : Problem) (cs ms fs : List ℕ) (fit : Fitted cs ms fs) (few : q .o
   pub fitted-frontier : coreFrontier (withCeilings (take p fs) q) ≡ coreFrontier q
   unfolding coreConsistent costsOf totals
   fitted-frontier =
-      frontier-agrees (coreConsistent (withCeilings (take p fs) q)) (coreConsistent q) (withCeilings (take p fs) q) q refl
+      let fitted = withCeilings (take p fs) q in
+      frontier-agrees (coreConsistent fitted) (coreConsistent q) fitted q refl
       (λ x c. same-test x) (λ x c h. refl)

@@ -7,7 +7,6 @@ use Rattle.model.specs.Reading.{word2, word4, wordsIn, startNumber, head
 use Rattle.model.specs.Reading.{tableLength, tableNumber, tableOf, domainsVerdict, domainsAt, tablesVerdict}
 use Rattle.model.specs.Reading.{tablesAt, placesAt, bodyVerdict, verdictOf, problemOf, placesOf}
 use Rattle.model.specs.Vectors.{atMost, same, earlier, added}
-use Rattle.model.specs.Core.{under}
 use Rattle.model.specs.Costs.{isChoice, entryFrom, costOf, total, totalsFrom, totals, meetsForbidden, costsOf}
 use Rattle.model.specs.Frontiers.{consistent, someBeats, unbeaten, put, sorted, best, withFirst, firstsFrom}
 use Rattle.model.specs.Frontiers.{choices, pointsBy, frontierBy, rising}
@@ -22,8 +21,8 @@ use Rattle.model.specs.Calls.{cutRoomVerdict, cutVerdict, cutOutcome, bo
 unfoldable pub computing : Unit {0}
 unfolding firstOf sizeOf hasVariable scopeRule twoBytes fourBytes wordBytes headBytes domainBytes tableBytes
     tablesBytes encode word2 word4 wordsIn startNumber headNumber domainNumber tableScope tableLength tableNumber
-    tableOf domainsVerdict domainsAt tablesVerdict tablesAt placesAt bodyVerdict verdictOf problemOf placesOf under
-    atMost same earlier added isChoice entryFrom costOf total totalsFrom totals meetsForbidden costsOf consistent someBeats
+    tableOf domainsVerdict domainsAt tablesVerdict tablesAt placesAt bodyVerdict verdictOf problemOf placesOf atMost
+    same earlier added isChoice entryFrom costOf total totalsFrom totals meetsForbidden costsOf consistent someBeats
     unbeaten put sorted best withFirst firstsFrom choices pointsBy frontierBy rising prefixOk agrees leastTo
     leastFrom leastOf boundOf allSides sidesOk hasSide crosses linkedVerdict uncrossed onSide newNumber renumbered
     inHalf halfTables half merged pairsWith allPairs cutList otherSide exchanged over padded divided roomOf

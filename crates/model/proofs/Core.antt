@@ -186,8 +186,8 @@ module _ (q : Problem) (w : Weighable q) (x : List ℕ) where
       total-in given (coreTable t) (coreTables (q .tables)) (in-core t (q .tables) m) in
       let weight : given (coreTable t) ≡ forbidden + forbiddenRise =
       core-cost (q .domains) x t ∙ ap entry is ∙ entry-rises forbidden (omega arith) in
-      let ceiling = all-at WordCeiling (coreCeilings (q .ceilings)) (core-ceiling-words (q .ceilings) (w .ceiling-words))
-      o 0 (omega arith) in
+      let ceiling = all-at WordCeiling (coreCeilings (q .ceilings))
+      (core-ceiling-words (q .ceilings) (w .ceiling-words)) o 0 (omega arith) in
       omega (arith, below, sum, part, weight, ceiling)
 
   -- the core's test is the problem's

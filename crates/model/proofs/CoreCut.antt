@@ -50,7 +50,8 @@ module _ (q : Problem) (ss : List ℕ) (sides : sidesOk q ss ≡ true) (free : u
         lower = lower-under;
       }
 
-  pub core-cut-best : best (allPairs (λ c. under c (q .ceilings)) ss (coreFrontier (halfOf 0)) (coreFrontier (halfOf 1)))
+  pub core-cut-best :
+      best (allPairs (λ c. under c (q .ceilings)) ss (coreFrontier (halfOf 0)) (coreFrontier (halfOf 1)))
       ≡ coreFrontier q
   core-cut-best =
       cut-best q ss sides free hs (λ c. under c (q .ceilings)) (coreConsistent q) (λ k. coreConsistent (halfOf k))

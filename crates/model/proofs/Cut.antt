@@ -215,7 +215,8 @@ module _ (q : Problem) (ss : List ℕ) (sides : sidesOk q ss ≡ true) (free : u
             (added-length (a .costs) (b .costs) (wa ∙ sym wb) ∙ wa)
             (subst (AtMost (added (a .costs) (b .costs))) (sym part-costs ∙ h .exact) less) (h .allowed) in
             let n = join a b (listed 0 a i) (listed 1 b j) in
-            let order : added (a .costs) (b .costs) ≡ p .costs → NotLater (merged ss (a .choice) (b .choice)) (p .choice) =
+            let order : added (a .costs) (b .costs) ≡ p .costs
+            → NotLater (merged ss (a .choice) (b .choice)) (p .choice) =
             λ e. let (x, y) = added-tie (q .objectives) (a .costs) (b .costs) (part 0 .costs) (part 1 .costs) wa wb
             (part-width 0) (part-width 1) (g .0) (k .0) (e ∙ part-costs) in
             parts-order ss (merged ss (a .choice) (b .choice)) (p .choice) all

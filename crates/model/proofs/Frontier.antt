@@ -15,8 +15,8 @@ use Rattle.model.specs.Costs.{isChoice, costOf, meetsForbidden, costsOf}
 use Rattle.model.specs.Frontiers.{consistent, Point, point, best, choices, pointsBy, frontierBy, frontier}
 use Rattle.model.specs.Frontiers.{ReachedBy, Reached, Is-frontier}
 use Rattle.model.proofs.Bits.{not-true-false, and-left, and-right, and-both}
-use Rattle.model.proofs.Vectors.{AtMost, at-most-true, at-most-test, at-most-refl, beats-true, beats-false, not-earlier}
-use Rattle.model.proofs.Vectors.{later-false}
+use Rattle.model.proofs.Vectors.{AtMost, at-most-true, at-most-test, at-most-refl, beats-true, beats-false}
+use Rattle.model.proofs.Vectors.{not-earlier, later-false}
 use Rattle.model.proofs.Points.{rising-true, rising-test}
 use Rattle.model.proofs.Best.{Best, best-unique, best-cover}
 use Rattle.model.proofs.Sorting.{AllSized, best-right}

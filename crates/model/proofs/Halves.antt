@@ -127,7 +127,8 @@ module _ (ss : List ℕ) (all : allSides ss ≡ true) (ds zs : List ℕ) (long :
 
       go : InOne ss (t .scope) → meetsForbidden (costOf ds zs) ts ≡ (first || second)
           → meetsForbidden (costOf ds zs) (t ∷ ts)
-          ≡ (meetsForbidden (inPart 0) (halfTables 0 ss (t ∷ ts)) || meetsForbidden (inPart 1) (halfTables 1 ss (t ∷ ts)))
+          ≡ (meetsForbidden (inPart 0) (halfTables 0 ss (t ∷ ts))
+          || meetsForbidden (inPart 1) (halfTables 1 ss (t ∷ ts)))
       go (in-zero a b s) e = rw (a, b, table-half 0 t s, e) (or-assoc (met 0) first second)
       go (in-one a b s) e = rw (a, b, table-half 1 t s, e) (or-swap (met 1) first second)
 

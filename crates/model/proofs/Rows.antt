@@ -16,7 +16,8 @@ rows = starred-rows ++ reading-rows ++ frontier-rows ++ ceiling-rows ++ cut-rows
 
 pub rows-right : All Right rows
 rows-right =
-    all-append Right starred-rows (reading-rows ++ frontier-rows ++ ceiling-rows ++ cut-rows ++ bound-rows) starred-right (
+    all-append Right starred-rows (reading-rows ++ frontier-rows ++ ceiling-rows ++ cut-rows ++ bound-rows)
+    starred-right (
     all-append Right reading-rows (frontier-rows ++ ceiling-rows ++ cut-rows ++ bound-rows) reading-right (
     all-append Right frontier-rows (ceiling-rows ++ cut-rows ++ bound-rows) frontier-right (
     all-append Right ceiling-rows (cut-rows ++ bound-rows) ceiling-right (

@@ -78,8 +78,8 @@ returns-2 c =
     let s = start w in
     let p = s .pre in
     rw (c .no-lists2 .ensures)
-    (second-full (accepted s) (bytes w) (s .args .room) (now (s .args .sides)) (now (s .args .work)) (w .widened .result)
-    (w .widened .ensures) (p .2) (p .3) (p .5) (half .keep-half .ensures) (opened other .if1 .left)
+    (second-full (accepted s) (bytes w) (s .args .room) (now (s .args .sides)) (now (s .args .work))
+    (w .widened .result) (w .widened .ensures) (p .2) (p .3) (p .5) (half .keep-half .ensures) (opened other .if1 .left)
     (other .keep-half2 .ensures) (full .if2 .taken))
 
 -- ## the sums
@@ -109,8 +109,8 @@ returns-3 c =
     let s = start w in
     let p = s .pre in
     rw (c .no-lists3 .ensures)
-    (merged-full (accepted s) (bytes w) (s .args .room) (now (s .args .sides)) (now (s .args .work)) (w .widened .result)
-    (w .widened .ensures) (p .2) (p .3) (p .5) (half .keep-half .ensures) (opened other .if1 .left)
+    (merged-full (accepted s) (bytes w) (s .args .room) (now (s .args .sides)) (now (s .args .work))
+    (w .widened .result) (w .widened .ensures) (p .2) (p .3) (p .5) (half .keep-half .ensures) (opened other .if1 .left)
     (other .keep-half2 .ensures) (both .if2 .left) (merged .merge-points .ensures) (full .if3 .taken))
 
 returns-4 : tie.Need-returns-4
