@@ -2,7 +2,7 @@
 use mathlib.Core.Path.{_≡_, refl, sym, ap, ap₂, _∙_}
 use mathlib.Core.Bool.{Bool, true, false, _&&_}
 use mathlib.Core.List.{List, [], _∷_}
-use Prim.Native.Nat.{ℕ, zero, suc, _+_, _≤_, _<_}
+use Prim.Native.Nat.{ℕ, suc, _+_, _≤_, _<_}
 use native.Mathlib.Omega.{arith}
 use lib.Dec.{ltb}
 use lib.ListN.{length, getD, take}
@@ -16,21 +16,8 @@ use Rattle.model.specs.Core.{WordCeiling, under, withCeilings, coreConsistent, 
 use Rattle.model.proofs.Elements.{all-at}
 use Rattle.model.proofs.Totals.{totals-at}
 use Rattle.model.proofs.Frontier.{frontier-agrees, costs-width}
-use Rattle.listing.specs.Says.{FittedTo, Fitted}
+use Rattle.plan_spreads.specs.Ceilings.{Fitted}
 use Rattle.listing.proofs.FourCeilings.{four-short}
-
--- four of them, one by one
-pub four-fitted : (cs ms : List ℕ) (a b c d : ℕ) → FittedTo (getD cs 0 0) (getD ms 0 0) a
-    → FittedTo (getD cs 1 0) (getD ms 1 0) b → FittedTo (getD cs 2 0) (getD ms 2 0) c
-    → FittedTo (getD cs 3 0) (getD ms 3 0) d → Fitted cs ms (a ∷ b ∷ c ∷ d ∷ [])
-four-fitted cs ms a b c d ha hb hc hd = record { long = refl; each = each }
-  where
-    each : (o : ℕ) → o < maxObjectives → FittedTo (getD cs o 0) (getD ms o 0) (getD (a ∷ b ∷ c ∷ d ∷ []) o 0)
-    each zero l = ha
-    each (suc zero) l = hb
-    each (suc (suc zero)) l = hc
-    each (suc (suc (suc zero))) l = hd
-    each (suc (suc (suc (suc o)))) l = absurd (omega arith)
 
 -- no larger than those that they are fitted for
 pub fitted-short : (cs ms fs : List ℕ) → Fitted cs ms fs → All WordCeiling cs → All WordCeiling fs

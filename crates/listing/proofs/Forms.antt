@@ -37,25 +37,23 @@ module _ {task : DT.Task} {ds s work : List ℕ} (source : Source task ds s work
     long = source .long;
   }
 
+  -- the records' places stand behind what is lent
+  source-behind : behindAt work sourceAt ≡ drop sourceAt work
+  source-behind = behind-all work sourceAt (omega (arith, source .long)) (behindAt work sourceAt) refl
+
+  pub source-places : take r (behindAt work sourceAt) ≡ sourceIn work r
+  source-places = ap (take r) source-behind
+
   -- what adding up the tables' least and largest entries asks for
   pub extents-asked :
       All DomainSize ds × (r ≤ maxTables) × (r ≤ length (behindAt work sourceAt))
       × All (Whole ds s) (take r (behindAt work sourceAt))
-  extents-asked =
-      let inside : sourceAt ≤ length work = omega (arith, source .long) in
-      let all : behindAt work sourceAt ≡ drop sourceAt work = behind-all work sourceAt inside (behindAt work sourceAt)
-      refl in (
-        source .small,
-        source .few,
-        omega (arith, ap length all, length-drop sourceAt work, source .few, source .long),
-        rw all (source .whole),
-      )
-
-  -- and where it finds the records
-  pub source-places : take r (behindAt work sourceAt) ≡ sourceIn work r
-  source-places =
-      let inside : sourceAt ≤ length work = omega (arith, source .long) in
-      ap (take r) (behind-all work sourceAt inside (behindAt work sourceAt) refl)
+  extents-asked = (
+    source .small,
+    source .few,
+    omega (arith, ap length source-behind, length-drop sourceAt work, source .few, source .long),
+    rw source-behind (source .whole),
+  )
 
   -- under other ceilings
   pub source-under : (fs : List ℕ) → Source (under-ceilings task fs) ds s work

@@ -12,12 +12,13 @@ use Rattle.groups.specs.Sources.{sourceIn, sourceProblem}
 use Rattle.groups.specs.declared.Task as DT
 use Rattle.pass_list.specs.Says.{FoundSays}
 use Rattle.plan_spreads.specs.LargestCosts.{Reaches}
+use Rattle.plan_spreads.specs.Ceilings.{Fitted}
 use Rattle.branch_directions.specs.declared.Directions as DD
 use Rattle.branch_search.specs.States.{rowsIn, Ready, Between, ExploredSays, LeftOver, unended}
 use Rattle.branch_search.specs.declared.Explored as DE
 use Rattle.branch_search.specs.declared.Effort as DF
-use Rattle.branch_search.proofs.Archives.{empty-between, between-moved, between-source, between-framed}
-use Rattle.listing.specs.Says.{Kept, PlanSays, Explorable, Turned, Ended, foundOf, Fitted}
+use Rattle.branch_search.proofs.Archives.{between-moved, between-source, between-framed}
+use Rattle.listing.specs.Says.{Kept, PlanSays, Explorable, Turned, Ended, foundOf}
 use Rattle.listing.proofs.FittedCeilings.{fitted-frontier}
 use Rattle.listing.proofs.Forms.{under-ceilings, source-kept, first-after}
 
@@ -36,12 +37,6 @@ turned-undecided task ds s k b effort =
     record { kept = k; found = λ t. absurd (true-false t refl); between = λ f. b }
 
 -- and none at all was taken
-pub turned-none :
-    (task : DT.Task) (ds s work : List ℕ) (effort : DF.Effort) → Turned task ds s work work (unended 0 effort)
-turned-none task ds s work effort =
-    turned-undecided task ds s (kept-same (task .records) work)
-    (empty-between (sourceProblem task ds s work) (task .room) work) effort
-
 pub ended-none :
     (task : DT.Task) (ds s work : List ℕ) (effort : DF.Effort) → Ended task ds s work work (unended 0 effort)
 ended-none task ds s work effort =

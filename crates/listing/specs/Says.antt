@@ -2,8 +2,8 @@
 use mathlib.Core.Path.{_≡_}
 use mathlib.Core.Bool.{true, false}
 use mathlib.Core.List.{List}
-use Prim.Native.Nat.{ℕ, _≤_, _<_}
-use lib.ListN.{length, getD, take}
+use Prim.Native.Nat.{ℕ, _≤_}
+use lib.ListN.{length, take}
 use Rattle.model.specs.Basics.{All}
 use Rattle.model.specs.Limits.{maxBytes, maxObjectives, maxPoints, maxTables, maxVariables}
 use Rattle.model.specs.Problems.{Problem, DomainSize}
@@ -69,14 +69,6 @@ pub record Explorable (task : DT.Task) (ds s work : List ℕ) : Type 0 where
 pub record PlanSays (d : DD.Directions) (r : ℕ) (ds s work work′ : List ℕ) : Type 0 where
   pub planned : Planned d r ds s (planIn work′)
   pub sound : Sound d r ds s (sourceIn work′ r) (planIn work′)
-
--- a ceiling for the same sums: of those that are at most `most` where they are below it
-abbrev pub FittedTo : (ceiling most fitted : ℕ) → Type 0
-FittedTo ceiling most fitted = (fitted ≤ ceiling) × ((x : ℕ) → x < ceiling → x ≤ most → x < fitted)
-
-pub record Fitted (ceilings mosts fitted : List ℕ) : Type 0 where
-  pub long : length fitted ≡ maxObjectives
-  pub each : (o : ℕ) → o < maxObjectives → FittedTo (getD ceilings o 0) (getD mosts o 0) (getD fitted o 0)
 
 -- what the second form found where it is decided, as a finding of the first
 abbrev pub foundOf : DE.Explored → DF.Found

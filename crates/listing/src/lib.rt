@@ -13,7 +13,6 @@ ghost use Rattle.pass_list.specs.Says.{FoundSays, CoreFound, FoundFor};
 ghost use Rattle.branch_directions.specs.Directions.{Sensible};
 ghost use Rattle.branch_search.specs.States.{rowsIn, Between, unended};
 ghost use Rattle.listing.specs.Says.{Searchable, Plannable, Kept, PlanSays, Explorable, Turned, Ended};
-ghost use Rattle.listing.specs.Says.{FittedTo, Fitted};
 
 // A search of the second form has so many turns: the first four try a kind of plan each, and the last goes on with the
 // kind that came furthest, as long as it takes.
@@ -77,32 +76,6 @@ fn are_short(ceilings: [u64; 4]) -> bool
         return false;
     }
     true
-}
-
-// A ceiling of the same choices, for sums that are at most `most` where they are below it. The numbers of the second
-// form have four bytes: where a ceiling is one more than they can be, a forbidden entry would not be told from a sum.
-fn fitted(ceiling: u64, most: u64) -> u64
-    ensures { λ c. ⌜ FittedTo ceiling most c ⌝ }
-{
-    if ceiling != 4294967296 {
-        return ceiling;
-    }
-    if most >= 4294967295 {
-        return ceiling;
-    }
-    4294967295
-}
-
-// Such ceilings for all objectives.
-fn fitted_ceilings(ceilings: [u64; 4], mosts: [u64; 4]) -> [u64; 4]
-    ensures { λ r. ⌜ Fitted ceilings mosts r ⌝ }
-{
-    [
-        fitted(ceilings[0], mosts[0]),
-        fitted(ceilings[1], mosts[1]),
-        fitted(ceilings[2], mosts[2]),
-        fitted(ceilings[3], mosts[3]),
-    ]
 }
 
 // How the plan of a turn is made. All but the first are wide: most problems end with the first, which costs less to
@@ -370,7 +343,7 @@ fn explore_source(s: &[u8], sizes: &[u8], task: groups::Task, work: &mut [u32]) 
     let r = task.records;
     let extents = plan_spreads::extents_of(s, sizes, r, ceilings, &work[layout::SOURCE_AT..]);
     let mosts = extents.mosts;
-    let fit = fitted_ceilings(ceilings, mosts);
+    let fit = plan_spreads::fitted_ceilings(ceilings, mosts);
     let ranges = plan_sums::ranges_of(task.objectives, extents, fit);
     let near = groups::Task {
         records: r,

@@ -9,6 +9,7 @@ ghost use Rattle.model.specs.Core.{entryEnd};
 ghost use Rattle.problem.specs.Records.{Whole};
 ghost use Rattle.costs.specs.Entries.{tableAt};
 ghost use Rattle.plan_spreads.specs.LargestCosts.{largestUnder, Reaches};
+ghost use Rattle.plan_spreads.specs.Ceilings.{FittedTo, Fitted};
 
 // For each objective the sum over its records of the least, and of the largest, entry below the ceiling.
 pub struct Extents {
@@ -68,4 +69,30 @@ pub fn extents_of(s: &[u8], sizes: &[u8], r: usize, ceilings: [u64; 4], places: 
         i += 1;
     }
     Extents { lows, mosts }
+}
+
+// A ceiling of the same choices, for sums that are at most `most` where they are below it. The numbers of the second
+// form have four bytes: where a ceiling is one more than they can be, a forbidden entry would not be told from a sum.
+fn fitted(ceiling: u64, most: u64) -> u64
+    ensures { λ c. ⌜ FittedTo ceiling most c ⌝ }
+{
+    if ceiling != 4294967296 {
+        return ceiling;
+    }
+    if most >= 4294967295 {
+        return ceiling;
+    }
+    4294967295
+}
+
+// Such ceilings for all objectives.
+pub fn fitted_ceilings(ceilings: [u64; 4], mosts: [u64; 4]) -> [u64; 4]
+    ensures { λ r. ⌜ Fitted ceilings mosts r ⌝ }
+{
+    [
+        fitted(ceilings[0], mosts[0]),
+        fitted(ceilings[1], mosts[1]),
+        fitted(ceilings[2], mosts[2]),
+        fitted(ceilings[3], mosts[3]),
+    ]
 }

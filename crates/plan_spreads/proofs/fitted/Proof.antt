@@ -1,7 +1,7 @@
--- `listing::fitted` meets its contract: nothing that is at most `most` lies between the two ceilings.
+-- `plan_spreads::fitted` meets its contract: nothing that is at most `most` lies between the two ceilings.
 use native.Mathlib.Omega.{arith}
-use Rattle.listing.proofs.fitted.Statement.{statement}
-use Rattle.listing.proofs.fitted.Tie as tie
+use Rattle.plan_spreads.proofs.fitted.Statement.{statement}
+use Rattle.plan_spreads.proofs.fitted.Tie as tie
 
 returns : tie.Need-returns
 returns c = (omega arith, λ x l m. omega arith)
