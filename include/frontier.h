@@ -1,11 +1,12 @@
 /* The variant chooser's version, limits, numbers of refusal and calls, for C99, C++11 and later. Link libfrontier.a; it
- * needs nothing but the C library. There are eight calls: frontier_solve lists the frontier of a problem; frontier_cut
+ * needs nothing but the C library. There are nine calls: frontier_solve lists the frontier of a problem; frontier_cut
  * lists it by way of two halves of the problem; frontier_bound bounds what a partial choice leads to; frontier_points
  * lists the frontier into point records; frontier_to_text writes a problem as WCSP text, which other solvers read;
  * frontier_from_text makes a problem of such a text; frontier_canonical writes the canonical form of a problem, with a
  * key, by which equal problems are found; frontier_solve_cached lists the frontier as frontier_solve does, and keeps
- * answers in a store, from which it takes them when a problem comes again. What a later version may change is in
- * docs/INTERFACE.md; calls for measurements are in frontier_measure.h.
+ * answers in a store, from which it takes them when a problem comes again; frontier_batch lists the frontiers of up to
+ * 16 problems. What a later version may change is in docs/INTERFACE.md; calls for measurements are in
+ * frontier_measure.h.
  *
  * A problem is a string of bytes. Numbers in it are unsigned and little-endian, at any address, with nothing between
  * them. It is made of records, each of which starts with a mark of two letters:
@@ -40,7 +41,7 @@
 
 /* The version of this header, and in one number: 1002003 is 1.2.3. frontier_version gives that of the library. */
 #define FRONTIER_VERSION_MAJOR 3
-#define FRONTIER_VERSION_MINOR 0
+#define FRONTIER_VERSION_MINOR 1
 #define FRONTIER_VERSION_PATCH 0
 #define FRONTIER_VERSION (FRONTIER_VERSION_MAJOR * 1000000 + FRONTIER_VERSION_MINOR * 1000 + FRONTIER_VERSION_PATCH)
 
@@ -60,12 +61,20 @@
 #define FRONTIER_SLOT_BYTES 63000
 #define FRONTIER_MAX_SLOTS 32
 
+/* the most problems of a batch, the bytes before each of them there, and how many numbers of the result list it has */
+#define FRONTIER_MAX_BATCH 16
+#define FRONTIER_FRAME_BYTES 6
+#define FRONTIER_RESULT_LEN 3
+
 /* lengths of buffers that do for every problem, in elements, each named after the parameter that it is handed to */
 #define FRONTIER_COSTS_LEN (FRONTIER_MAX_POINTS * FRONTIER_MAX_OBJECTIVES)
 #define FRONTIER_CHOICES_LEN (FRONTIER_MAX_POINTS * FRONTIER_MAX_VARIABLES)
 #define FRONTIER_POINTS_LEN FRONTIER_MAX_POINTS
 #define FRONTIER_WORK_LEN FRONTIER_LEAST_WORK
 #define FRONTIER_TEXT_LEN 255000 /* a text has at most 17 bytes for 4 of the problem's */
+#define FRONTIER_BATCH_COSTS_LEN (FRONTIER_MAX_BATCH * FRONTIER_COSTS_LEN)
+#define FRONTIER_BATCH_CHOICES_LEN (FRONTIER_MAX_BATCH * FRONTIER_CHOICES_LEN)
+#define FRONTIER_BATCH_RESULTS_LEN (FRONTIER_MAX_BATCH * FRONTIER_RESULT_LEN)
 
 /* what a call returns: 0, or the number of a refusal */
 #define FRONTIER_ACCEPTED 0
@@ -89,6 +98,7 @@
 #define FRONTIER_REFUSED_DIALECT 18   /* what the other form cannot have, as the two calls with text say */
 #define FRONTIER_REFUSED_OUTPUT 19    /* the buffer is shorter than the text, problem or form that it is for */
 #define FRONTIER_REFUSED_STORE 20     /* store under one slot, 63,000 bytes */
+#define FRONTIER_REFUSED_BATCH 21     /* a batch with wrong framing, of more than 16 problems, or without an area */
 
 /* The word for what a call returned, in letters and spaces; "unknown" for a number that this version does not name. The
  * string is constant and not null. */
@@ -96,7 +106,7 @@ static inline const char *frontier_word(uint8_t number) {
     static const char *const words[] = {
         "accepted", "oversize", "cut short", "stray mark", "variables", "objectives", "tables", "domain", "owner",
         "arity", "scope", "leftover", "work", "sides", "linked", "full", "prefix", "text", "dialect", "output",
-        "store",
+        "store", "batch",
     };
     return number < sizeof words / sizeof words[0] ? words[number] : "unknown";
 }
@@ -433,6 +443,53 @@ uint8_t frontier_canonical(const uint8_t *problem, size_t problem_len, uint8_t *
 uint8_t frontier_solve_cached(const uint8_t *problem, size_t problem_len, uint32_t *costs, size_t costs_len,
                               uint8_t *choices, size_t choices_len, uint32_t *work, size_t work_len, uint8_t *store,
                               size_t store_len, uint32_t *place, uint32_t *count, uint8_t *hit);
+
+/* Lists the frontiers of up to FRONTIER_MAX_BATCH problems, each into its areas of the buffers that it is lent: what
+ * calls of frontier_solve in turn would do there.
+ *
+ *   pointer  valid for                         null  may overlap
+ *   batch    batch_len bytes, read             no    nothing
+ *   costs    costs_len numbers, written        no    nothing
+ *   choices  choices_len bytes, written        no    nothing
+ *   results  results_len numbers, written      no    nothing
+ *   work     work_len numbers, written         no    nothing
+ *   place    one number, written               no    nothing
+ *   count    one number, written               no    nothing
+ *
+ * A batch is made of frames, one after the other, and no byte more. A frame is the mark BP, the length of its problem
+ * (4 bytes), and the problem. It may hold any bytes, and none: whether they are a problem is for its own call to tell.
+ * Without a byte a batch has no problems.
+ *
+ * Problem k, numbered from 0, has these areas:
+ *
+ *   costs    FRONTIER_COSTS_LEN numbers from costs[FRONTIER_COSTS_LEN * k] on
+ *   choices  FRONTIER_CHOICES_LEN bytes from choices[FRONTIER_CHOICES_LEN * k] on
+ *   results  FRONTIER_RESULT_LEN numbers from results[FRONTIER_RESULT_LEN * k] on
+ *
+ * frontier_solve is called for each problem in turn, with its areas of costs and choices and all of work, as the call
+ * before left it. What it returns, its place, inside the problem, and its count become the three numbers of the
+ * problem's results. A problem that is refused, with 1 to 11 or FRONTIER_REFUSED_FULL, so has its number and place
+ * there, and the others are answered all the same. Every area has room for FRONTIER_MAX_POINTS points. Nothing in the
+ * answer depends on what the four buffers held before.
+ *
+ * The number of refusal of the whole call is the result, and is told before any problem is looked at: 0 for none;
+ * FRONTIER_REFUSED_BATCH if the frames do not make up the batch, if there are more than FRONTIER_MAX_BATCH, or if a
+ * buffer lacks an area of some problem, or a part of it; then FRONTIER_REFUSED_WORK if work_len is less than
+ * FRONTIER_LEAST_WORK, also where there are no problems. *place becomes 0; *count becomes the number of problems, and 0
+ * after a refusal. Both are always written, whatever they held. What the buffers hold afterwards:
+ *
+ *   result                 costs, choices and results                                                  work
+ *   FRONTIER_ACCEPTED      the areas of *count problems are as their calls left them,                  see below
+ *                          behind them all is unchanged
+ *   another number         unchanged                                                                   unchanged
+ *
+ * After FRONTIER_ACCEPTED work is all 0 if the number of some problem is 0 or FRONTIER_REFUSED_FULL, and else
+ * unchanged.
+ *
+ * It takes as long as its problems take one after the other, and cannot be interrupted either. */
+uint8_t frontier_batch(const uint8_t *batch, size_t batch_len, uint32_t *costs, size_t costs_len, uint8_t *choices,
+                       size_t choices_len, uint32_t *results, size_t results_len, uint32_t *work, size_t work_len,
+                       uint32_t *place, uint32_t *count);
 
 #ifdef __cplusplus
 }

@@ -35,7 +35,7 @@ module _ (s costs choices results work : List ℕ) where
   abbrev turn : BatchOutcome
   turn = inTurn (batchOf s) costs choices results work
 
-  -- what stands before any problem is looked at
+  -- the frames are whole, and each problem has its areas
   abbrev whole : Bool
   whole = batchOk s && areasOk (length (batchOf s)) (length costs) (length choices) (length results)
 

@@ -1,20 +1,18 @@
 -- The areas of the problems: each holds what a call of its own gives there, and behind the last nothing has changed.
 use mathlib.Core.Path.{_≡_, refl, sym, ap, _∙_}
-use mathlib.Core.Bool.{true, _&&_}
+use mathlib.Core.Bool.{true}
 use mathlib.Core.List.{List, [], _∷_, _++_}
 use Prim.Native.Nat.{ℕ, zero, suc, _+_, _*_, _≤_, _<_}
 use native.Mathlib.Omega.{arith}
 use native.Mathlib.Nat.{mul-suc}
-use lib.Dec.{leb}
 use lib.ListN.{length, getD, take, drop, length-drop}
 use lib.Seq.{take-at, drop-at, drop-drop}
-use borrow.Author.Tests.{leb-true}
 use Rattle.model.specs.Calls.{solveOutcome}
-use Rattle.model.proofs.Bits.{and-left, and-right}
 use Rattle.model.proofs.Demands.{buffers}
 use Rattle.batch_frames.specs.Batches.{batchOf}
 use Rattle.batch_frames.specs.Outcomes.{costArea, choiceArea, resultArea, areasOk, inTurn, batchOutcome}
 use Rattle.batch_frames.specs.Statements.{Taken, areaOf, Stands, Beyond}
+use Rattle.batch_frames.proofs.AreaSteps.{areas-there}
 use Rattle.batch_frames.proofs.InTurn.{costs-long, choices-long, work-long, costs-same, choices-same}
 use Rattle.batch_frames.proofs.Accepted.{in-turn}
 
@@ -49,17 +47,11 @@ record There (k : ℕ) (costs choices : List ℕ) : Type 0 where
   costs-there : costArea * k ≤ length costs
   choices-there : choiceArea * k ≤ length choices
 
-areas-there : (k : ℕ) (costs choices results : List ℕ)
+there : (k : ℕ) (costs choices results : List ℕ)
     → areasOk k (length costs) (length choices) (length results) ≡ true → There k costs choices
-unfolding areasOk
-areas-there k costs choices results h =
-    let first = leb (costArea * k) (length costs) in
-    let second = leb (choiceArea * k) (length choices) in
-    let third = leb (resultArea * k) (length results) in
-    record {
-      costs-there = leb-true _ _ (and-left first (second && third) h);
-      choices-there = leb-true _ _ (and-left second third (and-right first (second && third) h));
-    }
+there k costs choices results h =
+    let (in-costs, in-choices, in-results) = areas-there k (length costs) (length choices) (length results) h in
+    record { costs-there = in-costs; choices-there = in-choices }
 
 there-next : (k : ℕ) (costs choices : List ℕ) → There (suc k) costs choices
     → There k (drop costArea costs) (drop choiceArea choices)
@@ -135,11 +127,11 @@ pub each : (k : ℕ) (s costs choices results work : List ℕ) → Taken s costs
 each k s costs choices results work t h =
     rw (in-turn s costs choices results work t)
     (stands work k (batchOf s) costs choices results work refl
-    (areas-there (length (batchOf s)) costs choices results (t .areas)) h)
+    (there (length (batchOf s)) costs choices results (t .areas)) h)
 
 pub beyond : (s costs choices results work : List ℕ) → Taken s costs choices results work
     → Beyond (length (batchOf s)) costs choices results (batchOutcome s costs choices results work)
 beyond s costs choices results work t =
     rw (in-turn s costs choices results work t)
     (behind (batchOf s) costs choices results work
-    (areas-there (length (batchOf s)) costs choices results (t .areas)))
+    (there (length (batchOf s)) costs choices results (t .areas)))

@@ -80,7 +80,7 @@ batch-rows =
     tells (empties 2) 512 3072 5 8192 21 refl ∷
     tells (empties 16) 4096 24576 48 8192 0 refl ∷
     tells (empties 16) 4095 24576 48 8192 21 refl ∷
-    -- no problem needs no areas
+    -- an empty batch needs no areas
     tells [] 0 0 0 8192 0 refl ∷
     -- 21 comes before 12, and 12 before what is wrong with a problem
     tells (0 ∷ []) 256 1536 3 8191 21 refl ∷

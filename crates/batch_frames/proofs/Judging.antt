@@ -18,7 +18,8 @@ abbrev pub fitting : List ℕ → (costs choices results : ℕ) → Bool
 fitting s costs choices results = batchOk s && areasOk (length (batchOf s)) costs choices results
 
 module _ (s : List ℕ) (costs choices results memory : ℕ) where
-  pub judged-unfit : fitting s costs choices results ≡ false → JudgedSays s costs choices results memory (unheard badBatch)
+  pub judged-unfit : fitting s costs choices results ≡ false
+      → JudgedSays s costs choices results memory (unheard badBatch)
   unfolding judgement frameVerdict
   judged-unfit h = record { number = rw h refl; count = rw h refl; few = omega arith }
 

@@ -10,6 +10,7 @@ pub mod Judging
 pub mod InTurn
 pub mod Accepted
 -- what they leave
+pub mod AreaSteps
 pub mod Areas
 pub mod Memory
 pub mod Room

@@ -1,16 +1,15 @@
 -- Room for points: in the caller's buffers, and in arrays for as many points as an answer may have.
 use mathlib.Core.Path.{_≡_, refl}
 use mathlib.Core.List.{List}
-use Prim.Native.Nat.{ℕ, zero, suc, _*_, _≤_}
+use Prim.Native.Nat.{ℕ, _*_, _≤_}
 use native.Mathlib.Omega.{arith}
-use native.Mathlib.Nat.{le-div-iff-mul-le}
 use lib.ListN.{length, replicate, length-replicate}
 use Rattle.model.specs.Limits.{maxObjectives, maxVariables, maxPoints}
 use Rattle.model.specs.Problems.{Problem}
-use Rattle.model.specs.Calls.{divided, roomOf}
+use Rattle.model.specs.Calls.{roomOf}
 use Rattle.model.specs.declared.Header as DM
 use Rattle.model.proofs.Numbers.{product-small}
-use Rattle.model.proofs.Flat.{divided-fits}
+use Rattle.model.proofs.Flat.{divided-fits, room-whole}
 use Rattle.answers.specs.Says.{roomIn}
 use Rattle.cache_call.specs.Steps.{Counted}
 
@@ -38,13 +37,6 @@ module _ (h : DM.Header) (counted : Counted h) (k : ℕ) (few : k ≤ maxPoints)
   pub choices-few : k * h .variables ≤ 1536
   choices-few = omega (arith, product-small maxPoints maxVariables k (h .variables) few (counted .variables .1))
 
-fits-divided : (k a b : ℕ) → 1 ≤ b → k * b ≤ a → k ≤ divided a b
-unfolding divided
-fits-divided k a zero some l = absurd (omega (arith, some))
-fits-divided k a (suc b) some l =
-    let positive : 1 ≤ suc b = omega arith in
-    le-div-iff-mul-le positive .1 l
-
 -- the header is a problem's
 module _ (q : Problem) (h : DM.Header) (p : h .objectives ≡ q .objectives)
     (n : h .variables ≡ length (q .domains)) where
@@ -53,10 +45,7 @@ module _ (q : Problem) (h : DM.Header) (p : h .objectives ≡ q .objectives)
   room-is costs choices = rw (p, n) refl
 
   pub array-room : Counted h → roomOf q noCosts noChoices ≡ maxPoints
-  unfolding roomOf
   array-room counted =
-      let costs = fits-divided maxPoints 256 (q .objectives) (omega (arith, p, counted .objectives))
-      (omega (arith, p, counted .objectives)) in
-      let choices = fits-divided maxPoints 1536 (length (q .domains)) (omega (arith, n, counted .variables))
-      (omega (arith, n, counted .variables)) in
-      rw (length-replicate {A = ℕ} 256 0, length-replicate {A = ℕ} 1536 0) (omega (arith, costs, choices))
+      room-whole q noCosts noChoices (omega (arith, p, counted .objectives)) (omega (arith, n, counted .variables))
+      (rw (length-replicate {A = ℕ} 256 0) (omega (arith, p, counted .objectives)))
+      (rw (length-replicate {A = ℕ} 1536 0) (omega (arith, n, counted .variables)))

@@ -10,5 +10,6 @@ pub mod BoundLaws
 pub mod TextBack
 pub mod EqualForms
 pub mod CachedRuns
+pub mod BatchTurns
 -- walks by hand
 pub mod Lent

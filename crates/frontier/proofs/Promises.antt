@@ -25,8 +25,10 @@ use Rattle.form_canonical.specs.Says.{CanonicalSays}
 use Rattle.cache_answers.specs.declared.Cached as DK
 use Rattle.cache_answers.specs.Outcomes.{CachedOutcome}
 use Rattle.cache_answers.specs.Says.{CachedSays}
+use Rattle.batch_frames.specs.Outcomes.{BatchOutcome}
+use Rattle.batch_call.specs.Says.{BatchSays}
 use Rattle.frontier.specs.Says.{SolveExports, CutExports, BoundExports, ConvertExports}
-use Rattle.frontier.specs.Says.{CanonicalExports, CachedExports}
+use Rattle.frontier.specs.Says.{CanonicalExports, CachedExports, BatchExports}
 
 module _ (s : List ℕ) (bytes : (i : ℕ) → getD s i 0 < byteEnd) where
   pub solve-promise : (o : SolveOutcome) {c x w : List ℕ} (r : DA.Answer) → SolveSays o c x w r
@@ -97,6 +99,19 @@ module _ (s : List ℕ) (bytes : (i : ℕ) → getD s i 0 < byteEnd) where
     choices = says .choices;
     work = says .work;
     store = says .store;
+  }
+
+  pub batch-promise : (o : BatchOutcome) {c x rs w : List ℕ} (r : DA.Answer) → BatchSays o c x rs w r
+      → BatchExports s o c x rs w (r .number) (r .place) (r .count)
+  batch-promise o r says = record {
+    bytes = all-each Byte 0 s bytes;
+    number = says .number;
+    place = says .place;
+    count = says .count;
+    costs = says .costs;
+    choices = says .choices;
+    results = says .results;
+    work = says .work;
   }
 
 -- the cut call's answer as it is handed to C

@@ -12,6 +12,7 @@ use Rattle.model.specs.declared.Point as DP
 use Rattle.text_networks.specs.Conversions.{ConvertOutcome}
 use Rattle.form_canonical.specs.Canonical.{CanonicalOutcome}
 use Rattle.cache_answers.specs.Outcomes.{CachedOutcome}
+use Rattle.batch_frames.specs.Outcomes.{BatchOutcome}
 
 -- the plain call
 pub record SolveExports (s : List ℕ) (o : SolveOutcome) (costs′ choices′ work′ : List ℕ) (result at points : ℕ)
@@ -92,3 +93,15 @@ pub record CachedExports (s : List ℕ) (o : CachedOutcome) (costs′ choices′
   pub choices : choices′ ≡ o .choices
   pub work : work′ ≡ o .work
   pub store : store′ ≡ o .store
+
+-- the call for a batch of problems: s is the batch, and the count is that of its problems
+pub record BatchExports (s : List ℕ) (o : BatchOutcome) (costs′ choices′ results′ work′ : List ℕ)
+    (result at problems : ℕ) : Type 0 where
+  pub bytes : All Byte s
+  pub number : result ≡ o .verdict .number
+  pub place : at ≡ o .verdict .place
+  pub count : problems ≡ o .count
+  pub costs : costs′ ≡ o .costs
+  pub choices : choices′ ≡ o .choices
+  pub results : results′ ≡ o .results
+  pub work : work′ ≡ o .work

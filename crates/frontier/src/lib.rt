@@ -6,13 +6,14 @@ ghost use Rattle.text_networks.specs.Conversions.{toTextOutcome, fromTextOutcom
 ghost use Rattle.frontier.specs.Says.{asPoints, SolveExports, ListExports, CutExports, BoundExports};
 ghost use Rattle.form_canonical.specs.Canonical.{canonicalOutcome};
 ghost use Rattle.cache_answers.specs.Outcomes.{cachedOutcome};
-ghost use Rattle.frontier.specs.Says.{ConvertExports, CanonicalExports, CachedExports};
+ghost use Rattle.batch_frames.specs.Outcomes.{batchOutcome};
+ghost use Rattle.frontier.specs.Says.{ConvertExports, CanonicalExports, CachedExports, BatchExports};
 ghost use Rattle.frontier.specs.Version.{version};
 
 // The version of the interface; include/frontier.h has the same three numbers.
 const VERSION_MAJOR: u32 = 3;
 
-const VERSION_MINOR: u32 = 0;
+const VERSION_MINOR: u32 = 1;
 
 const VERSION_PATCH: u32 = 0;
 
@@ -319,4 +320,41 @@ pub extern "C" fn frontier_solve_cached(
 {
     let cached = solve_cached(problem, costs, choices, work, store);
     cache_answers::tell(cached, place, count, hit)
+}
+
+// The frontier lists of up to 16 problems, each as the plain call gives it on its areas.
+pub fn solve_batch(
+    batch: &[u8],
+    costs: &mut [u32],
+    choices: &mut [u8],
+    results: &mut [u32],
+    work: &mut [u32],
+) -> answers::Answer
+    ensures { λ r. ⌜ BatchExports (now (batch .entry))
+        (batchOutcome (now (batch .entry)) (now (costs .entry)) (now (choices .entry)) (now (results .entry))
+        (now (work .entry)))
+        (now (costs .exit)) (now (choices .exit)) (now (results .exit)) (now (work .exit))
+        (r .number) (r .place) (r .count) ⌝ }
+{
+    batch_call::solve_batch(batch, costs, choices, results, work)
+}
+
+#[no_mangle]
+pub extern "C" fn frontier_batch(
+    batch: &[u8],
+    costs: &mut [u32],
+    choices: &mut [u8],
+    results: &mut [u32],
+    work: &mut [u32],
+    place: &mut u32,
+    count: &mut u32,
+) -> u8
+    ensures { λ r. ⌜ BatchExports (now (batch .entry))
+        (batchOutcome (now (batch .entry)) (now (costs .entry)) (now (choices .entry)) (now (results .entry))
+        (now (work .entry)))
+        (now (costs .exit)) (now (choices .exit)) (now (results .exit)) (now (work .exit))
+        r (now (place .exit)) (now (count .exit)) ⌝ }
+{
+    let answer = solve_batch(batch, costs, choices, results, work);
+    answers::tell(answer, place, count)
 }

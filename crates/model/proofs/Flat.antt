@@ -6,6 +6,7 @@ use native.Mathlib.Omega.{arith}
 use native.Mathlib.Nat.{suc-mul, zero-mul, mul-zero, le-div-iff-mul-le}
 use lib.ListN.{length, length-append}
 use Rattle.model.specs.Basics.{All}
+use Rattle.model.specs.Limits.{maxPoints}
 use Rattle.model.specs.Problems.{Problem}
 use Rattle.model.specs.Frontiers.{Point, frontier}
 use Rattle.model.specs.Calls.{divided, roomOf, flatCosts, flatChoices, pointRecords}
@@ -48,6 +49,13 @@ divided-fits k a (suc b) l =
     let some : 1 ≤ suc b = omega arith in
     le-div-iff-mul-le some .0 l
 
+fits-divided : (k a b : ℕ) → 1 ≤ b → k * b ≤ a → k ≤ divided a b
+unfolding divided
+fits-divided k a zero some l = absurd (omega (arith, some))
+fits-divided k a (suc b) some l =
+    let positive : 1 ≤ suc b = omega arith in
+    le-div-iff-mul-le positive .1 l
+
 module _ (q : Problem) (costs choices : List ℕ) (k : ℕ) (few : k ≤ roomOf q costs choices) where
   pub costs-fit : k * q .objectives ≤ length costs
   unfolding roomOf
@@ -56,3 +64,15 @@ module _ (q : Problem) (costs choices : List ℕ) (k : ℕ) (few : k ≤ roomOf 
   pub choices-fit : k * length (q .domains) ≤ length choices
   unfolding roomOf
   choices-fit = divided-fits k (length choices) (length (q .domains)) (omega (arith, few))
+
+-- buffers for as many points as a list may have
+pub room-whole : (q : Problem) (costs choices : List ℕ) → 1 ≤ q .objectives → 1 ≤ length (q .domains)
+    → maxPoints * q .objectives ≤ length costs → maxPoints * length (q .domains) ≤ length choices
+    → roomOf q costs choices ≡ maxPoints
+unfolding roomOf
+room-whole q costs choices some-objective some-variable c x =
+    omega (
+      arith,
+      fits-divided maxPoints (length costs) (q .objectives) some-objective c,
+      fits-divided maxPoints (length choices) (length (q .domains)) some-variable x,
+    )
