@@ -1,7 +1,7 @@
 //! The buffers that a flat call is lent, and flat calls as values.
 
 use crate::lent::{Answer, CachedAnswer, Halves};
-use crate::limits::{LEAST_WORK, MAX_OBJECTIVES, MAX_POINTS, MAX_VARIABLES};
+use crate::limits::{CHOICES_LEN, COSTS_LEN, LEAST_WORK};
 use crate::list::Frontier;
 use crate::problem::sizes;
 use crate::refusal::{check, Refusal};
@@ -14,6 +14,9 @@ pub type CutCall = fn(&[u8], &[u8], &mut [u32], &mut [u8], &mut [u32]) -> Halves
 
 /// A cached call, as `solve_cached` is: problem, costs, choices, work, store.
 pub type CachedCall = fn(&[u8], &mut [u32], &mut [u8], &mut [u32], &mut [u8]) -> CachedAnswer;
+
+/// A batch call, as `solve_batch` is: batch, costs, choices, results, work.
+pub type BatchCall = fn(&[u8], &mut [u32], &mut [u8], &mut [u32], &mut [u32]) -> Answer;
 
 /// The three buffers that a flat call is lent.
 #[derive(Clone, Debug, PartialEq, Eq)]
@@ -30,8 +33,8 @@ impl Buffers {
     /// Room for 64 points of any problem, and the least work buffer, all zero.
     pub fn full() -> Buffers {
         Buffers {
-            costs: vec![0; MAX_POINTS * MAX_OBJECTIVES],
-            choices: vec![0; MAX_POINTS * MAX_VARIABLES],
+            costs: vec![0; COSTS_LEN],
+            choices: vec![0; CHOICES_LEN],
             work: vec![0; LEAST_WORK],
         }
     }

@@ -1,7 +1,8 @@
 //! The chooser with buffers of its own.
 
-use crate::lent::{bound_prefix, solve_cached, solve_cut, solve_problem, Buffers};
-use crate::limits::{MAX_OBJECTIVES, MAX_POINTS};
+use crate::lent::{bound_prefix, frame, solve_batch, solve_cached, solve_cut, solve_problem};
+use crate::lent::{BatchBuffers, Buffers};
+use crate::limits::{MAX_BATCH, MAX_BYTES, MAX_OBJECTIVES, MAX_POINTS};
 use crate::list::Frontier;
 use crate::measure::{solve_measured, Measures};
 use crate::problem::sizes;
@@ -15,6 +16,8 @@ use crate::store::{Cached, Store};
 #[derive(Clone, Debug)]
 pub struct Chooser {
     lent: Buffers,
+    /// For batches; none before the first.
+    batch: Option<BatchBuffers>,
     room: usize,
 }
 
@@ -51,6 +54,7 @@ impl Chooser {
     pub fn with_room(points: usize) -> Chooser {
         Chooser {
             lent: Buffers::full(),
+            batch: None,
             room: points.min(MAX_POINTS),
         }
     }
@@ -60,6 +64,59 @@ impl Chooser {
         self.make_room(problem);
         let answer = self.lent.lend(solve_problem, problem);
         self.lent.listed(problem, answer)
+    }
+
+    /// Lists the frontiers of up to [`MAX_BATCH`] problems in one call, in their order, each as
+    /// [`solve`](Chooser::solve) does: a problem that is refused has its refusal there, and the others are answered
+    /// all the same. Only more problems than these are refused as a whole ([`Refusal::Batch`]); of any number,
+    /// [`chunks`](slice::chunks) makes batches.
+    ///
+    /// ```
+    /// use frontier::limits::MAX_BATCH;
+    /// use frontier::{Chooser, Problem, Refusal, Table};
+    ///
+    /// let problem = |ceiling| Problem {
+    ///     ceilings: vec![ceiling],
+    ///     domains: vec![2],
+    ///     tables: vec![Table::new(0, &[0], &[30, 20])],
+    /// };
+    /// let mut problems: Vec<Vec<u8>> = (0..40).map(|ceiling| problem(ceiling).encode()).collect();
+    /// problems[7].pop(); // this one has lost its last byte
+    ///
+    /// let mut chooser = Chooser::new();
+    /// let mut points = Vec::new();
+    /// for batch in problems.chunks(MAX_BATCH) {
+    ///     for frontier in chooser.solve_batch(batch)? {
+    ///         points.push(frontier.map(|frontier| frontier.len()));
+    ///     }
+    /// }
+    /// assert_eq!(points[7], Err(Refusal::CutShort(13)));
+    /// assert_eq!([points[19], points[20]], [Ok(0), Ok(1)]);
+    /// assert_eq!(chooser.solve_batch(&problems), Err(Refusal::Batch));
+    /// # Ok::<(), frontier::Refusal>(())
+    /// ```
+    pub fn solve_batch(
+        &mut self,
+        problems: &[impl AsRef<[u8]>],
+    ) -> Result<Vec<Result<Frontier<'_>, Refusal>>, Refusal> {
+        // A longer problem is refused for its length, so that no more of it is copied.
+        let problems: Vec<&[u8]> = problems
+            .iter()
+            .map(AsRef::as_ref)
+            .map(|bytes| bytes.get(..=MAX_BYTES).unwrap_or(bytes))
+            .collect();
+        let lent = self
+            .batch
+            .get_or_insert_with(|| BatchBuffers::new(MAX_BATCH));
+        let answer = lent.lend(solve_batch, &frame(&problems));
+        check(answer.number, answer.place)?;
+        let (lent, room) = (&*lent, self.room);
+        let listed = |(k, problem): (usize, &&[u8])| match lent.listed(k, problem) {
+            // The areas of a batch have room for 64 points, whatever was asked for.
+            Ok(frontier) if frontier.len() > room => Err(Refusal::Full),
+            listed => listed,
+        };
+        Ok(problems.iter().enumerate().map(listed).collect())
     }
 
     /// Lists the frontier of a problem, from the store if that holds it. A problem that was not there is

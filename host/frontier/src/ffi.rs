@@ -128,6 +128,21 @@ extern "C" {
         count: *mut u32,
         hit: *mut u8,
     ) -> u8;
+
+    pub fn frontier_batch(
+        batch: *const u8,
+        batch_len: usize,
+        costs: *mut u32,
+        costs_len: usize,
+        choices: *mut u8,
+        choices_len: usize,
+        results: *mut u32,
+        results_len: usize,
+        work: *mut u32,
+        work_len: usize,
+        place: *mut u32,
+        count: *mut u32,
+    ) -> u8;
 }
 
 /// What a call is to the linker that makes one form of a problem of another.

@@ -2,28 +2,31 @@
 //! `include/frontier.h` declares, with the same meaning. Numbers of refusal are those of
 //! [`refusal`](crate::refusal), 0 is none.
 
-use crate::ffi::frontier_solve_cached;
+use crate::ffi::{frontier_batch, frontier_solve_cached};
 use crate::ffi::{frontier_bound, frontier_cut, frontier_points, frontier_solve};
 use crate::ffi::{frontier_canonical, frontier_from_text, frontier_to_text, Convert, Solve};
 use crate::limits::{MAX_OBJECTIVES, MAX_VARIABLES};
 use crate::refusal::Refusal;
 
-pub use crate::buffers::{Buffers, CachedCall, CutCall, SolveCall};
+pub use crate::batch::{frame, BatchBuffers};
+pub use crate::buffers::{BatchCall, Buffers, CachedCall, CutCall, SolveCall};
 
 /// What a call answers: number 0 and the count of points (of bytes, from the calls that write a form of the
-/// problem), or a refusal with count 0.
+/// problem, and of problems, from the call for a batch), or a refusal with count 0.
 #[derive(Clone, Copy, Debug, PartialEq, Eq)]
 pub struct Answer {
     /// The number of refusal, or 0.
     pub number: u8,
     /// The place of the refusal; 0 where it has none.
     pub place: u32,
-    /// How many points are listed, or how many bytes of a text, a problem or a canonical form are written.
+    /// How many points are listed, how many bytes of a text, a problem or a canonical form are written, or how
+    /// many problems a batch has.
     pub count: u32,
 }
 
 impl Answer {
-    /// An accepted problem with this many points, or an accepted form of this many bytes.
+    /// An accepted problem with this many points, an accepted form of this many bytes, or an accepted batch of
+    /// this many problems.
     pub fn accepted(count: usize) -> Answer {
         Answer {
             number: 0,
@@ -502,4 +505,53 @@ pub fn solve_cached(
         count,
     };
     CachedAnswer { answer, hit }
+}
+
+/// The batch call as C has it: the number of refusal is the result, and `place` and `count` are written
+/// whatever they held. Callers that only want the answer use [`solve_batch`].
+pub fn write_batch(
+    batch: &[u8],
+    costs: &mut [u32],
+    choices: &mut [u8],
+    results: &mut [u32],
+    work: &mut [u32],
+    place: &mut u32,
+    count: &mut u32,
+) -> u8 {
+    // SAFETY: as in `lend`, with the result list as a fourth buffer; the six that are written are exclusive.
+    unsafe {
+        frontier_batch(
+            batch.as_ptr(),
+            batch.len(),
+            costs.as_mut_ptr(),
+            costs.len(),
+            choices.as_mut_ptr(),
+            choices.len(),
+            results.as_mut_ptr(),
+            results.len(),
+            work.as_mut_ptr(),
+            work.len(),
+            place,
+            count,
+        )
+    }
+}
+
+/// Lists the frontiers of the problems of a batch, as [`frame`] makes it, each into its areas of the buffers, as
+/// [`BatchBuffers`] has them. The result list takes number, place and count of each problem; the answer is of the
+/// batch as a whole, and counts its problems.
+pub fn solve_batch(
+    batch: &[u8],
+    costs: &mut [u32],
+    choices: &mut [u8],
+    results: &mut [u32],
+    work: &mut [u32],
+) -> Answer {
+    let (mut place, mut count) = (0, 0);
+    let number = write_batch(batch, costs, choices, results, work, &mut place, &mut count);
+    Answer {
+        number,
+        place,
+        count,
+    }
 }

@@ -35,6 +35,7 @@
 
 #![warn(missing_docs)]
 
+mod batch;
 mod buffers;
 mod canonical;
 mod chooser;

@@ -33,3 +33,18 @@ pub const MAX_SLOTS: usize = 32;
 
 /// A problem as WCSP text has at most this many bytes: 17 for 4 of the problem's.
 pub const TEXT_LEN: usize = 255_000;
+
+/// Costs of 64 points of any problem: so many numbers of the cost buffer are a problem's area in a batch.
+pub const COSTS_LEN: usize = MAX_POINTS * MAX_OBJECTIVES;
+
+/// Choices of 64 points of any problem: so many bytes of the choice buffer are a problem's area in a batch.
+pub const CHOICES_LEN: usize = MAX_POINTS * MAX_VARIABLES;
+
+/// A batch has at most this many problems.
+pub const MAX_BATCH: usize = 16;
+
+/// This many bytes stand before each problem of a batch: the mark `BP` and the problem's length.
+pub const FRAME_BYTES: usize = 6;
+
+/// This many numbers of the result list are a problem's area in a batch: number of refusal, place and count.
+pub const RESULT_LEN: usize = 3;

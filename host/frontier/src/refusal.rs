@@ -4,7 +4,7 @@
 use std::error::Error;
 use std::fmt;
 
-use crate::limits::{LEAST_WORK, MAX_ARITY, MAX_BYTES, MAX_DOMAIN, MAX_OBJECTIVES};
+use crate::limits::{LEAST_WORK, MAX_ARITY, MAX_BATCH, MAX_BYTES, MAX_DOMAIN, MAX_OBJECTIVES};
 use crate::limits::{MAX_POINTS, MAX_TABLES, MAX_VARIABLES, SLOT_BYTES};
 
 /// [`Refusal::Oversize`].
@@ -47,6 +47,8 @@ pub const DIALECT: u8 = 18;
 pub const OUTPUT: u8 = 19;
 /// [`Refusal::Store`].
 pub const STORE: u8 = 20;
+/// [`Refusal::Batch`].
+pub const BATCH: u8 = 21;
 
 /// Why there is no answer. Where a record of the problem is at fault, its place is beside it: the
 /// record's first byte, counted from 0.
@@ -107,6 +109,9 @@ pub enum Refusal {
     Output,
     /// Number 20: the store has not one slot.
     Store,
+    /// Number 21: frames do not make up the batch, they are more than 16, or a buffer lacks an area of some
+    /// problem, or a part of it.
+    Batch,
 }
 
 /// What there is to say of a refusal: its number and word, and how to make it with a place.
@@ -117,7 +122,7 @@ struct Row {
 }
 
 /// A row for each number, from 1 on.
-const ROWS: [Row; 20] = [
+const ROWS: [Row; 21] = [
     row(OVERSIZE, "oversize", |_| Refusal::Oversize),
     row(CUT_SHORT, "cut short", Refusal::CutShort),
     row(STRAY_MARK, "stray mark", Refusal::StrayMark),
@@ -138,6 +143,7 @@ const ROWS: [Row; 20] = [
     row(DIALECT, "dialect", |_| Refusal::Dialect),
     row(OUTPUT, "output", |_| Refusal::Output),
     row(STORE, "store", |_| Refusal::Store),
+    row(BATCH, "batch", |_| Refusal::Batch),
 ];
 
 const fn row(number: u8, word: &'static str, make: fn(u32) -> Refusal) -> Row {
@@ -200,6 +206,7 @@ impl Refusal {
             Refusal::Dialect => DIALECT,
             Refusal::Output => OUTPUT,
             Refusal::Store => STORE,
+            Refusal::Batch => BATCH,
         }
     }
 
@@ -230,7 +237,8 @@ impl Refusal {
             | Refusal::Text
             | Refusal::Dialect
             | Refusal::Output
-            | Refusal::Store => None,
+            | Refusal::Store
+            | Refusal::Batch => None,
         }
     }
 
@@ -280,6 +288,10 @@ impl Refusal {
             }
             Refusal::Output => "the buffer is shorter than what is to be written".into(),
             Refusal::Store => format!("the store has fewer than {SLOT_BYTES} bytes"),
+            Refusal::Batch => format!(
+                "the batch is not made of whole frames, has more than {MAX_BATCH} problems, or a \
+                 buffer lacks an area of one"
+            ),
         }
     }
 }
