@@ -17,7 +17,7 @@ pub struct Told {
     pub number: u8,
     pub place: u32,
     pub count: u32,
-    /// Processor time of the call.
+    /// Processor time of the call, which in a run with a table is for this problem alone.
     pub microseconds: u64,
     /// FNV-1a of the listed costs and choices.
     pub digest: u64,

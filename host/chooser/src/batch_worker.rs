@@ -1,22 +1,27 @@
-//! What a worker of a batch does with a problem: the plain call through one set of buffers, or the cached
-//! call with a store, its time and digest, and a second call from other junk.
+//! What a worker of a batch is asked and answers: up to 16 problems in one call, or one, through one set of buffers;
+//! or the cached call with a store.
 
+use crate::batch_calls::{cached_once, cached_twice, call_once, call_twice, lend_single};
+use crate::batch_calls::{Called, Fault};
 use crate::batch_csv::Told;
-use crate::clock::thread_time;
-use crate::digest::list_digest;
 use crate::hex::{from_hex, to_hex};
-use crate::junk::{junk, junk_buffers, Rng};
+use crate::junk::{junk_batch_buffers, Rng};
 use crate::worker::serve;
-use frontier::lent::{solve_cached, solve_problem, Answer, Buffers, CachedCall, SolveCall};
+use frontier::lent::{frame, solve_batch, solve_cached, solve_problem, Answer, BatchBuffers};
 use frontier::limits::SLOT_BYTES;
-use frontier::refusal::FULL;
 
 /// The option by which every call is made twice.
 pub const TWICE: &str = "--twice";
 
-/// The line that asks a worker about a problem.
-pub fn question(bytes: &[u8]) -> String {
-    to_hex(bytes)
+/// The line that asks a worker about some problems, which go into one call.
+pub fn question(problems: &[Vec<u8>]) -> String {
+    let problems: Vec<String> = problems.iter().map(|bytes| to_hex(bytes)).collect();
+    problems.join(" ")
+}
+
+/// The problems of such a line. Without a digit it has one, which is empty.
+fn asked_problems(line: &str) -> Option<Vec<Vec<u8>>> {
+    line.split(' ').map(from_hex).collect()
 }
 
 /// Begins the line that hands a store to a worker.
@@ -30,60 +35,92 @@ pub fn store_line(store: &[u8]) -> String {
 /// A worker's answer to a question.
 #[derive(Debug, PartialEq, Eq)]
 pub struct Reply {
-    /// What the call has told.
-    pub told: Told,
-    /// What was wrong with the buffers, if anything.
-    pub fault: Option<String>,
+    /// What the call has told of each problem, and what was wrong with it.
+    pub called: Called,
     /// What the call has changed in the store: where, and the bytes that stand there now.
     pub changes: Vec<(usize, Vec<u8>)>,
 }
 
 impl Reply {
-    /// As the lines that a worker prints.
+    /// As the lines that a worker prints, each of which begins with what it is about.
     fn text(&self) -> String {
-        let Told {
-            number,
-            place,
-            count,
-            microseconds,
-            digest,
-            hit,
-        } = self.told;
-        let hit = hit.map_or("none", |hit| if hit { "1" } else { "0" });
-        let fault = self.fault.as_deref().unwrap_or_default();
-        let mut text = format!("{number} {place} {count} {microseconds} {digest} {hit};{fault}\n");
-        for (place, bytes) in &self.changes {
-            text.push_str(&format!("{place} {}\n", to_hex(bytes)));
-        }
-        text
+        let told = self.called.told.iter().map(told_line);
+        let faults = self.called.faults.iter().map(fault_line);
+        let change =
+            |(place, bytes): &(usize, Vec<u8>)| format!("{STORE}{place} {}\n", to_hex(bytes));
+        let changes = self.changes.iter().map(change);
+        told.chain(faults).chain(changes).collect()
     }
 
     /// From such lines.
     pub fn parse(text: &str) -> Option<Reply> {
-        let mut lines = text.lines();
-        let (numbers, fault) = lines.next()?.split_once(';')?;
-        let mut numbers = numbers.split(' ');
-        let told = Told {
-            number: numbers.next()?.parse().ok()?,
-            place: numbers.next()?.parse().ok()?,
-            count: numbers.next()?.parse().ok()?,
-            microseconds: numbers.next()?.parse().ok()?,
-            digest: numbers.next()?.parse().ok()?,
-            hit: match numbers.next()? {
-                "none" => None,
-                hit => Some(hit == "1"),
-            },
-        };
-        let change = |line: &str| {
-            let (place, bytes) = line.split_once(' ')?;
-            Some((place.parse().ok()?, from_hex(bytes)?))
-        };
-        Some(Reply {
-            told,
-            fault: (!fault.is_empty()).then(|| fault.into()),
-            changes: lines.map(change).collect::<Option<_>>()?,
-        })
+        let (mut told, mut faults, mut changes) = (Vec::new(), Vec::new(), Vec::new());
+        for line in text.lines() {
+            if let Some(numbers) = line.strip_prefix(TOLD) {
+                told.push(parse_told(numbers)?);
+            } else if let Some(fault) = line.strip_prefix(FAULT) {
+                faults.push(parse_fault(fault)?);
+            } else {
+                let (place, bytes) = line.strip_prefix(STORE)?.split_once(' ')?;
+                changes.push((place.parse().ok()?, from_hex(bytes)?));
+            }
+        }
+        let called = Called { told, faults };
+        Some(Reply { called, changes })
     }
+}
+
+/// Begins the line of what was told of a problem.
+const TOLD: &str = "told ";
+
+/// Begins the line of what was wrong.
+const FAULT: &str = "fault ";
+
+/// Stands for a value that there is not.
+const NONE: &str = "none";
+
+fn told_line(told: &Told) -> String {
+    let Told {
+        number,
+        place,
+        count,
+        microseconds,
+        digest,
+        hit,
+    } = told;
+    let hit = hit.map_or(NONE, |hit| if hit { "1" } else { "0" });
+    format!("{TOLD}{number} {place} {count} {microseconds} {digest} {hit}\n")
+}
+
+fn parse_told(numbers: &str) -> Option<Told> {
+    let mut numbers = numbers.split(' ');
+    Some(Told {
+        number: numbers.next()?.parse().ok()?,
+        place: numbers.next()?.parse().ok()?,
+        count: numbers.next()?.parse().ok()?,
+        microseconds: numbers.next()?.parse().ok()?,
+        digest: numbers.next()?.parse().ok()?,
+        hit: match numbers.next()? {
+            NONE => None,
+            hit => Some(hit == "1"),
+        },
+    })
+}
+
+fn fault_line(fault: &Fault) -> String {
+    let problem = fault.problem.map_or(NONE.into(), |k| k.to_string());
+    format!("{FAULT}{problem} {}\n", fault.complaint)
+}
+
+fn parse_fault(fault: &str) -> Option<Fault> {
+    let (problem, complaint) = fault.split_once(' ')?;
+    Some(Fault {
+        problem: match problem {
+            NONE => None,
+            k => Some(k.parse().ok()?),
+        },
+        complaint: complaint.into(),
+    })
 }
 
 /// A worker's store, and the same as those who asked know it.
@@ -117,176 +154,68 @@ impl Kept {
     }
 }
 
-/// Answers questions until there are no more. All problems go through one set of buffers, which
-/// starts with junk. With a store it makes the cached call, and tells with each answer what that has stored,
-/// so that nothing is lost with a worker that is ended at a later problem.
+/// What a worker keeps from question to question: one set of buffers, which starts with junk, and the store, if it
+/// was handed one.
+struct Serving {
+    lent: BatchBuffers,
+    rng: Rng,
+    kept: Option<Kept>,
+    twice: bool,
+}
+
+/// Answers questions until there are no more. With a store it makes the cached call, and tells with each answer what
+/// that has stored, so that nothing is lost with a worker that is ended at a later problem.
 pub fn serve_batch(twice: bool) -> Result<(), String> {
-    let (mut lent, mut rng) = (junk_buffers(), Rng::new(0));
-    let mut kept: Option<Kept> = None;
+    let mut serving = Serving {
+        lent: junk_batch_buffers(),
+        rng: Rng::new(0),
+        kept: None,
+        twice,
+    };
     serve(|line| {
         if let Some(store) = line.strip_prefix(STORE) {
             let store = from_hex(store).ok_or("a store in hexadecimal digits is due")?;
-            kept = Some(Kept::new(store));
+            serving.kept = Some(Kept::new(store));
             return Ok(String::new());
         }
-        let bytes = from_hex(line).ok_or("a problem in hexadecimal digits is due")?;
-        let (lent, rng) = (&mut lent, &mut rng);
-        let (told, checked) = match (&mut kept, twice) {
-            (None, true) => call_twice(solve_problem, lent, rng, &bytes),
-            (None, false) => call_once(solve_problem, lent, &bytes),
-            (Some(kept), true) => cached_twice(solve_cached, lent, &mut kept.store, rng, &bytes),
-            (Some(kept), false) => cached_once(solve_cached, lent, &mut kept.store, &bytes),
-        };
-        let reply = Reply {
-            told,
-            fault: checked.err(),
-            changes: kept.as_mut().map(Kept::take_changes).unwrap_or_default(),
-        };
-        Ok(reply.text())
+        let problems = asked_problems(line).ok_or("problems in hexadecimal digits are due")?;
+        let problems: Vec<&[u8]> = problems.iter().map(Vec::as_slice).collect();
+        Ok(serving.answer(&problems).text())
     })
 }
 
-/// The costs and the choices that an answer has listed; nothing after a refusal.
-fn listed<'a>(lent: &'a Buffers, bytes: &[u8], answer: Answer) -> (&'a [u32], &'a [u8]) {
-    let list = lent.listed(bytes, answer);
-    list.map_or((&[], &[]), |list| (list.costs(), list.choices()))
-}
-
-/// A flat call once, and whether the buffers are as they must be.
-pub fn call_once(
-    call: impl FnOnce(&[u8], &mut [u32], &mut [u8], &mut [u32]) -> Answer,
-    lent: &mut Buffers,
-    bytes: &[u8],
-) -> (Told, Result<(), String>) {
-    let before = lent.clone();
-    let start = thread_time();
-    let answer = call(bytes, &mut lent.costs, &mut lent.choices, &mut lent.work);
-    let time = thread_time().saturating_sub(start);
-    let (costs, choices) = listed(lent, bytes, answer);
-    let told = Told {
-        number: answer.number,
-        place: answer.place,
-        count: answer.count,
-        microseconds: time.as_micros() as u64,
-        digest: list_digest(costs, choices),
-        hit: None,
-    };
-    let written = [costs.len(), choices.len()];
-    (told, check_left(&before, lent, answer.number, written))
-}
-
-/// Whether a call that has written so many costs and choices has left the others unchanged, and has
-/// cleared the work buffer.
-fn check_left(
-    before: &Buffers,
-    after: &Buffers,
-    number: u8,
-    [costs, choices]: [usize; 2],
-) -> Result<(), String> {
-    if before.costs[costs..] != after.costs[costs..] {
-        return Err("the call has changed costs behind the last point".into());
-    }
-    if before.choices[choices..] != after.choices[choices..] {
-        return Err("the call has changed choices behind the last point".into());
-    }
-    let cleared = number == 0 || number == FULL;
-    let work_is_due = match cleared {
-        true => after.work.iter().all(|&number| number == 0),
-        false => before.work == after.work,
-    };
-    match work_is_due {
-        true => Ok(()),
-        false => Err("the call has left other work memory than it must".into()),
-    }
-}
-
-/// A flat call, and again from other junk in all buffers: the same answer, and the same points byte
-/// by byte.
-pub fn call_twice(
-    call: SolveCall,
-    lent: &mut Buffers,
-    rng: &mut Rng,
-    bytes: &[u8],
-) -> (Told, Result<(), String>) {
-    let (told, checked) = call_once(call, lent, bytes);
-    let compared = checked.and_then(|()| {
-        let mut second = other_junk(rng, lent);
-        let (again, checked) = call_once(call, &mut second, bytes);
-        checked.and_then(|()| compare_lists(bytes, [lent, &second], [told, again]))
-    });
-    (told, compared)
-}
-
-/// Buffers of the same lengths with other junk.
-fn other_junk(rng: &mut Rng, first: &Buffers) -> Buffers {
-    let [costs, choices, work] = [first.costs.len(), first.choices.len(), first.work.len()];
-    junk(rng, costs, choices, work)
-}
-
-/// Compares what two calls have told and listed.
-fn compare_lists(
-    bytes: &[u8],
-    [first, second]: [&Buffers; 2],
-    [told, again]: [Told; 2],
-) -> Result<(), String> {
-    let answer = |told: Told| Answer {
-        number: told.number,
-        place: told.place,
-        count: told.count,
-    };
-    if answer(told) != answer(again) {
-        let [one, other] = [answer(told), answer(again)];
-        return Err(format!(
-            "from other junk the call answers {other:?} instead of {one:?}"
-        ));
-    }
-    let same = listed(first, bytes, answer(told)) == listed(second, bytes, answer(told));
-    match same {
-        true => Ok(()),
-        false => Err("from other junk the call lists other points".into()),
-    }
-}
-
-/// A cached call once, and whether the buffers are as they must be.
-pub fn cached_once(
-    call: CachedCall,
-    lent: &mut Buffers,
-    store: &mut [u8],
-    bytes: &[u8],
-) -> (Told, Result<(), String>) {
-    let mut hit = false;
-    let flat = |bytes: &[u8], costs: &mut [u32], choices: &mut [u8], work: &mut [u32]| {
-        let found = call(bytes, costs, choices, work, store);
-        hit = found.hit != 0;
-        found.answer
-    };
-    let (told, checked) = call_once(flat, lent, bytes);
-    let hit = Some(hit);
-    (Told { hit, ..told }, checked)
-}
-
-/// A cached call, and again from other junk in all buffers but the store, which is as it was: the same answer
-/// and hit, the same points and the same store, byte by byte.
-pub fn cached_twice(
-    call: CachedCall,
-    lent: &mut Buffers,
-    store: &mut [u8],
-    rng: &mut Rng,
-    bytes: &[u8],
-) -> (Told, Result<(), String>) {
-    let mut other = store.to_vec();
-    let (told, checked) = cached_once(call, lent, store, bytes);
-    let compared = checked.and_then(|()| {
-        let mut second = other_junk(rng, lent);
-        let (again, checked) = cached_once(call, &mut second, &mut other, bytes);
-        checked?;
-        compare_lists(bytes, [lent, &second], [told, again])?;
-        match told.hit == again.hit && *store == other[..] {
-            true => Ok(()),
-            false => {
-                Err("from other junk the call tells another hit, or stores something else".into())
+impl Serving {
+    fn answer(&mut self, problems: &[&[u8]]) -> Reply {
+        let called = match (&mut self.kept, problems) {
+            (Some(kept), [problem]) => {
+                let (lent, store) = (&mut self.lent, &mut kept.store);
+                match self.twice {
+                    true => cached_twice(solve_cached, lent, store, &mut self.rng, problem),
+                    false => cached_once(solve_cached, lent, store, problem),
+                }
             }
+            (_, [problem]) => self.call(|lent| lend_single(solve_problem, lent, problem), problems),
+            _ => {
+                let batch = frame(problems);
+                self.call(|lent| lent.lend(solve_batch, &batch), problems)
+            }
+        };
+        let changes = self.kept.as_mut().map(Kept::take_changes);
+        Reply {
+            called,
+            changes: changes.unwrap_or_default(),
         }
-    });
-    (told, compared)
+    }
+
+    /// Makes a call once or twice.
+    fn call(
+        &mut self,
+        call: impl FnMut(&mut BatchBuffers) -> Answer,
+        problems: &[&[u8]],
+    ) -> Called {
+        match self.twice {
+            true => call_twice(call, &mut self.lent, &mut self.rng, problems),
+            false => call_once(call, &mut self.lent, problems),
+        }
+    }
 }

@@ -1,6 +1,7 @@
 //! Junk in buffers, and the seeded generator of random numbers that it comes from.
 
-use frontier::lent::Buffers;
+use frontier::lent::{BatchBuffers, Buffers};
+use frontier::limits::MAX_BATCH;
 
 /// SplitMix64: a small generator whose whole state is its seed, so a seed reproduces a case.
 pub struct Rng(u64);
@@ -69,9 +70,44 @@ pub fn junk_buffers() -> Buffers {
     lent
 }
 
+/// What stands in every byte of junk that is the same everywhere.
+const JUNK: u8 = 0xa5;
+const JUNK_NUMBER: u32 = u32::from_ne_bytes([JUNK; 4]);
+
 /// Fills all of the buffers with the same junk.
 pub fn fill_with_junk(lent: &mut Buffers) {
-    lent.costs.fill(0xa5a5_a5a5);
-    lent.choices.fill(0xa5);
-    lent.work.fill(0xa5a5_a5a5);
+    lent.costs.fill(JUNK_NUMBER);
+    lent.choices.fill(JUNK);
+    lent.work.fill(JUNK_NUMBER);
+}
+
+/// Buffers with areas for as many problems as a batch may have, full of junk.
+pub fn junk_batch_buffers() -> BatchBuffers {
+    let mut lent = BatchBuffers::new(MAX_BATCH);
+    lent.costs.fill(JUNK_NUMBER);
+    lent.choices.fill(JUNK);
+    lent.results.fill(JUNK_NUMBER);
+    lent.work.fill(JUNK_NUMBER);
+    lent
+}
+
+/// Areas of these lengths (costs, choices, results, work) with random contents.
+pub fn junk_areas(rng: &mut Rng, [costs, choices, results, work]: [usize; 4]) -> BatchBuffers {
+    let Buffers {
+        costs,
+        choices,
+        work,
+    } = junk(rng, costs, choices, work);
+    BatchBuffers {
+        costs,
+        choices,
+        results: (0..results).map(|_| rng.bits() as u32).collect(),
+        work,
+    }
+}
+
+/// Areas of the same lengths as these with random contents.
+pub fn other_areas(rng: &mut Rng, like: &BatchBuffers) -> BatchBuffers {
+    let (costs, choices) = (like.costs.len(), like.choices.len());
+    junk_areas(rng, [costs, choices, like.results.len(), like.work.len()])
 }

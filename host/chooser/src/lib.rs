@@ -1,6 +1,7 @@
 //! The library part of the command `chooser`: its subcommands, the text form of a problem, places in WCSP
 //! text, pictures and batches.
 
+pub mod batch_calls;
 pub mod batch_csv;
 pub mod batch_worker;
 pub mod cache_file;

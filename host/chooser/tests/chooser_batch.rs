@@ -3,11 +3,11 @@
 use std::fs;
 use std::path::{Path, PathBuf};
 
+use chooser::batch_calls::{call_twice, lend_single};
 use chooser::batch_csv::{parse_rows, write_rows, Row, COLUMNS};
-use chooser::batch_worker::call_twice;
 use chooser::digest::fnv_1a;
 use chooser::junk::Rng;
-use frontier::lent::{Answer, Buffers, SolveCall};
+use frontier::lent::{Answer, BatchBuffers, SolveCall};
 use testing::brute::solve_problem;
 use testing::chooser_run::{folder, run_in, Ended};
 use testing::examples::{colours, objects, staircase, three};
@@ -309,11 +309,13 @@ fn faulty(kind: u8) -> SolveCall {
 fn the_second_call_shows_what_depends_on_junk() {
     let bytes = colours([100, 100]).encode();
     let twice = |call| {
-        let mut lent = Buffers::full();
+        let mut lent = BatchBuffers::new(1);
         lent.work.fill(7);
-        call_twice(call, &mut lent, &mut Rng::new(1), &bytes).1
+        let single = |lent: &mut BatchBuffers| lend_single(call, lent, &bytes);
+        let called = call_twice(single, &mut lent, &mut Rng::new(1), &[&bytes]);
+        called.faults.into_iter().next()
     };
-    assert_eq!(twice(solve_problem), Ok(()));
+    assert_eq!(twice(solve_problem), None);
     for (kind, complaint) in [
         (0, "from other junk the call lists other points"),
         (1, "from other junk the call answers "),
@@ -321,7 +323,7 @@ fn the_second_call_shows_what_depends_on_junk() {
         (3, "the call has changed choices behind the last point"),
         (4, "the call has left other work memory than it must"),
     ] {
-        let found = twice(faulty(kind)).expect_err(complaint);
+        let found = twice(faulty(kind)).expect(complaint).complaint;
         assert!(found.starts_with(complaint), "{found}");
     }
 }

@@ -4,10 +4,10 @@ use std::fs;
 use std::os::unix::fs::PermissionsExt;
 use std::path::{Path, PathBuf};
 
+use chooser::batch_calls::cached_twice;
 use chooser::batch_csv::{parse_rows, write_rows, Row, COLUMNS};
-use chooser::batch_worker::cached_twice;
 use chooser::cache_file::{read_cache, write_cache, FILE_BYTES, MAGIC, STORE_BYTES};
-use chooser::junk::{junk_buffers, Rng};
+use chooser::junk::{junk_batch_buffers, junk_buffers, Rng};
 use frontier::lent::{Buffers, CachedAnswer, CachedCall};
 use frontier::limits::SLOT_BYTES;
 use frontier::{version, Problem};
@@ -389,11 +389,12 @@ fn faulty(kind: u8) -> CachedCall {
 fn the_second_call_shows_what_depends_on_junk() {
     let bytes = three([3, 3]).encode();
     let twice = |call| {
-        let (mut lent, mut store) = (junk_buffers(), vec![0; SLOT_BYTES]);
+        let (mut lent, mut store) = (junk_batch_buffers(), vec![0; SLOT_BYTES]);
         lent.costs[0] = 0;
-        cached_twice(call, &mut lent, &mut store, &mut Rng::new(1), &bytes).1
+        let called = cached_twice(call, &mut lent, &mut store, &mut Rng::new(1), &bytes);
+        called.faults.into_iter().next()
     };
-    assert_eq!(twice(due_call), Ok(()));
+    assert_eq!(twice(due_call), None);
     let other = "from other junk the call tells another hit, or stores something else";
     for (kind, complaint) in [
         (0, other),
@@ -401,7 +402,7 @@ fn the_second_call_shows_what_depends_on_junk() {
         (2, "from other junk the call lists other points"),
         (3, "the call has left other work memory than it must"),
     ] {
-        let found = twice(faulty(kind)).expect_err(complaint);
+        let found = twice(faulty(kind)).expect(complaint).complaint;
         assert!(found.starts_with(complaint), "{found}");
     }
 }

@@ -3,10 +3,11 @@
 use std::collections::BTreeMap;
 use std::time::Duration;
 
+use super::batch_run::Batch;
 use crate::batch_csv::{Comparison, Row, Told};
 use frontier::refusal::word_of;
 
-/// So many of the slowest problems are told.
+/// So many of the slowest calls are told.
 const SLOWEST: usize = 10;
 
 /// A time in seconds, to the microsecond.
@@ -14,23 +15,23 @@ pub fn seconds(microseconds: u64) -> String {
     format!("{:.6}", Duration::from_micros(microseconds).as_secs_f64())
 }
 
-/// What is told at the end: of each problem its row, in a run with a cache how many were there, what went
-/// wrong, the comparison with an earlier run, and the time that has passed.
-pub fn summary<'a>(
+/// What is told at the end: the slowest calls, of the problems' rows how many were refused, in a run with a cache
+/// how many were there, what went wrong, the comparison with an earlier run, and the time that has passed.
+pub fn summary(
+    batch: &Batch,
     rows: &[Row],
     cached: bool,
-    faults: impl Iterator<Item = &'a String>,
     compared: Option<&Comparison>,
     time: Duration,
 ) -> String {
-    let mut text = slowest_lines(rows);
+    let mut text = slowest_lines(&batch.calls);
     text.push_str(&refusal_lines(rows));
     if cached {
         let told = rows.iter().filter_map(|row| row.told);
         let hits = told.filter(|told| told.hit == Some(true)).count();
         text.push_str(&format!("{hits:>12} x  hit in the cache\n"));
     }
-    for fault in faults {
+    for (_, fault) in &batch.faults {
         text.push_str(&format!("{fault}\n"));
     }
     if let Some(found) = compared {
@@ -38,7 +39,11 @@ pub fn summary<'a>(
     }
     let told: Vec<Told> = rows.iter().filter_map(|row| row.told).collect();
     let answered = told.iter().filter(|told| told.number == 0).count();
-    let sum = told.iter().map(|told| told.microseconds).sum();
+    let sum = batch
+        .calls
+        .iter()
+        .map(|(microseconds, _)| microseconds)
+        .sum();
     text.push_str(&format!(
         "{} in all: {answered} answered, {} refused, {} without an answer; {} s of processor \
          time, {:.1} s passed\n",
@@ -51,15 +56,12 @@ pub fn summary<'a>(
     text
 }
 
-fn slowest_lines(rows: &[Row]) -> String {
-    let mut times: Vec<(u64, &str)> = rows
-        .iter()
-        .filter_map(|row| Some((row.told?.microseconds, row.name.as_str())))
-        .collect();
-    times.sort_by(|one, other| other.0.cmp(&one.0).then(one.1.cmp(other.1)));
-    times.truncate(SLOWEST);
-    let line = |&(time, name): &(u64, &str)| format!("{:>12} s  {name}\n", seconds(time));
-    let lines: String = times.iter().map(line).collect();
+fn slowest_lines(calls: &[(u64, String)]) -> String {
+    let mut calls: Vec<&(u64, String)> = calls.iter().collect();
+    calls.sort_by(|one, other| other.0.cmp(&one.0).then(one.1.cmp(&other.1)));
+    calls.truncate(SLOWEST);
+    let line = |(time, names): &&(u64, String)| format!("{:>12} s  {names}\n", seconds(*time));
+    let lines: String = calls.iter().map(line).collect();
     match lines.is_empty() {
         true => lines,
         false => format!("slowest:\n{lines}"),
