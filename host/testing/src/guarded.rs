@@ -6,16 +6,23 @@ use std::io;
 
 use crate::guard::{End, Pages, Plain};
 use frontier::lent::{
-    read_text, write_bound, write_cached, write_canonical, write_cut, write_points, write_solve,
-    write_text, Answer, CachedAnswer, CachedNumbers, CutNumbers, Halves, Keyed, Least, PointRecord,
+    read_text, write_batch, write_bound, write_cached, write_canonical, write_cut, write_points,
+    write_solve, write_text, Answer, CachedAnswer, CachedNumbers, CutNumbers, Halves, Keyed, Least,
+    PointRecord,
 };
 use frontier::limits::{
-    LEAST_WORK, MAX_BYTES, MAX_OBJECTIVES, MAX_POINTS, MAX_SLOTS, MAX_VARIABLES, SLOT_BYTES,
-    TEXT_LEN,
+    CHOICES_LEN, COSTS_LEN, FRAME_BYTES, LEAST_WORK, MAX_BATCH, MAX_BYTES, MAX_OBJECTIVES,
+    MAX_POINTS, MAX_SLOTS, MAX_VARIABLES, RESULT_LEN, SLOT_BYTES, TEXT_LEN,
 };
 
 /// Lent buffers may be longer than is of use by so much.
 const OVER: usize = 1_000;
+
+/// A batch may have a problem too many, and areas for two more.
+const AREAS: usize = MAX_BATCH + 2;
+
+/// A batch of small problems has at most so many bytes.
+const SHORT_BATCH: usize = 20_000;
 
 /// What the single numbers hold that a call is to write.
 const JUNK: u32 = 0xa5a5_a5a5;
@@ -38,8 +45,10 @@ pub struct Guarded {
     problem: Pages,
     /// A side list or a prefix.
     list: Pages,
+    /// Of one problem or of a batch.
     costs: Pages,
     choices: Pages,
+    results: Pages,
     work: Pages,
     points: Pages,
     /// A text, or a canonical form.
@@ -48,6 +57,8 @@ pub struct Guarded {
     key: Pages,
     /// A store of a few slots, and a longer one: what is beside a buffer is compared after every call.
     stores: [Pages; 2],
+    /// A batch of small problems, and a longer one.
+    batches: [Pages; 2],
     hit: Pages,
     numbers: [Pages; 4],
     /// The first buffer that a call has misused.
@@ -60,8 +71,9 @@ impl Guarded {
             end: End::Upper,
             problem: Pages::new(MAX_BYTES + OVER)?,
             list: Pages::new(MAX_VARIABLES)?,
-            costs: Pages::new(size_of::<u32>() * MAX_OBJECTIVES * MAX_POINTS + OVER)?,
-            choices: Pages::new(MAX_VARIABLES * MAX_POINTS + OVER)?,
+            costs: Pages::new(size_of::<u32>() * COSTS_LEN * AREAS + OVER)?,
+            choices: Pages::new(CHOICES_LEN * AREAS + OVER)?,
+            results: Pages::new(size_of::<u32>() * RESULT_LEN * AREAS + OVER)?,
             work: Pages::new(size_of::<u32>() * (LEAST_WORK + OVER))?,
             points: Pages::new(size_of::<PointRecord>() * MAX_POINTS + OVER)?,
             text: Pages::new(TEXT_LEN + OVER)?,
@@ -70,6 +82,10 @@ impl Guarded {
             stores: [
                 Pages::new(SLOT_BYTES * 4)?,
                 Pages::new(SLOT_BYTES * (MAX_SLOTS + 1) + OVER)?,
+            ],
+            batches: [
+                Pages::new(SHORT_BATCH)?,
+                Pages::new((FRAME_BYTES + MAX_BYTES) * AREAS + OVER)?,
             ],
             hit: Pages::new(1)?,
             numbers: [number()?, number()?, number()?, number()?],
@@ -294,6 +310,38 @@ impl Guarded {
         CachedAnswer { answer, hit }
     }
 
+    /// The batch call.
+    pub fn batch(
+        &mut self,
+        batch: &[u8],
+        costs: &mut [u32],
+        choices: &mut [u8],
+        results: &mut [u32],
+        work: &mut [u32],
+    ) -> Answer {
+        let end = self.end;
+        let [place, count, _, _] = &mut self.numbers;
+        let pages = &mut self.batches[usize::from(batch.len() > SHORT_BATCH)];
+        let number = write_batch(
+            pages.lend(batch, end),
+            self.costs.lend(costs, end),
+            self.choices.lend(choices, end),
+            self.results.lend(results, end),
+            self.work.lend(work, end),
+            &mut place.lend(&[JUNK], end)[0],
+            &mut count.lend(&[JUNK], end)[0],
+        );
+        note(&mut self.fault, "batch", pages.check_unchanged(batch));
+        take(&mut self.fault, "results", &mut self.results, results);
+        self.take_areas(costs, choices, work);
+        let [place, count] = self.take_numbers();
+        Answer {
+            number,
+            place,
+            count,
+        }
+    }
+
     fn check_problem(&mut self, problem: &[u8]) {
         note(
             &mut self.fault,
@@ -310,6 +358,10 @@ impl Guarded {
         work: &mut [u32],
     ) {
         self.check_problem(problem);
+        self.take_areas(costs, choices, work);
+    }
+
+    fn take_areas(&mut self, costs: &mut [u32], choices: &mut [u8], work: &mut [u32]) {
         take(&mut self.fault, "costs", &mut self.costs, costs);
         take(&mut self.fault, "choices", &mut self.choices, choices);
         take(&mut self.fault, "work", &mut self.work, work);

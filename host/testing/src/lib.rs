@@ -4,6 +4,7 @@
 //! The brute force finds every answer by going through all complete choices, so nothing in it is
 //! fast and nothing is clever. Feed it only problems whose choices can be counted through.
 
+pub mod batch;
 pub mod bound;
 pub mod brute;
 pub mod c_compiler;

@@ -252,6 +252,14 @@ fn prefix_of_length(rng: &mut Rng, problem: &Problem, length: usize) -> Vec<u8> 
 /// A problem with more complete choices than this is not searched.
 const SEARCHED_CHOICES: u64 = 1_000;
 
+/// Whether bytes are no problem, or one with so few choices that they can be gone through.
+pub(crate) fn has_few_choices(bytes: &[u8]) -> bool {
+    let read = read_problem(bytes);
+    read.map_or(true, |reading| {
+        reading.problem.choices() <= SEARCHED_CHOICES
+    })
+}
+
 /// Buffers with junk for a problem's bytes, with room for no point, for some, or for more than are
 /// ever listed. Where there are too many choices to go through, the work buffer is too short, so
 /// that the call refuses before it searches.

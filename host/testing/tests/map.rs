@@ -22,7 +22,7 @@ const DEMANDS: Table = Table {
 
 const REQUESTS: Table = Table {
     head: "| Request |",
-    rows: 4,
+    rows: 5,
     columns: [(2, ""), (3, ""), (4, "")],
 };
 

@@ -106,11 +106,11 @@ fn problems_come_back_from_their_bytes() {
 
 #[test]
 fn every_number_is_a_refusal_of_its_own() {
-    let refusals: Vec<Refusal> = (1..=20).filter_map(|n| Refusal::new(n, 0)).collect();
+    let refusals: Vec<Refusal> = (1..=21).filter_map(|n| Refusal::new(n, 0)).collect();
     let numbers: Vec<u8> = refusals.iter().map(|refusal| refusal.number()).collect();
-    assert_eq!(numbers, (1..=20).collect::<Vec<u8>>());
+    assert_eq!(numbers, (1..=21).collect::<Vec<u8>>());
     let words: BTreeSet<&str> = refusals.iter().map(|refusal| refusal.word()).collect();
-    assert_eq!(words.len(), 20);
+    assert_eq!(words.len(), 21);
     for refusal in refusals {
         let [number, word] = [refusal.number().to_string(), refusal.word().into()];
         let text = refusal.to_string();
@@ -124,7 +124,16 @@ fn every_number_is_a_refusal_of_its_own() {
         assert_eq!(head, start + place);
         assert!(wrong.len() > 20, "{text}");
     }
-    for (number, place) in [(0, 0), (21, 0), (1, 5), (15, 5), (17, 5), (18, 5), (20, 5)] {
+    for (number, place) in [
+        (0, 0),
+        (22, 0),
+        (1, 5),
+        (15, 5),
+        (17, 5),
+        (18, 5),
+        (20, 5),
+        (21, 5),
+    ] {
         assert_eq!(Refusal::new(number, place), None);
     }
     let scope = Refusal::new(10, 85).expect("a refusal");

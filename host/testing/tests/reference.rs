@@ -5,13 +5,14 @@ use std::fs;
 
 use chooser::hex::from_hex;
 use frontier::lent::{self, bound_prefix, list_points, solve_cut, solve_problem, to_text};
-use frontier::lent::{Buffers, CachedCall, PointRecord};
+use frontier::lent::{frame, BatchBuffers, BatchCall, Buffers, CachedCall, PointRecord};
 use frontier::limits::{
-    LEAST_WORK, MAX_ARITY, MAX_BYTES, MAX_DOMAIN, MAX_OBJECTIVES, MAX_POINTS, MAX_SLOTS,
+    LEAST_WORK, MAX_ARITY, MAX_BATCH, MAX_BYTES, MAX_DOMAIN, MAX_OBJECTIVES, MAX_POINTS, MAX_SLOTS,
     MAX_TABLES, MAX_VARIABLES, SLOT_BYTES, TEXT_LEN,
 };
 use frontier::refusal::word_of;
 use frontier::Refusal;
+use testing::batch::{self, frame_starts, put_length, CHOICES, COSTS, RESULTS};
 use testing::brute;
 use testing::cache::{self, CHOICES_AT, COSTS_AT, COUNT_AT, LENGTH_AT, NEXT_AT};
 use testing::canonical;
@@ -59,6 +60,7 @@ fn the_limits_are_those_of_the_library() {
             "1",
             number(MAX_SLOTS),
         ),
+        ("problems of a batch", "0", number(MAX_BATCH)),
     ];
     let rows = rows("| What | Least |");
     assert_eq!(rows.len(), due.len());
@@ -77,7 +79,7 @@ fn the_limits_are_those_of_the_library() {
 fn refusals_have_the_words_of_the_library() {
     let rows = rows("| Number | Word |");
     let told: Vec<(&str, &str)> = rows.iter().map(|row| (row[0], row[1])).collect();
-    let numbers: Vec<String> = (1..=20).map(|number: u8| number.to_string()).collect();
+    let numbers: Vec<String> = (1..=21).map(|number: u8| number.to_string()).collect();
     let due: Vec<(&str, &str)> = (1..)
         .zip(&numbers)
         .map(|(n, text)| (&text[..], word_of(n)))
@@ -321,6 +323,14 @@ fn cached(call: CachedCall, bytes: &[u8], costs: usize, store: &mut [u8]) -> (St
     (told, found.hit)
 }
 
+/// What a batch of the problem alone tells of it.
+fn alone_in_a_batch(bytes: &[u8]) -> String {
+    let mut lent = BatchBuffers::new(1);
+    lent.lend(lent::solve_batch, &frame(&[bytes]));
+    let told = Refusal::new(lent.answer(0).number, lent.answer(0).place);
+    told.map_or("no refusal".into(), refused)
+}
+
 /// What a call of the table gives for a problem.
 fn outcome(call: &str, bytes: &[u8]) -> String {
     let full = MAX_POINTS * MAX_OBJECTIVES;
@@ -341,8 +351,9 @@ fn outcome(call: &str, bytes: &[u8]) -> String {
                 text(bytes, 0),
                 form(bytes, 0),
                 cached(lent::solve_cached, bytes, 0, &mut []).0,
+                alone_in_a_batch(bytes),
             ];
-            assert_eq!(others, [&told; 5].map(String::clone));
+            assert_eq!(others, [&told; 6].map(String::clone));
             told
         }
         _ => panic!("'{call}' is no call"),
@@ -424,4 +435,66 @@ fn the_parts_of_a_slot_stand_where_it_is_told() {
     let told = rows.iter().map(|row| row[0].replace(',', ""));
     let due = [0, COSTS_AT, CHOICES_AT, LENGTH_AT, COUNT_AT, NEXT_AT];
     assert_eq!(told.collect::<Vec<_>>(), due.map(|place| place.to_string()));
+}
+
+#[test]
+fn the_areas_of_a_batch_stand_where_it_is_told() {
+    let rows = rows("| Buffer | From element |");
+    let areas = [("costs", COSTS), ("choices", CHOICES), ("results", RESULTS)];
+    assert_eq!(rows.len(), areas.len());
+    for (row, (buffer, area)) in rows.iter().zip(areas) {
+        let told: Vec<String> = row.iter().map(|cell| cell.replace(',', "")).collect();
+        assert_eq!(told, [buffer, &format!("{area} · k"), &area.to_string()]);
+    }
+}
+
+/// The bytes of a batch in the table: problems with semicolons between them. Of the last one may be told which length
+/// its frame has.
+fn batch_bytes(cell: &str) -> Vec<u8> {
+    let (cell, length) = match cell.split_once(", with a length of ") {
+        Some((cell, rest)) => (cell, numbers(rest).first().copied()),
+        None => (cell, None),
+    };
+    let problems: Vec<Vec<u8>> = match cell {
+        "none" => Vec::new(),
+        _ => cell.split("; ").map(case_bytes).collect(),
+    };
+    let slices: Vec<&[u8]> = problems.iter().map(Vec::as_slice).collect();
+    let mut batch = frame(&slices);
+    if let (Some(length), Some(&last)) = (length, frame_starts(&batch).last()) {
+        put_length(&mut batch, last, length);
+    }
+    batch
+}
+
+/// What a batch call ends with, and the results of each problem.
+fn batched(call: BatchCall, batch: &[u8], areas: usize) -> (String, String) {
+    let mut lent = BatchBuffers::new(areas);
+    let answer = lent.lend(call, batch);
+    let told = match (Refusal::new(answer.number, answer.place), answer.count) {
+        (Some(refusal), _) => refused(refusal),
+        (None, 1) => "1 problem".into(),
+        (None, count) => format!("{count} problems"),
+    };
+    let results = lent.results[..RESULTS * answer.count as usize].chunks(RESULTS);
+    let results: Vec<String> = results.map(spaced).collect();
+    (told, results.join("; "))
+}
+
+/// The batches, by the library and by the independent call.
+#[test]
+fn batches_end_as_told() {
+    let independent: BatchCall = |bytes, costs, choices, results, work| {
+        let fresh = brute::solve_problem;
+        batch::solve_batch(fresh, bytes, costs, choices, results, work)
+    };
+    let rows = rows("| Problems of the batch | Areas |");
+    assert!(rows.len() > 4, "{} batches", rows.len());
+    for row in rows {
+        let areas = row[1].parse().expect("a number of areas");
+        for call in [lent::solve_batch, independent] {
+            let (told, results) = batched(call, &batch_bytes(row[0]), areas);
+            assert_eq!((&told[..], &results[..]), (row[2], row[3]), "{}", row[0]);
+        }
+    }
 }

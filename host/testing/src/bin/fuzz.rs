@@ -15,7 +15,7 @@ use testing::mixed::Mixed;
 
 const USAGE: &str = "usage: fuzz [--seed S] [N]
 Runs the N mixed inputs (default 10000) with seeds S (default 0), S + 1, and so on. Each goes through
-all eight calls with every buffer against a closed page above it, every fourth one again with every
+all nine calls with every buffer against a closed page above it, every fourth one again with every
 buffer against a closed page below. The status is 0 if no call has touched a byte that it was not
 lent and every answer is the brute force's, else 1, and 2 if the run could not be made or was
 stopped (Ctrl-C), after which it says what it ran.";
@@ -123,7 +123,7 @@ struct Tally {
     numbers: [u64; 17],
 }
 
-/// The eight calls on an input, the buffers at one end, each compared with the brute force.
+/// The nine calls on an input, the buffers at one end, each compared with the brute force.
 fn run_calls(case: &Mixed, guarded: &RefCell<Guarded>, tally: &mut Tally) -> Result<(), String> {
     let numbers = RefCell::new(&mut tally.numbers);
     case.compare_solve(|problem, costs, choices, work| {
@@ -148,9 +148,14 @@ fn run_calls(case: &Mixed, guarded: &RefCell<Guarded>, tally: &mut Tally) -> Res
             .borrow_mut()
             .cached(problem, costs, choices, work, store)
     })?;
+    case.compare_batch(|batch, costs, choices, results, work| {
+        guarded
+            .borrow_mut()
+            .batch(batch, costs, choices, results, work)
+    })?;
     let inputs = [case.text_inputs(), case.read_inputs(), case.form_inputs()];
     let written: usize = inputs.iter().map(Vec::len).sum();
-    tally.calls += (4 + case.prefixes.len() + written) as u64;
+    tally.calls += (5 + case.prefixes.len() + written) as u64;
     match guarded.borrow_mut().take_fault() {
         None => Ok(()),
         Some(fault) => Err(format!("seed {}: {fault}", case.seed)),

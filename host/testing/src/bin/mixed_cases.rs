@@ -5,8 +5,9 @@ use std::env;
 use std::process::ExitCode;
 
 use frontier::lent::{
-    read_text, write_bound, write_cached, write_canonical, write_cut, write_points, write_solve,
-    write_text, Answer, CachedAnswer, CachedNumbers, CutNumbers, Halves, Keyed, Least, PointRecord,
+    read_text, write_batch, write_bound, write_cached, write_canonical, write_cut, write_points,
+    write_solve, write_text, Answer, CachedAnswer, CachedNumbers, CutNumbers, Halves, Keyed, Least,
+    PointRecord,
 };
 use frontier::limits::MAX_OBJECTIVES;
 use testing::mixed::Mixed;
@@ -150,6 +151,27 @@ fn cached_on_heap(
     CachedAnswer { answer, hit: *hit }
 }
 
+/// The batch call on a copy that has exactly its length on the heap, and with junk where it writes its place
+/// and count, for the same reason.
+fn batch_on_heap(
+    batch: &[u8],
+    costs: &mut [u32],
+    choices: &mut [u8],
+    results: &mut [u32],
+    work: &mut [u32],
+) -> Answer {
+    let batch: Box<[u8]> = batch.into();
+    let (mut place, mut count) = (Box::new(0xa5a5_a5a5), Box::new(0xa5a5_a5a5));
+    let number = write_batch(
+        &batch, costs, choices, results, work, &mut place, &mut count,
+    );
+    Answer {
+        number,
+        place: *place,
+        count: *count,
+    }
+}
+
 /// The number of cases that the arguments ask for, or what is wrong with them.
 fn asked_cases(arguments: &[String]) -> Result<u64, String> {
     match arguments {
@@ -174,6 +196,7 @@ fn run_cases(cases: u64) -> Result<(), String> {
         case.compare_reads(|text, problem| converted_on_heap(read_text, text, problem))?;
         case.compare_canonical(canonical_on_heap)?;
         case.compare_cached(cached_on_heap)?;
+        case.compare_batch(batch_on_heap)?;
         let done = seed + 1;
         if done % PROGRESS == 0 && done < cases {
             println!("{done} of {cases} cases done");

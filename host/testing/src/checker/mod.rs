@@ -4,6 +4,7 @@
 pub mod case;
 pub mod flat;
 pub mod law;
+pub mod misbatched;
 pub mod mismerged;
 pub mod misread;
 pub mod mutants;

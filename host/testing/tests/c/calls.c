@@ -167,6 +167,65 @@ static void print_cached(const uint8_t *bytes, size_t bytes_len, size_t room, si
     printf("\n");
 }
 
+/* Adds a frame with this problem, and this length in its head, to a batch; how many bytes the batch then has. */
+static size_t add_frame(uint8_t *batch, size_t batch_len, const uint8_t *bytes, size_t bytes_len, uint32_t length) {
+    uint8_t *head = batch + batch_len;
+    memcpy(head, "BP", 2);
+    for (int i = 0; i < 4; i++)
+        head[2 + i] = (uint8_t)(length >> 8 * i);
+    memcpy(head + FRONTIER_FRAME_BYTES, bytes, bytes_len);
+    return batch_len + FRONTIER_FRAME_BYTES + bytes_len;
+}
+
+/* Prints number, place and count, how many work numbers are not zero, how many elements behind the areas of the batch
+ * have changed, and of each problem its results and points. Problems must be Pair, or be refused. */
+static void print_batch(const uint8_t *batch, size_t batch_len, size_t areas, size_t results_len, size_t work_len) {
+    static uint32_t costs[FRONTIER_BATCH_COSTS_LEN], results[FRONTIER_BATCH_RESULTS_LEN], work[FRONTIER_WORK_LEN];
+    static uint8_t choices[FRONTIER_BATCH_CHOICES_LEN];
+    uint32_t place = 9, count = 9, kept = 0, changed = 0;
+    memset(costs, 9, sizeof costs);
+    memset(results, 9, sizeof results);
+    memset(choices, 9, sizeof choices);
+    memset(work, 9, sizeof work);
+    uint8_t number = frontier_batch(batch, batch_len, costs, areas * FRONTIER_COSTS_LEN, choices,
+                                    areas * FRONTIER_CHOICES_LEN, results, results_len, work, work_len, &place, &count);
+    for (size_t i = 0; i < FRONTIER_WORK_LEN; i++)
+        kept += work[i] != 0;
+    for (size_t i = count * FRONTIER_COSTS_LEN; i < FRONTIER_BATCH_COSTS_LEN; i++)
+        changed += costs[i] != 0x09090909;
+    for (size_t i = count * FRONTIER_CHOICES_LEN; i < FRONTIER_BATCH_CHOICES_LEN; i++)
+        changed += choices[i] != 9;
+    for (size_t i = count * FRONTIER_RESULT_LEN; i < FRONTIER_BATCH_RESULTS_LEN; i++)
+        changed += results[i] != 0x09090909;
+    printf("%u %" PRIu32 " %" PRIu32 " %" PRIu32 " %" PRIu32, (unsigned)number, place, count, kept, changed);
+    for (uint32_t k = 0; k < count; k++) {
+        const uint32_t *result = results + FRONTIER_RESULT_LEN * k, *cost = costs + FRONTIER_COSTS_LEN * k;
+        const uint8_t *choice = choices + FRONTIER_CHOICES_LEN * k;
+        printf(" | %" PRIu32 " %" PRIu32 " %" PRIu32, result[0], result[1], result[2]);
+        for (uint32_t i = 0; i < result[2]; i++)
+            printf(" %" PRIu32 " %" PRIu32 ":%u%u", cost[2 * i], cost[2 * i + 1], choice[2 * i], choice[2 * i + 1]);
+    }
+    printf("\n");
+}
+
+/* No problem; three of which one is refused; one that is refused; an area of results that is not whole; a byte too many
+ * and one too few; too little work memory; and a length of more than is left. */
+static void print_batches(void) {
+    static uint8_t batch[4 * (FRONTIER_FRAME_BYTES + sizeof pair)];
+    size_t one = add_frame(batch, 0, pair, sizeof pair, sizeof pair);
+    size_t two = add_frame(batch, one, pair, sizeof pair - 1, sizeof pair - 1);
+    size_t three = add_frame(batch, two, pair, sizeof pair, sizeof pair);
+    print_batch(batch, 0, 0, 0, FRONTIER_WORK_LEN);
+    print_batch(batch, three, 3, 3 * FRONTIER_RESULT_LEN, FRONTIER_WORK_LEN);
+    print_batch(batch + one, two - one, FRONTIER_MAX_BATCH, FRONTIER_BATCH_RESULTS_LEN, FRONTIER_WORK_LEN);
+    print_batch(batch, three, 3, 3 * FRONTIER_RESULT_LEN - 1, FRONTIER_WORK_LEN);
+    print_batch(batch, three + 1, FRONTIER_MAX_BATCH, FRONTIER_BATCH_RESULTS_LEN, FRONTIER_WORK_LEN);
+    print_batch(batch, three - 1, FRONTIER_MAX_BATCH, FRONTIER_BATCH_RESULTS_LEN, FRONTIER_WORK_LEN - 1);
+    print_batch(batch, three, 3, 3 * FRONTIER_RESULT_LEN, FRONTIER_WORK_LEN - 1);
+    add_frame(batch, two, pair, sizeof pair, UINT32_MAX);
+    print_batch(batch, three, 3, 3 * FRONTIER_RESULT_LEN, FRONTIER_WORK_LEN);
+}
+
 int main(void) {
     print_list(sizeof pair, FRONTIER_MAX_POINTS, FRONTIER_LEAST_WORK);
     print_list(sizeof pair, 2, FRONTIER_LEAST_WORK);
@@ -210,5 +269,6 @@ int main(void) {
     print_cached(pair, sizeof pair, 3, FRONTIER_LEAST_WORK, FRONTIER_SLOT_BYTES - 1);
     print_cached(pair, sizeof pair, 3, FRONTIER_LEAST_WORK - 1, FRONTIER_SLOT_BYTES - 1);
     print_cached(pair, sizeof pair - 1, 3, FRONTIER_LEAST_WORK - 1, 0);
+    print_batches();
     return 0;
 }

@@ -9,7 +9,7 @@
 
 #define PAGE 4096
 #define PLACES 2048
-#define NUMBERS 21
+#define NUMBERS 22
 
 /* A counter for each number with each place (by 8 bytes), and for each count. */
 __attribute__((used, section("__libfuzzer_extra_counters"))) static uint8_t reached[NUMBERS * PLACES + 65];
@@ -23,7 +23,8 @@ static uint8_t *end_of(size_t most) {
     return start + length;
 }
 
-static uint8_t *problem_end, *costs_end, *choices_end, *work_end, *text_end, *read_end, *store_end;
+static uint8_t *problem_end, *costs_end, *choices_end, *work_end, *text_end, *read_end, *store_end, *batch_end,
+    *results_end;
 
 /* Whether an accepted problem has so few complete choices that it may be searched. */
 static int is_small(const uint8_t *problem) {
@@ -209,13 +210,102 @@ static void cached_all(const struct lent *lent) {
     cached_in(lent, lent->size % 65, one + 100, &hit);
 }
 
+/* The problems of the batch that is made of an input. */
+#define FRAMES 3
+
+/* The batch call with areas for so many problems, but for one element of one of three buffers, and with so much work
+ * memory. It leaves everything as it was if it refuses. The number. */
+static uint8_t batch_in(const uint8_t *batch, size_t batch_len, size_t areas, int lacking, size_t work_len) {
+    size_t costs_len = areas * FRONTIER_COSTS_LEN - (lacking == 1);
+    size_t choices_len = areas * FRONTIER_CHOICES_LEN - (lacking == 2);
+    size_t results_len = areas * FRONTIER_RESULT_LEN - (lacking == 3);
+    uint32_t *costs = (uint32_t *)costs_end - costs_len, *results = (uint32_t *)results_end - results_len;
+    uint8_t *choices = choices_end - choices_len;
+    uint32_t *work = (uint32_t *)work_end - work_len, place, count;
+    memset(costs, 0xa5, 4 * costs_len);
+    memset(choices, 0xa5, choices_len);
+    memset(results, 0xa5, 4 * results_len);
+    memset(work, 0xa5, 4 * work_len);
+    uint8_t number = frontier_batch(batch, batch_len, costs, costs_len, choices, choices_len, results, results_len,
+                                    work, work_len, &place, &count);
+    note(number, place, count);
+    if (place || (number && count))
+        abort();
+    for (size_t i = 0; number && i < 4 * costs_len; i++)
+        if (((uint8_t *)costs)[i] != 0xa5)
+            abort();
+    for (size_t i = 0; number && i < choices_len; i++)
+        if (choices[i] != 0xa5)
+            abort();
+    for (size_t i = 0; number && i < results_len; i++)
+        if (results[i] != 0xa5a5a5a5)
+            abort();
+    if (number)
+        check_work(number, work, work_len, 0xa5a5a5a5);
+    return number;
+}
+
+/* Puts a frame there; where the next one goes. */
+static uint8_t *put_frame(uint8_t *at, const uint8_t *problem, size_t size) {
+    memcpy(at, "BP", 2);
+    for (int i = 0; i < 4; i++)
+        at[2 + i] = (uint8_t)(size >> 8 * i);
+    memcpy(at + FRONTIER_FRAME_BYTES, problem, size);
+    return at + FRONTIER_FRAME_BYTES + size;
+}
+
+/* After a batch call the areas of problem k are those of a plain call of the input on such areas. */
+static void check_areas(const struct lent *lent, size_t k) {
+    static uint32_t costs[FRONTIER_COSTS_LEN], work[FRONTIER_LEAST_WORK];
+    static uint8_t choices[FRONTIER_CHOICES_LEN];
+    uint32_t place, count;
+    memset(costs, 0xa5, sizeof costs);
+    memset(choices, 0xa5, sizeof choices);
+    uint8_t number = frontier_solve(lent->problem, lent->size, costs, FRONTIER_COSTS_LEN, choices, FRONTIER_CHOICES_LEN,
+                                    work, lent->work_len, &place, &count);
+    const uint32_t *result = (uint32_t *)results_end - (FRAMES - k) * FRONTIER_RESULT_LEN;
+    if (result[0] != number || result[1] != place || result[2] != count)
+        abort();
+    if (memcmp((uint32_t *)costs_end - (FRAMES - k) * FRONTIER_COSTS_LEN, costs, sizeof costs))
+        abort();
+    if (memcmp(choices_end - (FRAMES - k) * FRONTIER_CHOICES_LEN, choices, sizeof choices))
+        abort();
+}
+
+/* The batch call on the input between itself and no bytes, with all areas, and with an element, an area or a byte too
+ * few; and on the input as a batch, of which no problem is searched. */
+static void batch_all(const struct lent *lent) {
+    size_t length = FRAMES * FRONTIER_FRAME_BYTES + 2 * lent->size;
+    uint8_t *batch = batch_end - length, *at = put_frame(batch, lent->problem, lent->size);
+    at = put_frame(at, lent->problem, 0);
+    put_frame(at, lent->problem, lent->size);
+    uint8_t due = lent->work_len < FRONTIER_LEAST_WORK ? FRONTIER_REFUSED_WORK : 0;
+    for (int lacking = 1; lacking <= 3; lacking++)
+        if (batch_in(batch, length, FRAMES, lacking, lent->work_len) != FRONTIER_REFUSED_BATCH)
+            abort();
+    if (batch_in(batch, length, FRAMES - 1, 0, lent->work_len) != FRONTIER_REFUSED_BATCH)
+        abort();
+    if (batch_in(batch, length - 1, FRAMES, 0, lent->work_len) != FRONTIER_REFUSED_BATCH)
+        abort();
+    if (batch_in(batch, length, FRAMES, 0, lent->work_len) != due)
+        abort();
+    const uint32_t *empty = (uint32_t *)results_end - 2 * FRONTIER_RESULT_LEN;
+    if (!due && (empty[0] != FRONTIER_REFUSED_CUT_SHORT || empty[1] || empty[2]))
+        abort();
+    for (size_t k = 0; !due && k < FRAMES; k += 2)
+        check_areas(lent, k);
+    batch_in(lent->problem, lent->size, FRAMES, 0, FRONTIER_LEAST_WORK - 1);
+}
+
 int LLVMFuzzerTestOneInput(const uint8_t *data, size_t size) {
     if (size > FRONTIER_MAX_BYTES + 8)
         return 0;
     if (!problem_end) {
         problem_end = end_of(FRONTIER_MAX_BYTES + 8);
-        costs_end = end_of(4 * FRONTIER_MAX_POINTS * FRONTIER_MAX_OBJECTIVES);
-        choices_end = end_of(FRONTIER_MAX_POINTS * FRONTIER_MAX_VARIABLES);
+        costs_end = end_of(4 * FRAMES * FRONTIER_COSTS_LEN);
+        choices_end = end_of(FRAMES * FRONTIER_CHOICES_LEN);
+        results_end = end_of(4 * FRAMES * FRONTIER_RESULT_LEN);
+        batch_end = end_of(FRAMES * (FRONTIER_FRAME_BYTES + FRONTIER_MAX_BYTES + 8));
         work_end = end_of(4 * FRONTIER_LEAST_WORK);
         text_end = end_of(FRONTIER_TEXT_LEN);
         read_end = end_of(FRONTIER_MAX_BYTES);
@@ -237,6 +327,7 @@ int LLVMFuzzerTestOneInput(const uint8_t *data, size_t size) {
     text_all(&lent);
     form_all(&lent);
     cached_all(&lent);
+    batch_all(&lent);
     if (memcmp(problem, data, size))
         abort();
     return 0;

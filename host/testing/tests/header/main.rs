@@ -11,24 +11,27 @@ use declared::{calls_in_c, calls_in_rust, defined, fields, pointer_lines};
 use frontier::limits as limit;
 use frontier::refusal as number;
 use source::{constants, exports, fields_in_c, numbers, Export};
-use testing::cache;
+use testing::{batch, cache};
 
 const HEADER: &str = include_str!("../../../../include/frontier.h");
 const MEASURE_HEADER: &str = include_str!("../../../../include/frontier_measure.h");
 const RUST_CALLS: &str = include_str!("../../../frontier/src/ffi.rs");
 
-/// The Rattle source: the exported calls, the kinds with their limits, what calls refuse, the store.
+/// The Rattle source: the exported calls, the kinds with their limits, what calls refuse, the store, batches.
 const CALLS: &str = include_str!("../../../../crates/frontier/src/lib.rt");
 const KINDS: &str = include_str!("../../../../crates/model/src/lib.rt");
 const ANSWERS: &str = include_str!("../../../../crates/answers/src/lib.rt");
 const STORE: &str = include_str!("../../../../crates/cache_store/src/lib.rt");
+const FRAMES: &str = include_str!("../../../../crates/batch_frames/src/lib.rt");
 
-/// The specifications of the numbers of refusal (those of texts and of the store stand apart), of the store and of the
-/// version.
+/// The specifications of the numbers of refusal (those of texts, the store and batches stand apart), of the store, of
+/// batches and of the version.
 const REFUSALS: &str = include_str!("../../../../crates/model/specs/Refusals.antt");
 const TEXT_REFUSALS: &str = include_str!("../../../../crates/text_networks/specs/Conversions.antt");
 const STORE_REFUSALS: &str = include_str!("../../../../crates/cache_answers/specs/Outcomes.antt");
 const STORES: &str = include_str!("../../../../crates/cache_answers/specs/Stores.antt");
+const BATCHES: &str = include_str!("../../../../crates/batch_frames/specs/Batches.antt");
+const BATCH_AREAS: &str = include_str!("../../../../crates/batch_frames/specs/Outcomes.antt");
 const VERSION: &str = include_str!("../../../../crates/frontier/specs/Version.antt");
 
 #[test]
@@ -52,10 +55,13 @@ fn limits_agree() {
         ("LEAST_WORK", "LEAST_WORK", limit::LEAST_WORK),
         ("SLOT_BYTES", "SLOT_SIZE", limit::SLOT_BYTES),
         ("MAX_SLOTS", "MAX_SLOTS", limit::MAX_SLOTS),
+        ("MAX_BATCH", "MAX_BATCH", limit::MAX_BATCH),
     ];
     let (defined, mut source) = (defined(HEADER), constants(KINDS));
-    source.extend(constants(ANSWERS));
-    source.extend(constants(STORE));
+    for (name, value) in [ANSWERS, STORE, FRAMES].into_iter().flat_map(constants) {
+        let told = source.insert(name.clone(), value);
+        assert!(told.is_none_or(|told| told == value), "{name}");
+    }
     for (name, in_source, in_rust) in expected {
         assert_eq!(defined.get(name), source.get(in_source), "FRONTIER_{name}");
         assert_eq!(defined.get(name), Some(&in_rust), "FRONTIER_{name}");
@@ -80,6 +86,39 @@ fn the_parts_of_a_slot_agree() {
         assert_eq!(specified.get(name), Some(&place), "{name}");
         assert_eq!(source.get(in_source), Some(&place), "{in_source}");
     }
+}
+
+/// Frames and areas of a batch are those of the specification and the source, and those that the tests expect.
+#[test]
+fn the_parts_of_a_batch_agree() {
+    let (mut specified, source) = (numbers(BATCHES), constants(FRAMES));
+    specified.extend(numbers(BATCH_AREAS));
+    for (name, in_source, in_rust, due) in [
+        ("maxBatch", "MAX_BATCH", limit::MAX_BATCH, batch::MOST),
+        ("frameHead", "FRAME_HEAD", limit::FRAME_BYTES, batch::HEAD),
+        ("costArea", "COST_AREA", limit::COSTS_LEN, batch::COSTS),
+        (
+            "choiceArea",
+            "CHOICE_AREA",
+            limit::CHOICES_LEN,
+            batch::CHOICES,
+        ),
+        (
+            "resultArea",
+            "RESULT_AREA",
+            limit::RESULT_LEN,
+            batch::RESULTS,
+        ),
+    ] {
+        assert_eq!(specified.get(name), Some(&due), "{name}");
+        assert_eq!(source.get(in_source), Some(&due), "{in_source}");
+        assert_eq!(in_rust, due, "{name}");
+    }
+    let mark = ["letterB", "letterP"].map(|name| specified[name]);
+    assert_eq!(mark, [b'B', b'P'].map(usize::from));
+    let header = defined(HEADER);
+    assert_eq!(header["FRAME_BYTES"], limit::FRAME_BYTES);
+    assert_eq!(header["RESULT_LEN"], limit::RESULT_LEN);
 }
 
 /// An entry of three variables and ten digits has 17 bytes of text for its 4, and nothing has more.
@@ -120,6 +159,7 @@ fn numbers_of_refusal_agree() {
         ("DIALECT", number::DIALECT),
         ("OUTPUT", number::OUTPUT),
         ("STORE", number::STORE),
+        ("BATCH", number::BATCH),
     ];
     let refusals = refusals();
     for (name, value) in expected {
@@ -132,6 +172,9 @@ fn numbers_of_refusal_are_those_of_the_specification() {
     let (refusals, mut specified) = (refusals(), numbers(REFUSALS));
     specified.extend(numbers(TEXT_REFUSALS));
     specified.extend(numbers(STORE_REFUSALS));
+    // Beside the number stand the lengths of areas.
+    let batch = numbers(BATCH_AREAS).into_iter();
+    specified.extend(batch.filter(|(name, _)| !name.ends_with("Area")));
     assert_eq!(refusals.len(), specified.len());
     for (name, number) in refusals {
         // The specification has `cutShort`, `badScope`, `workShort`.

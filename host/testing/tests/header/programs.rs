@@ -5,8 +5,8 @@ use std::fs;
 use std::path::{Path, PathBuf};
 use std::process::Command;
 
-use frontier::limits::{LEAST_WORK, MAX_OBJECTIVES, MAX_POINTS, MAX_SLOTS, MAX_VARIABLES};
-use frontier::limits::{SLOT_BYTES, TEXT_LEN};
+use frontier::limits::{CHOICES_LEN, COSTS_LEN, FRAME_BYTES, LEAST_WORK, MAX_BATCH, MAX_POINTS};
+use frontier::limits::{MAX_SLOTS, RESULT_LEN, SLOT_BYTES, TEXT_LEN};
 use frontier::refusal::word_of;
 use testing::c_compiler::{write_later_header, Compiler, C11, C99, CXX11, CXX17};
 use testing::chooser_run::folder;
@@ -20,7 +20,9 @@ use testing::places::root;
 /// changed past the text, and the text; of each reading call the same, with 1 for the problem that is
 /// due; of each canonical call number, place, count, key, the bytes changed past the form, and its
 /// records; of each cached call number, place, count, hit, how much of the work memory is not zero, how
-/// many bytes of the store have changed, and the points.
+/// many bytes of the store have changed, and the points; of each batch call number, place, count, how much
+/// of the work memory is not zero, how many elements have changed behind the areas of its problems, and of
+/// each problem the results and the points.
 const C_ANSWERS: &str = "\
 0 0 3 0 0 2:00 1 1:01 2 0:11
 15 0 0 0
@@ -70,6 +72,14 @@ P 2 2 1 10
 20 0 0 0 8192 0
 12 0 0 0 8192 0
 2 59 0 0 8192 0
+0 0 0 8192 0
+0 0 3 0 0 | 0 0 3 0 2:00 1 1:01 2 0:11 | 2 59 0 | 0 0 3 0 2:00 1 1:01 2 0:11
+0 0 1 8192 0 | 2 59 0
+21 0 0 8192 0
+21 0 0 8192 0
+21 0 0 8192 0
+12 0 0 8192 0
+21 0 0 8192 0
 ";
 
 /// A source in `tests/c`.
@@ -94,13 +104,19 @@ fn printed(compiler: Compiler, name: &str) -> String {
 fn names() -> String {
     let version = frontier::version();
     let lengths = [
-        MAX_POINTS * MAX_OBJECTIVES,
-        MAX_POINTS * MAX_VARIABLES,
+        COSTS_LEN,
+        CHOICES_LEN,
         MAX_POINTS,
         LEAST_WORK,
         TEXT_LEN,
         SLOT_BYTES,
         MAX_SLOTS,
+        MAX_BATCH,
+        FRAME_BYTES,
+        RESULT_LEN,
+        MAX_BATCH * COSTS_LEN,
+        MAX_BATCH * CHOICES_LEN,
+        MAX_BATCH * RESULT_LEN,
     ];
     let lengths = lengths.map(|length| length.to_string()).join(" ");
     let mut text = format!("{version} {version}\n{lengths}\n4\n0 accepted\n");
