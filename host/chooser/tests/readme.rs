@@ -70,7 +70,7 @@ fn every_short_command_runs_and_prints_what_stands_below() {
         }
         ran += 1;
     }
-    assert_eq!(ran, 10, "another number of commands: is each block marked?");
+    assert_eq!(ran, 11, "another number of commands: is each block marked?");
     assert!(folder.join("firmware.svg").is_file());
     let [packed, example] = [
         folder.join("firmware.bin"),
