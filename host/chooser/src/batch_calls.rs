@@ -4,7 +4,7 @@
 use crate::batch_csv::Told;
 use crate::clock::thread_time;
 use crate::digest::list_digest;
-use crate::junk::{other_areas, Rng};
+use crate::junk::{junk_areas, lengths_of, Rng};
 use frontier::lent::{Answer, BatchBuffers, CachedCall, SolveCall};
 use frontier::limits::{CHOICES_LEN, COSTS_LEN, RESULT_LEN};
 use frontier::refusal::{word_of, FULL};
@@ -164,7 +164,7 @@ pub fn call_twice(
     if !first.faults.is_empty() {
         return first;
     }
-    let mut other = other_areas(rng, lent);
+    let mut other = junk_areas(rng, lengths_of(lent));
     let again = call_once(call, &mut other, problems);
     let faults = match again.faults.is_empty() {
         true => compare_lists(lent, &other, problems),
@@ -228,7 +228,7 @@ pub fn cached_twice(
     if !first.faults.is_empty() {
         return first;
     }
-    let mut other = other_areas(rng, lent);
+    let mut other = junk_areas(rng, lengths_of(lent));
     let again = cached_once(call, &mut other, &mut kept, problem);
     let mut faults = match again.faults.is_empty() {
         true => compare_lists(lent, &other, &[problem]),

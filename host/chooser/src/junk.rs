@@ -106,8 +106,8 @@ pub fn junk_areas(rng: &mut Rng, [costs, choices, results, work]: [usize; 4]) ->
     }
 }
 
-/// Areas of the same lengths as these with random contents.
-pub fn other_areas(rng: &mut Rng, like: &BatchBuffers) -> BatchBuffers {
-    let (costs, choices) = (like.costs.len(), like.choices.len());
-    junk_areas(rng, [costs, choices, like.results.len(), like.work.len()])
+/// How long the four buffers are.
+pub fn lengths_of(lent: &BatchBuffers) -> [usize; 4] {
+    let (costs, choices) = (lent.costs.len(), lent.choices.len());
+    [costs, choices, lent.results.len(), lent.work.len()]
 }

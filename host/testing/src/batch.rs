@@ -5,7 +5,7 @@ use crate::examples::{brimful, stairs_of};
 use crate::mixed::{has_few_choices, Mixed};
 use crate::random::{damage, random_problem, Shape};
 use chooser::hex::to_hex;
-use chooser::junk::{junk_areas, Rng};
+use chooser::junk::{junk_areas, lengths_of, Rng};
 use frontier::lent::{frame, Answer, BatchBuffers, SolveCall};
 use frontier::limits::{LEAST_WORK, MAX_BYTES};
 use frontier::Refusal;
@@ -147,12 +147,6 @@ pub fn compare_batch(
             ))
         }
     }
-}
-
-/// How long the four buffers are.
-pub fn lengths_of(lent: &BatchBuffers) -> [usize; 4] {
-    let (costs, choices) = (lent.costs.len(), lent.choices.len());
-    [costs, choices, lent.results.len(), lent.work.len()]
 }
 
 /// The lengths of buffers with exactly the areas of so many problems, and of the least work memory.

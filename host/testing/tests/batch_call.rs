@@ -6,14 +6,14 @@ use std::collections::{BTreeMap, BTreeSet};
 use std::ops::Range;
 use std::thread;
 
-use chooser::junk::{junk_areas, Rng};
+use chooser::junk::{junk_areas, lengths_of, Rng};
 use frontier::lent::{self, frame, write_batch, Answer, BatchBuffers};
 use frontier::limits::{CHOICES_LEN, COSTS_LEN, FRAME_BYTES, LEAST_WORK};
 use frontier::limits::{MAX_BATCH, MAX_BYTES, MAX_POINTS, RESULT_LEN};
 use frontier::refusal::{BATCH, FULL, LEFTOVER, OVERSIZE, WORK};
 use frontier::{Problem, Refusal};
 use testing::batch::{compare_batch, exact_lengths, first_frame, frame_starts};
-use testing::batch::{lengths_of, mixed_bytes, problems_in, put_length, Left};
+use testing::batch::{mixed_bytes, problems_in, put_length, Left};
 use testing::batch::{CHOICES, COSTS, HEAD, MOST, RESULTS};
 use testing::brute;
 use testing::checker::misbatched::{

@@ -193,6 +193,16 @@ impl End {
 /// What a worker's thread sends: the indices of a call's problems, and how it ended.
 type Sent = (Vec<usize>, End);
 
+/// A call that was answered.
+pub struct Call {
+    /// Its processor time.
+    pub microseconds: u64,
+    /// Its problems by name, and how many they are if it has several.
+    pub names: String,
+    /// The same for a line that a terminal has room for.
+    short: String,
+}
+
 /// What has come of the problems.
 #[derive(Default)]
 pub struct Batch {
@@ -201,10 +211,7 @@ pub struct Batch {
     /// A line for each problem that was given up, whose worker died, or with which something was wrong; by the
     /// index of the problem, of a call's first one if it is about a call.
     pub faults: Vec<(usize, String)>,
-    /// The processor time of each call that was answered, and its problems by name.
-    pub calls: Vec<(u64, String)>,
-    /// The processor time of the slowest call, its first problem, and how many more it has.
-    slowest: Option<(u64, usize, usize)>,
+    pub calls: Vec<Call>,
     /// So many problems have an answer, or will have none.
     done: usize,
 }
@@ -219,7 +226,7 @@ impl Batch {
                 Err(RecvTimeoutError::Timeout) => {}
                 Err(RecvTimeoutError::Disconnected) => break,
             }
-            show_progress(&self.progress(problems, start.elapsed()));
+            show_progress(&self.progress(problems.len(), start.elapsed()));
         }
         show_progress("");
         self.faults.sort_by_key(|(index, _)| *index);
@@ -252,13 +259,19 @@ impl Batch {
     }
 
     fn take_called(&mut self, problems: &[Listed], asked: &[usize], called: Called) {
-        let time = called.told.first().map_or(0, |told| told.microseconds);
-        let mut names = names(problems, asked);
-        if asked.len() > 1 {
-            names.push_str(&format!(", {} in one call", asked.len()));
-        }
-        self.calls.push((time, names));
-        self.slowest = self.slowest.max(Some((time, asked[0], asked.len() - 1)));
+        let (names, first) = (names(problems, asked), &problems[asked[0]].name);
+        let (names, short) = match asked.len() {
+            1 => (names, first.clone()),
+            all => (
+                format!("{names}, {all} in one call"),
+                format!("{first} and {} more", all - 1),
+            ),
+        };
+        self.calls.push(Call {
+            microseconds: called.told.first().map_or(0, |told| told.microseconds),
+            names,
+            short,
+        });
         self.told.extend(asked.iter().copied().zip(called.told));
         for fault in called.faults {
             let of_one = fault.problem.and_then(|k| asked.get(k..=k));
@@ -272,15 +285,12 @@ impl Batch {
     }
 
     /// How far the run is, in a line that a terminal has room for.
-    fn progress(&self, problems: &[Listed], time: Duration) -> String {
+    fn progress(&self, problems: usize, time: Duration) -> String {
         let rate = self.done as f64 / time.as_secs_f64();
-        let mut line = format!("{} of {}, {rate:.1} a second", self.done, problems.len());
-        if let Some((microseconds, first, more)) = self.slowest {
-            let (time, name) = (seconds(microseconds), &problems[first].name);
-            line.push_str(&format!(", slowest {time} s {name}"));
-            if more > 0 {
-                line.push_str(&format!(" and {more} more"));
-            }
+        let mut line = format!("{} of {problems}, {rate:.1} a second", self.done);
+        if let Some(call) = self.calls.iter().max_by_key(|call| call.microseconds) {
+            let time = seconds(call.microseconds);
+            line.push_str(&format!(", slowest {time} s {}", call.short));
         }
         line
     }

@@ -1,9 +1,10 @@
 //! What `chooser batch` tells at the end of a run.
 
+use std::cmp::Reverse;
 use std::collections::BTreeMap;
 use std::time::Duration;
 
-use super::batch_run::Batch;
+use super::batch_run::{Batch, Call};
 use crate::batch_csv::{Comparison, Row, Told};
 use frontier::refusal::word_of;
 
@@ -39,11 +40,7 @@ pub fn summary(
     }
     let told: Vec<Told> = rows.iter().filter_map(|row| row.told).collect();
     let answered = told.iter().filter(|told| told.number == 0).count();
-    let sum = batch
-        .calls
-        .iter()
-        .map(|(microseconds, _)| microseconds)
-        .sum();
+    let sum = batch.calls.iter().map(|call| call.microseconds).sum();
     text.push_str(&format!(
         "{} in all: {answered} answered, {} refused, {} without an answer; {} s of processor \
          time, {:.1} s passed\n",
@@ -56,11 +53,11 @@ pub fn summary(
     text
 }
 
-fn slowest_lines(calls: &[(u64, String)]) -> String {
-    let mut calls: Vec<&(u64, String)> = calls.iter().collect();
-    calls.sort_by(|one, other| other.0.cmp(&one.0).then(one.1.cmp(&other.1)));
+fn slowest_lines(calls: &[Call]) -> String {
+    let mut calls: Vec<&Call> = calls.iter().collect();
+    calls.sort_by_key(|call| (Reverse(call.microseconds), &call.names));
     calls.truncate(SLOWEST);
-    let line = |(time, names): &&(u64, String)| format!("{:>12} s  {names}\n", seconds(*time));
+    let line = |call: &&Call| format!("{:>12} s  {}\n", seconds(call.microseconds), call.names);
     let lines: String = calls.iter().map(line).collect();
     match lines.is_empty() {
         true => lines,
