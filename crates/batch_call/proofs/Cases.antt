@@ -16,7 +16,7 @@ use Rattle.batch_frames.specs.Says.{judgement, JudgedSays}
 use Rattle.batch_frames.proofs.InTurn.{turn-accepted, turn-count}
 use Rattle.batch_frames.proofs.Accepted.{numbers, taken-is}
 use Rattle.batch_call.specs.Says.{BatchSays}
-use Rattle.batch_call.specs.Steps.{AskedAll, LeftBy}
+use Rattle.batch_call.specs.Steps.{LeftBy}
 
 module _ (s c x r w : List ℕ) (j : DJ.Judged)
     (judged : JudgedSays s (length c) (length x) (length r) (length w) j) where
@@ -72,10 +72,8 @@ module _ (s c x r w : List ℕ) (j : DJ.Judged)
     accepts : outcome .verdict ≡ accepted
     accepts = ap (λ (o : BatchOutcome). o .verdict) outcome-turn ∙ turn-accepted (batchOf s) c x r w
 
-    pub taken-asked : AskedAll s c x r
-    taken-asked =
-        let taken : Taken s c x r w = taken-is s c x r w (ap (λ (a : Verdict). a .number) accepts) in
-        record { frames = taken .frames; areas = taken .areas }
+    pub taken-all : Taken s c x r w
+    taken-all = taken-is s c x r w (ap (λ (a : Verdict). a .number) accepts)
 
     pub taken-says : {c′ x′ r′ w′ : List ℕ} → LeftBy turn c′ x′ r′ w′ → BatchSays outcome c′ x′ r′ w′ answer
     taken-says left =

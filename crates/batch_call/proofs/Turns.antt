@@ -9,12 +9,13 @@ use Rattle.model.specs.Calls.{SolveOutcome}
 use Rattle.model.proofs.Bits.{true-false}
 use Rattle.batch_frames.specs.Batches.{maxBatch, frameHead, frameSize, frameProblem, frameOk, framesIn, batchOf}
 use Rattle.batch_frames.specs.Outcomes.{costArea, choiceArea, resultArea, BatchOutcome, inTurn}
+use Rattle.batch_frames.specs.Statements.{Taken}
 use Rattle.batch_frames.specs.Says.{inArea}
 use Rattle.batch_frames.proofs.FrameSteps.{rest-place, frames-none, frames-first, frames-next}
 use Rattle.batch_frames.proofs.FramesRead.{Read, none-read, too-many, one-more}
 use Rattle.batch_frames.proofs.AreaSteps.{areas-there, area-front, area-behind}
 use Rattle.batch_frames.proofs.InTurn.{costs-long, choices-long}
-use Rattle.batch_call.specs.Steps.{Asked, solvedAt, Solved, AskedAll, LeftBy}
+use Rattle.batch_call.specs.Steps.{Asked, solvedAt, Solved, LeftBy}
 
 -- ## k problems are solved, and the problems ss are left
 
@@ -122,13 +123,13 @@ module _ (s c₀ x₀ r₀ w₀ : List ℕ) (at k : ℕ) (c x r w : List ℕ) (t
       none-left k c x r w (inTurn (batchOf s) c₀ x₀ r₀ w₀) (rw none at (t .left))
 
   -- bytes are left
-  module _ (asked : AskedAll s c₀ x₀ r₀) (l : at < length s) where
+  module _ (taken : Taken s c₀ x₀ r₀ w₀) (l : at < length s) where
     some : length (drop at s) ≡ 0 → ⊥
     some e = omega (arith, length-drop at s)
 
     below : k < maxBatch
     below =
-        let few : k ≡ maxBatch → ⊥ = λ e. true-false (asked .frames) (too-many s at k (t .read) l e) in
+        let few : k ≡ maxBatch → ⊥ = λ e. true-false (taken .frames) (too-many s at k (t .read) l e) in
         omega (arith, t .read .few)
 
     next-less : maxBatch - k ≡ suc (maxBatch - (k + 1))
@@ -136,7 +137,7 @@ module _ (s c₀ x₀ r₀ w₀ : List ℕ) (at k : ℕ) (c x r w : List ℕ) (t
 
     whole : frameOk (drop at s) ≡ true
     whole =
-        let ok = sym (t .read .kept) ∙ asked .frames in
+        let ok = sym (t .read .kept) ∙ taken .frames in
         frames-first (maxBatch - (k + 1)) (drop at s) (rw next-less at ok) some .0
 
     abbrev next-at : ℕ
@@ -149,7 +150,7 @@ module _ (s c₀ x₀ r₀ w₀ : List ℕ) (at k : ℕ) (c x r w : List ℕ) (t
     pub next-asked : Asked (drop at s) k c x r
     next-asked =
         let many = ap length next-frames in
-        let there = areas-there (length (batchOf s)) (length c₀) (length x₀) (length r₀) (asked .areas) in
+        let there = areas-there (length (batchOf s)) (length c₀) (length x₀) (length r₀) (taken .areas) in
         record {
           frame = whole;
           few = below;

@@ -5,8 +5,8 @@ use mathlib.Core.List.{List, [], _∷_}
 use Prim.Native.Nat.{ℕ, _+_, _*_, _≤_, _<_}
 use lib.ListN.{length}
 use Rattle.model.specs.Calls.{SolveOutcome, solveOutcome}
-use Rattle.batch_frames.specs.Batches.{maxBatch, frameHead, frameSize, frameProblem, frameOk, batchOk, batchOf}
-use Rattle.batch_frames.specs.Outcomes.{costArea, choiceArea, resultArea, areasOk, BatchOutcome}
+use Rattle.batch_frames.specs.Batches.{maxBatch, frameHead, frameSize, frameProblem, frameOk}
+use Rattle.batch_frames.specs.Outcomes.{costArea, choiceArea, resultArea, BatchOutcome}
 use Rattle.batch_frames.specs.Statements.{areaOf}
 use Rattle.batch_frames.specs.Says.{inArea}
 
@@ -34,11 +34,6 @@ pub record Solved (s : List ℕ) (k : ℕ) (costs choices results work costs′ 
       results
   pub work-left : work′ ≡ solvedAt s k costs choices work .work
   pub ends : end ≡ frameHead + frameSize s
-
--- all of them: the frames are whole, and the areas are there
-pub record AskedAll (s costs choices results : List ℕ) : Type 0 where
-  pub frames : batchOk s ≡ true
-  pub areas : areasOk (length (batchOf s)) (length costs) (length choices) (length results) ≡ true
 
 -- the buffers are what an outcome says
 pub record LeftBy (o : BatchOutcome) (costs′ choices′ results′ work′ : List ℕ) : Type 0 where

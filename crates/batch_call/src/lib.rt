@@ -1,8 +1,9 @@
 // The batch call: from a batch of problems to what single calls in turn give, each on its areas; or a refusal.
 ghost use Rattle.batch_frames.specs.Batches.{batchOf};
 ghost use Rattle.batch_frames.specs.Outcomes.{inTurn, batchOutcome};
+ghost use Rattle.batch_frames.specs.Statements.{Taken};
 ghost use Rattle.batch_call.specs.Says.{BatchSays};
-ghost use Rattle.batch_call.specs.Steps.{Asked, AskedAll, Solved, LeftBy};
+ghost use Rattle.batch_call.specs.Steps.{Asked, Solved, LeftBy};
 
 // The frontier lists of up to 16 problems, each in its areas, with number, place and count in the result list.
 // Whatever is refused of the whole is refused before any solving.
@@ -39,7 +40,7 @@ fn solve_frames(
     results: &mut [u32],
     work: &mut [u32],
 )
-    requires { ⌜ AskedAll (now batch) (now costs) (now choices) (now results) ⌝ }
+    requires { ⌜ Taken (now batch) (now costs) (now choices) (now results) (now work) ⌝ }
     ensures { λ _. ⌜ LeftBy
         (inTurn (batchOf (now (batch .entry))) (now (costs .entry)) (now (choices .entry)) (now (results .entry))
         (now (work .entry)))

@@ -5,8 +5,8 @@ use mathlib.Core.List.{List, [], _∷_}
 use Prim.Native.Nat.{ℕ, zero, suc, _+_, _-_, _≤_}
 use native.Mathlib.Omega.{arith}
 use lib.Dec.{eqb, leb}
-use lib.ListN.{length, getD, take, drop, length-drop}
-use lib.Seq.{take-all, drop-drop}
+use lib.ListN.{length, getD, drop}
+use lib.Seq.{drop-drop}
 use borrow.Author.Tests.{eqb-true, leb-true, eq-eqb, ne-eqb, le-leb}
 use Rattle.model.specs.Basics.{pick}
 use Rattle.model.proofs.Bits.{and-left, and-right, and-both, not-true-false}
@@ -49,10 +49,7 @@ module _ (s : List ℕ) where
 
 -- ## frames in a row
 
--- what is lent of a batch from a place on, and what follows the frame there
-pub lent-rest : (s : List ℕ) (at : ℕ) → take (length s - at) (drop at s) ≡ drop at s
-lent-rest s at = take-all (length s - at) (drop at s) (omega (arith, length-drop at s))
-
+-- what follows the frame at a place
 pub rest-place : (s : List ℕ) (at : ℕ) → frameRest (drop at s) ≡ drop (at + (frameHead + frameSize (drop at s))) s
 unfolding frameRest
 rest-place s at = drop-drop (frameHead + frameSize (drop at s)) at s

@@ -9,24 +9,16 @@ use lib.Seq.{length-take-le, take-at, drop-at, drop-drop}
 use Rattle.model.specs.Basics.{All}
 use Rattle.model.specs.Limits.{wordEnd}
 use Rattle.model.specs.Encoding.{Byte, twoBytes, fourBytes, wordBytes}
-use Rattle.model.specs.Reading.{word4, wordsIn}
+use Rattle.model.specs.Reading.{word4}
 use Rattle.model.proofs.Bits.{true-false, and-both}
 use Rattle.model.proofs.Elements.{all-append, all-drop}
-use Rattle.model.proofs.Words.{words-read, words-written}
+use Rattle.model.proofs.Words.{four-read, four-written}
+use Rattle.model.proofs.Bytes.{words-bytes}
 use Rattle.batch_frames.specs.Batches.{maxBatch, letterB, letterP, frameHead, frameSize, frameProblem, frameRest}
 use Rattle.batch_frames.specs.Batches.{framesOk, framesIn, batchOk, batchOf, batchBytes}
 use Rattle.batch_frames.proofs.FrameSteps.{Framed, frame-whole, whole-frame}
 use Rattle.batch_frames.proofs.FrameSteps.{frames-done, frames-none, frames-over, frames-due}
 use Rattle.batch_frames.proofs.FrameSteps.{frames-first, frames-next, frames-few}
-
--- one number of four bytes
-four-read : (x : ℕ) (rest : List ℕ) → word4 (fourBytes x ++ rest) ≡ x
-unfolding wordsIn wordBytes fourBytes twoBytes
-four-read x rest = cc (words-read (x ∷ []) rest)
-
-four-written : (s : List ℕ) → 4 ≤ length s → All Byte s → fourBytes (word4 s) ++ drop 4 s ≡ s
-unfolding wordsIn wordBytes fourBytes twoBytes
-four-written s l h = words-written 1 s l h
 
 -- ## a problem that was framed is read
 
@@ -82,13 +74,8 @@ pub framed : (ps : List (List ℕ)) → length ps ≤ maxBatch
     → (batchOk (batchBytes ps) ≡ true) × (batchOf (batchBytes ps) ≡ ps)
 framed ps few = read-back maxBatch ps few
 
--- a length below 2^32 has four bytes
-four-bytes : (x : ℕ) → x < wordEnd → All Byte (fourBytes x)
-unfolding fourBytes twoBytes
-four-bytes x l = (omega arith, (omega arith, (omega arith, (omega arith, tt))))
-
 pub framed-bytes : (ps : List (List ℕ)) → All (λ p. All Byte p × (length p < wordEnd)) ps → All Byte (batchBytes ps)
-unfolding batchBytes fourBytes twoBytes
+unfolding batchBytes wordBytes fourBytes twoBytes
 framed-bytes [] h = tt
 framed-bytes (p ∷ ps) h =
     let rest = all-append Byte p (batchBytes ps) (h .0 .0) (framed-bytes ps (h .1)) in (
@@ -96,7 +83,7 @@ framed-bytes (p ∷ ps) h =
       (
         omega arith,
         all-append Byte (fourBytes (length p)) (p ++ batchBytes ps)
-            (four-bytes (length p) (h .0 .1)) rest,
+            (words-bytes (length p ∷ []) (h .0 .1, tt)) rest,
       ),
     )
 

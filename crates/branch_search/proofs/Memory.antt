@@ -4,10 +4,11 @@ use mathlib.Core.Path.{_≡_, refl, sym, ap, _∙_, subst}
 use mathlib.Core.List.{List, _++_}
 use Prim.Native.Nat.{ℕ, _+_, _-_, _≤_}
 use native.Mathlib.Omega.{arith}
-use lib.ListN.{length, take, drop, length-drop}
-use lib.Seq.{take-all, drop-drop, take-at, drop-at}
+use lib.ListN.{length, take, drop}
+use lib.Seq.{drop-drop, take-at, drop-at}
 use Rattle.model.specs.Limits.{maxTables}
 use Rattle.model.specs.Problems.{Problem}
+use Rattle.model.proofs.Lists.{take-rest}
 use Rattle.layout.specs.Layout.{zonesEnd, sourceAt, listEnd}
 use Rattle.groups.specs.Groups.{tablesOver}
 use Rattle.rows.specs.Rows.{costsIn, listIn, Framed}
@@ -99,7 +100,7 @@ module _ (work work′ : List ℕ) (long : length work′ ≡ length work)
 
 -- the plan, as it is lent
 pub lent-plan : (work : List ℕ) → take (length work - listEnd) (drop listEnd work) ≡ planIn work
-lent-plan work = take-all (length work - listEnd) (drop listEnd work) (omega (arith, length-drop listEnd work))
+lent-plan work = take-rest work listEnd
 
 -- memory whose zones were lent and came back as z
 module _ (z rest : List ℕ) (e : length z ≡ zonesEnd) where

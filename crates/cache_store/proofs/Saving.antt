@@ -4,10 +4,10 @@ use mathlib.Core.List.{List}
 use Prim.Native.Nat.{ℕ, _+_, _-_, _*_}
 use lib.ListN.{length, take, drop}
 use Rattle.model.specs.Encoding.{fourBytes, wordBytes}
+use Rattle.model.proofs.Lists.{take-rest}
 use Rattle.form_canonical.specs.Places.{overAt}
 use Rattle.cache_answers.specs.Stores.{slotSize, costsAt, choicesAt, lengthAt, countAt, nextAt, slotsIn, Answer}
 use Rattle.cache_answers.specs.Stores.{nextSlot, slotAfter, filled, stored}
-use Rattle.cache_store.proofs.Slots.{lent}
 
 -- the whole of a list, as a copy names it
 abbrev whole : List ℕ → List ℕ
@@ -22,8 +22,8 @@ module _ (form : List ℕ) (a : Answer) (store : List ℕ) where
       → s₅ ≡ filled at form a store
   unfolding filled
   slot-filled at e₁ e₂ e₃ e₄ e₅ =
-      let f₁ = rw (lent form 0) at e₁ in
-      let f₃ = rw (lent (a .choices) 0) at e₃ in
+      let f₁ = rw (take-rest form 0) at e₁ in
+      let f₃ = rw (take-rest (a .choices) 0) at e₃ in
       e₅ ∙ ap (overAt (at + countAt) (fourBytes (a .count)))
       (e₄ ∙ ap (overAt (at + lengthAt) (fourBytes (length form)))
       (f₃ ∙ ap (overAt (at + choicesAt) (a .choices))

@@ -2,11 +2,10 @@
 use mathlib.Core.Path.{_≡_, refl, sym}
 use mathlib.Core.Bool.{true, false}
 use mathlib.Core.List.{List}
-use Prim.Native.Nat.{ℕ, suc, _+_, _-_, _*_, _≤_, _<_}
+use Prim.Native.Nat.{ℕ, suc, _+_, _*_, _≤_, _<_}
 use native.Mathlib.Numerals.{add-one}
 use native.Mathlib.Omega.{arith}
-use lib.ListN.{length, take, drop, length-drop}
-use lib.Seq.{take-all}
+use lib.ListN.{length, take, drop}
 use borrow.Author.Tests.{lt-ltb, le-ltb, eq-eqb, ne-eqb}
 use Rattle.model.specs.Reading.{word4}
 use Rattle.model.specs.Vectors.{same}
@@ -16,10 +15,6 @@ use Rattle.cache_answers.specs.Stores.{nextSlot, slotAfter}
 pub slot-inside : (store : List ℕ) (k : ℕ) → k < slotsIn store → slotSize * k + slotSize ≤ length store
 unfolding slotsIn
 slot-inside store k h = omega arith
-
--- what is lent of a store from a place on
-pub lent : (store : List ℕ) (at : ℕ) → take (length store - at) (drop at store) ≡ drop at store
-lent store at = take-all (length store - at) (drop at store) (omega (arith, length-drop at store))
 
 -- whether a slot holds a form, by its length word
 module _ (form slot : List ℕ) where

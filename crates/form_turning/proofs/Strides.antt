@@ -6,14 +6,15 @@ use Prim.Native.Nat.{ℕ, zero, suc, _+_, _-_, _*_, _≤_, _<_}
 use native.Mathlib.Omega.{arith}
 use native.Mathlib.Numerals.{add-one}
 use lib.Dec.{eqb}
-use lib.ListN.{length, getD, take, drop, length-drop, drop-of-length-le, List·getD-eq-default}
-use lib.Seq.{getD-append-seam, take-all, drop-cons}
+use lib.ListN.{length, getD, take, drop, drop-of-length-le, List·getD-eq-default}
+use lib.Seq.{getD-append-seam, drop-cons}
 use borrow.Author.Tests.{eqb-true, eqb-false, eq-eqb, ne-eqb}
 use Rattle.model.specs.Basics.{All, pick}
 use Rattle.model.specs.Problems.{sizeOf, hasVariable, scopeRule}
 use Rattle.model.specs.Costs.{entryFrom}
 use Rattle.model.proofs.Numbers.{digit-room}
 use Rattle.model.proofs.Bits.{or-false}
+use Rattle.model.proofs.Lists.{take-rest}
 use Rattle.form_turning.specs.Strides.{strideOf}
 use Rattle.form_turning.proofs.OrderedScopes.{scope-parts}
 
@@ -104,7 +105,7 @@ module _ (ds scope : List ℕ) (v k : ℕ) where
     stride-here e =
         let behind = drop (k + 1) scope in
         let all : take (length scope - (k + 1)) behind ≡ behind =
-        take-all (length scope - (k + 1)) behind (omega (arith, length-drop (k + 1) scope)) in
+        take-rest scope (k + 1) in
         rw (all, add-one, drop-cons scope k 0 more, eq-eqb (getD scope k 0) v e)
 
     pub stride-after : (getD scope k 0 ≡ v → ⊥) → strideOf ds (drop k scope) v ≡ strideOf ds (drop (k + 1) scope) v

@@ -3,8 +3,8 @@ use mathlib.Core.Path.{_≡_, refl, sym, ap}
 use mathlib.Core.List.{List, [], _∷_, _++_, append-assoc, append-nil}
 use Prim.Native.Nat.{ℕ, zero, suc, _+_, _-_, _≤_, _<_}
 use native.Mathlib.Omega.{arith}
-use lib.ListN.{length, take, drop, length-drop}
-use lib.Seq.{take-all, drop-drop, drop-length}
+use lib.ListN.{length, take, drop}
+use lib.Seq.{drop-drop, drop-length}
 use Rattle.model.specs.Basics.{All}
 use Rattle.model.specs.Limits.{maxObjectives}
 use Rattle.model.specs.Problems.{Table}
@@ -12,6 +12,7 @@ use Rattle.model.specs.Core.{coreTables, coreCeilings, coreOf, coreFrontier}
 use Rattle.model.specs.Reading.{tableLength, tablesAt, placesAt}
 use Rattle.model.proofs.Core.{take-ceilings}
 use Rattle.model.specs.Calls.{over as filled}
+use Rattle.model.proofs.Lists.{take-rest}
 use Rattle.problem.proofs.RecordPlaces.{places-count, places-whole}
 use Rattle.costs.specs.Entries.{tableAt}
 use Rattle.layout.specs.Layout.{sourceAt}
@@ -56,8 +57,7 @@ module _ (r at : ℕ) (ds s work : List ℕ) (from : ℕ) (inside : from + r ≤
   unfolding filled
   written-over =
       let all : from + (length work - from) ≡ length work = omega arith in
-      let part : behindAt work from ≡ drop from work = take-all (length work - from) (drop from work)
-      (omega (arith, length-drop from work)) in
+      let part : behindAt work from ≡ drop from work = take-rest work from in
       rw (
         says,
         part,

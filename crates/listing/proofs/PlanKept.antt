@@ -5,9 +5,9 @@ use mathlib.Core.List.{List, _++_, append-nil}
 use Prim.Native.Nat.{ℕ, _+_, _-_, _≤_}
 use native.Mathlib.Omega.{arith}
 use lib.ListN.{length, take, drop, length-append, length-drop}
-use lib.Seq.{length-take-le, take-all, take-take, take-append-le, drop-at, drop-drop, drop-length}
+use lib.Seq.{length-take-le, take-take, take-append-le, drop-at, drop-drop, drop-length}
 use Rattle.model.specs.Basics.{All}
-use Rattle.model.proofs.Lists.{take-drop}
+use Rattle.model.proofs.Lists.{take-drop, take-rest}
 use Rattle.problem.specs.Records.{Whole}
 use Rattle.layout.specs.Layout.{sourceAt, listAt, listEnd}
 use Rattle.groups.proofs.Overwritten.{over, over-length, over-part, over-here}
@@ -29,7 +29,7 @@ module _ (work : List ℕ) (from : ℕ) (inside : from ≤ length work) (kept : 
   front = length-take-le from work inside
 
   pub behind-all : behindAt work from ≡ drop from work
-  behind-all = take-all (length work - from) (drop from work) (omega (arith, length-drop from work))
+  behind-all = take-rest work from
 
   rest : drop (length work - from) (drop from work) ≡ drop (length work) work
   rest =

@@ -11,7 +11,7 @@ use Rattle.model.specs.Encoding.{tablesBytes, encode}
 use Rattle.model.proofs.Scopes.{scope-distinct, distinct-range}
 use Rattle.model.proofs.Elements.{all-append, all-map}
 
-words-bytes : (xs : List ℕ) → All Word xs → All Byte (wordBytes xs)
+pub words-bytes : (xs : List ℕ) → All Word xs → All Byte (wordBytes xs)
 unfolding twoBytes fourBytes wordBytes
 words-bytes [] h = tt
 words-bytes (x ∷ xs) h = (omega arith, (omega arith, (omega arith, (omega arith, words-bytes xs (h .1)))))

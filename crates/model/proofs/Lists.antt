@@ -8,9 +8,9 @@ use native.Mathlib.Omega.{arith}
 use native.Mathlib.Nat.{add-zero, zero-add, suc-add}
 use native.Mathlib.Numerals.{add-one}
 use lib.Dec.{ltb}
-use lib.ListN.{length, getD, take, drop, set, drop-of-length-le, List·getD-eq-default}
+use lib.ListN.{length, getD, take, drop, set, length-drop, drop-of-length-le, List·getD-eq-default}
 use lib.Seq.{length-take-le, take-nil, take-take, take-add, take-at, drop-cons, drop-drop, drop-append-add, getD-take}
-use lib.Seq.{getD-drop, getD-set-same, getD-set-other, set-out}
+use lib.Seq.{take-all, getD-drop, getD-set-same, getD-set-other, set-out}
 use borrow.Author.Tests.{ltb-true, ltb-false}
 use Rattle.model.proofs.Bits.{test}
 use Rattle.model.proofs.Numbers.{equal-or}
@@ -19,6 +19,10 @@ module _ {A : Type 0} where
   -- ## fronts and parts
 
   -- a part is what is left of a front
+  -- all that stands from a place on, as it is lent
+  pub take-rest : (l : List A) (at : ℕ) → take (length l - at) (drop at l) ≡ drop at l
+  take-rest l at = take-all (length l - at) (drop at l) (omega (arith, length-drop at l))
+
   pub take-drop : (k a : ℕ) (l : List A) → take k (drop a l) ≡ drop a (take (a + k) l)
   take-drop k zero l = rw zero-add
   take-drop k (suc a) [] = rw suc-add (take-nil k)

@@ -23,7 +23,7 @@ pub two-read : (x : ℕ) (rest : List ℕ) → word2 0 (twoBytes x ++ rest) ≡ 
 unfolding twoBytes word2
 two-read x rest = omega arith
 
-four-read : (x : ℕ) (rest : List ℕ) → word4 (fourBytes x ++ rest) ≡ x
+pub four-read : (x : ℕ) (rest : List ℕ) → word4 (fourBytes x ++ rest) ≡ x
 unfolding twoBytes fourBytes word2 word4
 four-read x rest = omega arith
 
@@ -50,7 +50,7 @@ two-written (a ∷ b ∷ s) l h =
     let high : (a + byteEnd * b) / byteEnd ≡ b = omega arith in
     λ i. low i ∷ high i ∷ s
 
-four-written : (s : List ℕ) → 4 ≤ length s → All Byte s → fourBytes (word4 s) ++ drop 4 s ≡ s
+pub four-written : (s : List ℕ) → 4 ≤ length s → All Byte s → fourBytes (word4 s) ++ drop 4 s ≡ s
 unfolding fourBytes word4 word2
 four-written [] l h = absurd (omega arith)
 four-written (a ∷ []) l h = absurd (omega arith)

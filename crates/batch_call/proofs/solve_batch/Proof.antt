@@ -1,7 +1,7 @@
 -- `batch_call::solve_batch` meets its contract: what is refused of the whole, and else the problems in turn.
 use denote.Ref.{now}
 use borrow.Author.Needs.{needs}
-use Rattle.batch_call.proofs.Cases.{refused-says, taken-asked, taken-says}
+use Rattle.batch_call.proofs.Cases.{refused-says, taken-all, taken-says}
 use Rattle.batch_call.proofs.solve_batch.Statement.{statement}
 use Rattle.batch_call.proofs.solve_batch.Tie as tie
 
@@ -22,7 +22,7 @@ solve-frames-requires c κs =
     let kept : tie.Else1 = c .before .before .before .before in
     let j : tie.After-judge = kept .before .before .before in
     let a = start j .args in
-    taken-asked (now (a .batch)) (now (a .costs)) (now (a .choices)) (now (a .results)) (now (a .work))
+    taken-all (now (a .batch)) (now (a .costs)) (now (a .choices)) (now (a .results)) (now (a .work))
     (j .judge .result) (j .judge .ensures) (kept .if1 .left)
 
 returns-2 : tie.Need-returns-2

@@ -5,7 +5,7 @@ use native.Mathlib.Omega.{arith}
 use lib.ListN.{length, drop}
 use denote.Ref.{now}
 use borrow.Author.Needs.{needs}
-use Rattle.batch_frames.proofs.FrameSteps.{lent-rest}
+use Rattle.model.proofs.Lists.{take-rest}
 use Rattle.batch_call.specs.Steps.{Solved}
 use Rattle.batch_call.proofs.Turns.{Turned, none-turned, all-turned, next-asked, next-turned}
 use Rattle.batch_call.proofs.solve_frames.Statement.{statement}
@@ -31,7 +31,7 @@ solve-frame-requires c κs =
     let due : tie.In-loop Inv-loop μ-loop = c .before .before .before .before .before in
     let p : tie.At-loop Inv-loop μ-loop = due .before in
     let a = start p .args in
-    rw (lent-rest (now (a .batch)) (p .loop .at))
+    rw (take-rest (now (a .batch)) (p .loop .at))
     (next-asked (now (a .batch)) (now (a .costs)) (now (a .choices)) (now (a .results)) (now (a .work))
     (p .loop .at) (p .loop .k) (p .loop .costs) (p .loop .choices) (p .loop .results) (p .loop .work)
     (p .loop .inv) (start p .pre) (due .loop-test .taken))
@@ -49,7 +49,7 @@ told : (f : tie.After-solve-frame Inv-loop μ-loop)
     (left .0) (left .1 .0) (left .1 .1 .0) (left .1 .1 .1 .0) (f .solve-frame .result)
 told f =
     let p : tie.At-loop Inv-loop μ-loop = due f .before in
-    rw (lent-rest (now (start p .args .batch)) (p .loop .at)) at (f .solve-frame .ensures)
+    rw (take-rest (now (start p .args .batch)) (p .loop .at)) at (f .solve-frame .ensures)
 
 next : (f : tie.After-solve-frame Inv-loop μ-loop)
     → let p : tie.At-loop Inv-loop μ-loop = due f .before in

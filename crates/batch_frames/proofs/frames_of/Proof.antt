@@ -9,9 +9,9 @@ use denote.Ref.{now}
 use borrow.Author.Needs.{needs}
 use borrow.Author.Tests.{not-true, not-false}
 use Rattle.model.proofs.Bits.{true-false}
+use Rattle.model.proofs.Lists.{take-rest}
 use Rattle.batch_frames.specs.Batches.{frameHead, batchOk}
 use Rattle.batch_frames.specs.Says.{FrameSays, FramesSays}
-use Rattle.batch_frames.proofs.FrameSteps.{lent-rest}
 use Rattle.batch_frames.proofs.FramesRead.{Read, none-read, too-many, broken-frame, one-more, all-read}
 use Rattle.batch_frames.proofs.frames_of.Statement.{statement}
 use Rattle.batch_frames.proofs.frames_of.Tie as tie
@@ -38,7 +38,7 @@ abbrev left : tie.After-frame-of Inv-loop μ-loop → List ℕ
 left f = drop (due f .loop .at) (batch-at (due f))
 
 looked : (f : tie.After-frame-of Inv-loop μ-loop) → FrameSays (left f) (f .frame-of .result)
-looked f = rw (lent-rest (batch-at (due f)) (due f .loop .at)) at (f .frame-of .ensures)
+looked f = rw (take-rest (batch-at (due f)) (due f .loop .at)) at (f .frame-of .ensures)
 
 next : (c : tie.Else2 Inv-loop μ-loop)
     → let f : tie.After-frame-of Inv-loop μ-loop = c .before .before in

@@ -6,8 +6,9 @@ use lib.ListN.{length, length-drop}
 use denote.Ref.{now}
 use borrow.Author.Needs.{needs}
 use Rattle.model.specs.Limits.{maxPoints}
+use Rattle.model.proofs.Lists.{take-rest}
 use Rattle.cache_answers.specs.Stores.{slotSize}
-use Rattle.cache_store.proofs.Slots.{slot-inside, lent}
+use Rattle.cache_store.proofs.Slots.{slot-inside}
 use Rattle.cache_store.proofs.count_in.Statement.{statement}
 use Rattle.cache_store.proofs.count_in.Tie as tie
 
@@ -19,7 +20,7 @@ four-at-requires c κs =
     let start : tie.Start = c .before .before in
     let store = now (start .args .store) in
     let at = slotSize * start .args .k in
-    rw (lent store at) (omega (arith, inside start, length-drop at store))
+    rw (take-rest store at) (omega (arith, inside start, length-drop at store))
 
 returns : tie.Need-returns
 returns c =
@@ -27,7 +28,7 @@ returns c =
     let store = now (start .args .store) in
     let at = slotSize * start .args .k in
     c .lesser .ensures
-    ∙ ap (λ (n : ℕ). Prim.Native.Nat.min n maxPoints) (rw (lent store at) at (c .before .four-at .ensures))
+    ∙ ap (λ (n : ℕ). Prim.Native.Nat.min n maxPoints) (rw (take-rest store at) at (c .before .four-at .ensures))
 
 pub count-in-spec : {M : Type 1} → statement M
 count-in-spec =

@@ -5,8 +5,9 @@ use native.Mathlib.Omega.{arith}
 use lib.ListN.{length, length-drop}
 use denote.Ref.{now}
 use borrow.Author.Needs.{needs}
+use Rattle.model.proofs.Lists.{take-rest}
 use Rattle.cache_answers.specs.Stores.{slotSize, slotsIn, slotAt, holdsForm, findForm}
-use Rattle.cache_store.proofs.Slots.{slot-inside, lent, found-here, found-later, found-none}
+use Rattle.cache_store.proofs.Slots.{slot-inside, found-here, found-later, found-none}
 use Rattle.cache_store.proofs.find_form.Statement.{statement}
 use Rattle.cache_store.proofs.find_form.Tie as tie
 
@@ -38,7 +39,7 @@ holds-form-requires c κs =
     let start : tie.Start Inv-loop μ-loop = p .before .before .before .before .before in
     let store = now (start .args .store) in
     let at = slotSize * p .before .loop .k in
-    rw (lent store at) (omega (arith, inside p, length-drop at store), start .pre)
+    rw (take-rest store at) (omega (arith, inside p, length-drop at store), start .pre)
 
 -- one slot less is left behind slot k
 left : (c : tie.In-loop Inv-loop μ-loop)
@@ -55,7 +56,7 @@ told : (c : tie.After-holds-form Inv-loop μ-loop)
 told c =
     let p : tie.At-loop Inv-loop μ-loop = c .before .before .before in
     let store = now (p .before .before .before .before .args .store) in
-    sym (rw (lent store (slotSize * p .loop .k)) at (c .holds-form .ensures))
+    sym (rw (take-rest store (slotSize * p .loop .k)) at (c .holds-form .ensures))
 
 returns : tie.Need-returns Inv-loop μ-loop
 returns c =
