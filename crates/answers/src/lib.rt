@@ -1,5 +1,6 @@
 // What the calls that list the frontier answer, before a search and behind it: refusals, the room, the list copied out
 // of work memory, and the answers, for C too.
+#![tactic(auto)]
 ghost use Rattle.std.specs.Prelude.{◌≡◌, ◌≤◌, eqb, length, replicate};
 ghost use Rattle.model.specs.Basics.{pick};
 ghost use Rattle.model.specs.Limits.{max_bytes, max_points};

@@ -1,5 +1,6 @@
 // The frames and areas of a batch of problems, and what the batch call answers: definitions and theorems; reading the
 // frames, and what is refused before any solving.
+#![tactic(auto)]
 ghost use Rattle.std.specs.Prelude.{◌≡◌, [], ◌∷◌, ◌+◌, ◌*◌, ◌≤◌, ◌<◌, length};
 ghost use Rattle.batch_frames.specs.Batches.{max_batch};
 ghost use Rattle.batch_frames.specs.Outcomes.{result_area, areas_ok};

@@ -1,4 +1,5 @@
 // From the bytes of a problem and a prefix to the bound in each objective; or a refusal.
+#![tactic(auto)]
 ghost use Rattle.std.specs.Prelude.{◌≡◌};
 ghost use Rattle.bound_call.specs.Says.{BoundSays};
 

@@ -1,5 +1,6 @@
 // Buckets of the second form of the search: what the records and messages of a position hold for each of its variable's
 // values, and what it sends.
+#![tactic(auto)]
 ghost use Rattle.std.specs.Prelude.{◌≡◌, true, ℕ, ◌+◌, ◌*◌, ◌<◌, ◌≤◌, length, get_or, take, drop, set, ltb};
 ghost use Rattle.model.specs.Basics.{All, when};
 ghost use Rattle.model.specs.Limits.{max_tables, max_variables, max_domain, max_objectives};

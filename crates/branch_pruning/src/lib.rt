@@ -1,5 +1,6 @@
 // The tests by which the second form of the search leaves a partial choice: by the limit, by the zones, and by archived
 // points that could be replaced.
+#![tactic(auto)]
 ghost use Rattle.std.specs.Prelude.{◌≡◌, false, ℕ, ◌+◌, ◌<◌, ◌≤◌, length, take, drop};
 ghost use Rattle.model.specs.Basics.{All};
 ghost use Rattle.model.specs.Limits.{max_variables, max_points};

@@ -1,4 +1,5 @@
 // The second form of the search: passes of branch and bound over a plan, into an archive, until one leaves nothing out.
+#![tactic(auto)]
 ghost use Rattle.std.specs.Prelude.{◌≡◌, ℕ, ◌+◌, ◌<◌, ◌≤◌, List, length};
 ghost use Rattle.model.specs.Basics.{All};
 ghost use Rattle.model.specs.Limits.{max_variables, max_domain, max_points};

@@ -1,5 +1,6 @@
 // Zones of the second form of the search: upper corners under which new vectors may lie,
 // in rows of memory of their own.
+#![tactic(auto)]
 ghost use Rattle.std.specs.Prelude.{◌≡◌, true, false, ℕ, ◌+◌, ◌-◌, ◌<◌, ◌≤◌, length, get_or, take, drop};
 ghost use Rattle.model.specs.Basics.{All};
 ghost use Rattle.model.specs.Limits.{max_objectives};

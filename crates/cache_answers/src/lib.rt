@@ -1,4 +1,5 @@
 // A store of solved problems, what the cached call answers, and runs of calls: definitions and theorems.
+#![tactic(auto)]
 ghost use Rattle.std.specs.Prelude.{◌≡◌};
 ghost use Rattle.model.specs.Basics.{when};
 

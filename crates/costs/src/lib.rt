@@ -1,4 +1,5 @@
 // Entries of tables and bounds of prefixes, over the accepted records of a problem.
+#![tactic(auto)]
 ghost use Rattle.std.specs.Prelude.{◌≡◌, true, length, drop};
 ghost use Prim.Native.Nat.{ℕ, ◌+◌, ◌-◌, ◌*◌, ◌<◌, ◌≤◌};
 ghost use Rattle.model.specs.Basics.{All};

@@ -1,5 +1,6 @@
 // Where everything stands in work memory, in numbers from its start, and in a plan.
 // What each place holds is said beside its definition in specs/Layout.antt.
+#![tactic(auto)]
 
 pub const ZONES_END: usize = 1024;
 

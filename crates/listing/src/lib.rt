@@ -1,4 +1,5 @@
 // Finds a frontier list, of a problem or of a half: its records are placed in work memory and searched.
+#![tactic(auto)]
 ghost use Rattle.std.specs.Prelude.{◌≡◌, ◌≤◌, true, false, length, take};
 ghost use Rattle.model.specs.Basics.{All};
 ghost use Rattle.model.specs.Limits.{max_points};

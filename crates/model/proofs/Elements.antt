@@ -86,6 +86,6 @@ module _ {A : Type 0} where
   at_in (x ∷ xs) (suc i) d l = there (at_in xs i d (omega arith))
 
   pub in_at : {a : A} (xs : List A) (d : A) → In a xs → (i : ℕ) × (i < length xs) × (a ≡ get_or xs i d)
-  in_at [] d m = absurd (in-none m)
-  in_at (x ∷ xs) d m =
-      ⊎_elim (λ e. (0, omega arith, e)) (λ n. let (i, l, e) = in_at xs d n in (suc i, omega arith, e)) (in-cases m)
+  in_at {a = a} [] d m = absurd (in-none m)
+  in_at {a = a} (x ∷ xs) d m =
+      ⊎_elim (λ e. (0, omega arith, e)) (λ n. let (i, l, e) = in_at {a = a} xs d n in (suc i, omega arith, e)) (in-cases m)

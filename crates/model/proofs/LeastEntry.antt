@@ -165,8 +165,8 @@ module _ (w : ℕ) (ds pre : List ℕ) (entry : ℕ → ℕ) (h : (i : ℕ) → 
   unfolding least_from
   from_limit i [] = h i
   from_limit i (v ∷ vs) =
-      let first : least_from ds pre entry (i * get_or ds v 0 + 0) vs < w = from_limit _ vs in
-      pick_both (λ n. n < w) (ltb v (length pre)) (from_limit _ vs)
+      let first : least_from ds pre entry (i * get_or ds v 0 + 0) vs < w = from_limit (i * get_or ds v 0 + 0) vs in
+      pick_both (λ n. n < w) (ltb v (length pre)) (from_limit (i * get_or ds v 0 + get_or pre v 0) vs)
       (omega (
         arith,
         least_to_below (get_or ds v 0 - 1) (λ a. least_from ds pre entry (i * get_or ds v 0 + a) vs) 0 (omega arith),

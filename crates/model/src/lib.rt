@@ -1,5 +1,7 @@
 // The model: the rules of docs/REFERENCE.md as definitions (specs/), the theorems about them (proofs/),
 // and here the kinds with their limits.
+#![tactic(auto)]
+
 ghost use Rattle.std.specs.Prelude.{◌≡◌, not, leb};
 ghost use Rattle.model.specs.Limits.{max_bytes, max_variables, max_objectives, max_tables, max_domain, max_arity};
 ghost use Rattle.model.specs.Reading.{outside};

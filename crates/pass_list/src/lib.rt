@@ -1,4 +1,5 @@
 // The first form of the search: passes in list order, each of which adds the next point to the list in work memory.
+#![tactic(auto)]
 ghost use Rattle.std.specs.Prelude.{◌≡◌, ◌≤◌};
 ghost use Rattle.model.specs.Limits.{max_points};
 ghost use Rattle.model.specs.Suffixes.{Gains};

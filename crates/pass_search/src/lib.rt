@@ -1,4 +1,5 @@
 // One pass in list order: a branch and bound over the tree of partial choices finds the next point.
+#![tactic(auto)]
 ghost use Rattle.std.specs.Prelude.{◌≡◌, ◌++◌, ◌∷◌, [], ◌+◌, ◌<◌, ◌≤◌, length, get_or, take};
 ghost use Rattle.model.specs.Basics.{All};
 ghost use Rattle.model.specs.Limits.{max_objectives, max_variables, max_points};

@@ -1,6 +1,7 @@
 // A sum adapted to the ceilings: its bound comes as near as possible to what they allow. It is found in rounds: each
 // one plans with this sum alone, follows its least values to a choice, and gives more to the objectives that this
 // choice costs too much in. Nothing is promised of it but that no record is lost.
+#![tactic(auto)]
 ghost use Rattle.std.specs.Prelude.{◌≤◌, ◌<◌, length};
 ghost use Rattle.model.specs.Limits.{max_objectives, max_domain};
 ghost use Rattle.layout.specs.Places.{numbers_at};

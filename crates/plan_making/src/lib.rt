@@ -1,5 +1,6 @@
 // Makes a plan: the search order, the records by position, and the messages. Nothing is promised of it but that no
 // record and no message is lost: crate plan_test tests it.
+#![tactic(auto)]
 ghost use Rattle.std.specs.Prelude.{◌≡◌, ◌≤◌, ◌<◌, length, take, drop};
 ghost use Rattle.model.specs.Basics.{All};
 ghost use Rattle.model.specs.Limits.{max_variables, max_tables};

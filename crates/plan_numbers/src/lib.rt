@@ -1,5 +1,6 @@
 // The numbers of messages: the least that a part of a bucket holds, with its share of what all parts of the bucket have
 // at least, and what they leave of it.
+#![tactic(auto)]
 ghost use Rattle.std.specs.Prelude.{◌≤◌};
 ghost use Rattle.branch_buckets.specs.Content.{Planned};
 ghost use Rattle.plan_memory.specs.Arranged.{Loose};

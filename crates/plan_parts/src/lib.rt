@@ -1,4 +1,5 @@
 // The parts of a bucket: sets of a few earlier positions that cover what its records and messages read.
+#![tactic(auto)]
 ghost use Rattle.std.specs.Prelude.{◌≤◌};
 
 // Parts of a bucket: so many sets of earlier positions, of at most `most` each; zeros behind them.

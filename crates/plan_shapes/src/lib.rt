@@ -1,4 +1,5 @@
 // Which variables a message has, as there is room, and where its numbers stand.
+#![tactic(auto)]
 ghost use Rattle.std.specs.Prelude.{◌≤◌, ◌<◌};
 ghost use Rattle.model.specs.Limits.{max_variables};
 ghost use Rattle.layout.specs.Places.{numbers_at};

@@ -1,4 +1,5 @@
 // What is known of each objective's costs before the search: its tables' least and largest entries, added up.
+#![tactic(auto)]
 ghost use Rattle.std.specs.Prelude.{◌≡◌, ◌<◌, ◌≤◌, length, take};
 ghost use Rattle.model.specs.Basics.{All};
 ghost use Rattle.model.specs.Limits.{max_tables};

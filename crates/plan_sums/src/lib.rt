@@ -1,5 +1,6 @@
 // Which sums a plan has: the shares of the objectives in them, and the ranges that they are divided by. A plan of
 // another kind has others, so that what one plan does not prune another may. Nothing is promised of them.
+#![tactic(auto)]
 ghost use Rattle.std.specs.Prelude.{◌≤◌};
 ghost use Rattle.model.specs.Limits.{max_objectives};
 

@@ -1,4 +1,5 @@
 // Reads a problem: its records in byte order, refusals 1 to 11 with their places, and where each cost record starts.
+#![tactic(auto)]
 ghost use Rattle.std.specs.Prelude.{◌≡◌, ◌+◌, ◌-◌, ◌*◌, ◌<◌, ◌≤◌, length, get_or, take, drop};
 ghost use Rattle.model.specs.Basics.{All};
 ghost use Rattle.model.specs.Limits.{max_bytes, max_variables, max_objectives, max_arity, short_end};

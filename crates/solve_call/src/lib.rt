@@ -1,5 +1,6 @@
 // From the bytes of a problem to its frontier list: in the flat buffers, or in work memory to be copied out;
 // or a refusal.
+#![tactic(auto)]
 ghost use Rattle.model.specs.Calls.{solve_outcome};
 ghost use Rattle.answers.specs.Says.{SolveSays, ListedSays};
 

@@ -1,4 +1,5 @@
 // Tuples of a WCSP text: where a tuple's entry stands in its table, and whether one is given twice.
+#![tactic(auto)]
 ghost use Rattle.std.specs.Prelude.{◌≡◌, suc, ◌≤◌, length, take};
 ghost use Rattle.model.specs.Basics.{All};
 ghost use Rattle.model.specs.Problems.{DomainSize};

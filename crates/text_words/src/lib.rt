@@ -1,4 +1,5 @@
 // Words and decimal numbers of a text, read from a place on.
+#![tactic(auto)]
 ghost use Rattle.std.specs.Prelude.{◌≡◌, true, ◌+◌, ◌-◌, ◌*◌, ◌≤◌, min, ltb, length, drop};
 ghost use Rattle.text_words.specs.Texts.{is_space, is_digit, all_digits, value_from};
 ghost use Rattle.text_words.specs.Reads.{part, is_break, cap_end, sign_width, Skipped, WordEnds, WordSays};

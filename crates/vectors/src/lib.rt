@@ -1,5 +1,7 @@
 // Cost vectors: under the ceilings, at most, earlier, sum; four numbers of memory as a vector.
 // One function each for every number of objectives.
+#![tactic(auto)]
+
 ghost use Rattle.std.specs.Prelude.{◌≡◌, ◌+◌, ◌≤◌, length, take, drop};
 ghost use Rattle.model.specs.Basics.{All};
 ghost use Rattle.model.specs.Limits.{max_objectives};

@@ -6,43 +6,43 @@ use Rattle.vectors.proofs.Matching.{Matching, matching_start, matching_more, mat
 use Rattle.vectors.proofs.is_at_most.Statement.{statement}
 use Rattle.vectors.proofs.is_at_most.Tie as tie
 
-abbrev invariant-loop : tie.invariant-loop
+abbrev invariant-loop : tie.invariant-loop-i
 invariant-loop a b p i₀ i = Matching p a b i
 
-abbrev decreases-loop : tie.decreases-loop
+abbrev decreases-loop : tie.decreases-loop-i
 decreases-loop a b p i₀ i = p - i
 
-returns : tie.Need-returns invariant-loop decreases-loop
+returns : tie.Need-returns-then-a-i invariant-loop decreases-loop
 returns c =
     let w = c.before.before.before.before in
     let s = w.before in
-    matching_more w.loop.invariant s.requires.0 s.requires.1 (omega arith) c.if1.true
+    matching_more w.loop-i.invariant s.requires.0 s.requires.1 (omega arith) c.if-a-i.true
 
-loop-again : tie.Need-loop-preserved invariant-loop decreases-loop
+loop-again : tie.Need-loop-i-preserved invariant-loop decreases-loop
 loop-again c =
     let w = c.before.before.before.before in
     let s = w.before in
-    matching_next w.loop.invariant s.requires.0 s.requires.1 (omega arith) c.if1.false
+    matching_next w.loop-i.invariant s.requires.0 s.requires.1 (omega arith) c.if-a-i.false
 
-returns-2 : tie.Need-returns-2 invariant-loop decreases-loop
+returns-2 : tie.Need-returns invariant-loop decreases-loop
 returns-2 c =
     let w = c.before in
     let s = w.before in
-    matching_end w.loop.invariant s.requires.0 s.requires.1 (omega arith)
+    matching_end w.loop-i.invariant s.requires.0 s.requires.1 (omega arith)
 
-pub is-at-most-spec : {M : Type 1} → statement M
-is-at-most-spec =
+pub is_at_most_spec : {M : Type 1} → statement M
+is_at_most_spec =
     tie.close
     (tie.spec
     invariant-loop
     decreases-loop
-    (λ c. matching_start _ _ _)  -- loop-holds
-    (λ c. search rules)  -- mul-if1
-    (λ c. search rules)  -- shared-slice-read-if1
-    (λ c. search rules)  -- mul-if1-2
-    (λ c. search rules)  -- shared-slice-read-if1-2
+    (λ c. matching_start _ _ _)  -- loop-i-init
+    (λ c. search rules)  -- offset_bounds-a-i
+    (λ c. search rules)  -- bounds-a-i
+    (λ c. search rules)  -- offset_bounds-b-i
+    (λ c. search rules)  -- bounds-b-i
     returns
-    (λ c. search rules)  -- add-i
-    (λ c. search rules)  -- loop-less
+    (λ c. search rules)  -- overflow_add-i
+    (λ c. search rules)  -- loop-i-smaller
     loop-again
     returns-2)

@@ -10,43 +10,43 @@ use Rattle.vectors.proofs.Walking.{Walked, walked_start, walked_above, walked_wi
 use Rattle.vectors.proofs.is_rest_at_most.Statement.{statement}
 use Rattle.vectors.proofs.is_rest_at_most.Tie as tie
 
-abbrev invariant-loop : tie.invariant-loop
+abbrev invariant-loop : tie.invariant-loop-j
 invariant-loop a b i p j₀ j = Walked (at_most (drop i (take p a)) (drop i (take p b))) p a b j false
 
-abbrev decreases-loop : tie.decreases-loop
+abbrev decreases-loop : tie.decreases-loop-j
 decreases-loop a b i p j₀ j = p - j
 
-returns : tie.Need-returns invariant-loop decreases-loop
+returns : tie.Need-returns-then-a-j invariant-loop decreases-loop
 returns c =
     let w = c.before.before.before.before in
     let s = w.before in
-    sym (walked_above w.loop.invariant s.requires.1 s.requires.2 (omega arith) c.if1.true)
+    sym (walked_above w.loop-j.invariant s.requires.1 s.requires.2 (omega arith) c.if-a-j.true)
 
-loop-again : tie.Need-loop-preserved invariant-loop decreases-loop
+loop-again : tie.Need-loop-j-preserved invariant-loop decreases-loop
 loop-again c =
     let w = c.before.before.before.before in
     let s = w.before in
-    walked_within w.loop.invariant s.requires.1 s.requires.2 (omega arith) c.if1.false
+    walked_within w.loop-j.invariant s.requires.1 s.requires.2 (omega arith) c.if-a-j.false
 
-returns-2 : tie.Need-returns-2 invariant-loop decreases-loop
+returns-2 : tie.Need-returns invariant-loop decreases-loop
 returns-2 c =
     let w = c.before in
     let s = w.before in
-    sym (walked_end w.loop.invariant s.requires.1 s.requires.2 (omega arith))
+    sym (walked_end w.loop-j.invariant s.requires.1 s.requires.2 (omega arith))
 
-pub is-rest-at-most-spec : {M : Type 1} → statement M
-is-rest-at-most-spec =
+pub is_rest_at_most_spec : {M : Type 1} → statement M
+is_rest_at_most_spec =
     tie.close
     (tie.spec
     invariant-loop
     decreases-loop
-    (λ c. walked_start _ _ _ _ c.requires.0)  -- loop-holds
-    (λ c. search rules)  -- mul-if1
-    (λ c. search rules)  -- shared-slice-read-if1
-    (λ c. search rules)  -- mul-if1-2
-    (λ c. search rules)  -- shared-slice-read-if1-2
+    (λ c. walked_start _ _ _ _ c.requires.0)  -- loop-j-init
+    (λ c. search rules)  -- offset_bounds-a-j
+    (λ c. search rules)  -- bounds-a-j
+    (λ c. search rules)  -- offset_bounds-b-j
+    (λ c. search rules)  -- bounds-b-j
     returns
-    (λ c. search rules)  -- add-j
-    (λ c. search rules)  -- loop-less
+    (λ c. search rules)  -- overflow_add-j
+    (λ c. search rules)  -- loop-j-smaller
     loop-again
     returns-2)

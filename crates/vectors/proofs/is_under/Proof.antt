@@ -15,74 +15,74 @@ use Rattle.vectors.proofs.Fronts.{array_front}
 use Rattle.vectors.proofs.is_under.Statement.{statement}
 use Rattle.vectors.proofs.is_under.Tie as tie
 
-abbrev invariant-loop : tie.invariant-loop
+abbrev invariant-loop : tie.invariant-loop-i
 invariant-loop p a b i₀ i = (i ≤ p) × (front_under p a b ≡ under (drop i (take p a)) (drop i (take p b)))
 
-abbrev decreases-loop : tie.decreases-loop
+abbrev decreases-loop : tie.decreases-loop-i
 decreases-loop p a b i₀ i = p - i
 
 -- what is left of either vector from i on
 module _ (s : tie.Start invariant-loop decreases-loop) (i : ℕ) (h : i < s.args.p) where
   left_a :
-      drop i (take s.args.p s.args.t1) ≡ get_or s.args.t1 i 0 ∷ drop (i + 1) (take s.args.p s.args.t1)
+      drop i (take s.args.p s.args.a) ≡ get_or s.args.a i 0 ∷ drop (i + 1) (take s.args.p s.args.a)
   left_a =
-      front_cons 0 s.args.p s.args.t1
-      (array_front w64 max_objectives s.args.t1 _ s.well-formed.0 s.args.p s.requires) i h
+      front_cons 0 s.args.p s.args.a
+      (array_front w64 max_objectives s.args.a _ s.well_formed.0 s.args.p s.requires) i h
 
   left_b :
-      drop i (take s.args.p s.args.t2) ≡ get_or s.args.t2 i 0 ∷ drop (i + 1) (take s.args.p s.args.t2)
+      drop i (take s.args.p s.args.ceilings) ≡ get_or s.args.ceilings i 0 ∷ drop (i + 1) (take s.args.p s.args.ceilings)
   left_b =
-      front_cons 0 s.args.p s.args.t2
-      (array_front w64 max_objectives s.args.t2 _ s.good.1.0 s.args.p s.pre) i h
+      front_cons 0 s.args.p s.args.ceilings
+      (array_front w64 max_objectives s.args.ceilings _ s.well_formed.1.0 s.args.p s.requires) i h
 
-returns : tie.Need-returns invariant-loop decreases-loop
+returns : tie.Need-returns-then-a-i invariant-loop decreases-loop
 unfolding under
 returns c =
     let s = c.before.before.before in
-    let i = c.before.before.loop.i in
-    sym (c.before.before.loop.invariant.1
+    let i = c.before.before.loop-i.i in
+    sym (c.before.before.loop-i.invariant.1
     ∙ rw (
       left_a s i (omega arith),
       left_b s i (omega arith),
-      le-ltb (get_or s.args.t1 i 0) (get_or s.args.t2 i 0) c.if1.true,
+      le-ltb (get_or s.args.a i 0) (get_or s.args.ceilings i 0) c.if-a-i.true,
     ))
 
-loop-again : tie.Need-loop-preserved invariant-loop decreases-loop
+loop-again : tie.Need-loop-i-preserved invariant-loop decreases-loop
 unfolding under
 loop-again c =
     let s = c.before.before.before in
-    let i = c.before.before.loop.i in (
+    let i = c.before.before.loop-i.i in (
       omega arith,
-      c.before.before.loop.invariant.1
+      c.before.before.loop-i.invariant.1
           ∙ rw (
             left_a s i (omega arith),
             left_b s i (omega arith),
-            lt-ltb (get_or s.args.t1 i 0) (get_or s.args.t2 i 0) c.if1.false,
+            lt-ltb (get_or s.args.a i 0) (get_or s.args.ceilings i 0) c.if-a-i.false,
           ),
     )
 
-returns-2 : tie.Need-returns-2 invariant-loop decreases-loop
+returns-2 : tie.Need-returns invariant-loop decreases-loop
 unfolding under
 returns-2 c =
     let s = c.before.before in
-    let i = c.before.loop.i in
-    sym (c.before.loop.invariant.1
-    ∙ rw (front_end s.args.p s.args.t1
-    (array_front w64 max_objectives s.args.t1 _ s.well-formed.0 s.args.p s.requires) i (omega arith)))
+    let i = c.before.loop-i.i in
+    sym (c.before.loop-i.invariant.1
+    ∙ rw (front_end s.args.p s.args.a
+    (array_front w64 max_objectives s.args.a _ s.well_formed.0 s.args.p s.requires) i (omega arith)))
 
-pub is-under-spec : {M : Type 1} → statement M
-is-under-spec =
+pub is_under_spec : {M : Type 1} → statement M
+is_under_spec =
     tie.close
     (tie.spec
     invariant-loop
     decreases-loop
-    (λ c. (omega arith, refl))  -- loop-holds
-    (λ c. search rules)  -- mul-if1
-    (λ c. search rules)  -- array-read-if1
-    (λ c. search rules)  -- mul-if1-2
-    (λ c. search rules)  -- array-read-if1-2
+    (λ c. (omega arith, refl))  -- loop-i-init
+    (λ c. search rules)  -- offset_bounds-a-i
+    (λ c. search rules)  -- bounds-a-i
+    (λ c. search rules)  -- offset_bounds-ceilings-i
+    (λ c. search rules)  -- bounds-ceilings-i
     returns
-    (λ c. search rules)  -- add-i
-    (λ c. search rules)  -- loop-less
+    (λ c. search rules)  -- overflow_add-i
+    (λ c. search rules)  -- loop-i-smaller
     loop-again
     returns-2)
