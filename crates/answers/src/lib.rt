@@ -1,6 +1,7 @@
 // What the calls that list the frontier answer, before a search and behind it: refusals, the room, the list copied out
 // of work memory, and the answers, for C too.
 #![tactic(auto)]
+
 ghost use Rattle.std.specs.Prelude.{◌≡◌, ◌≤◌, eqb, length, replicate};
 ghost use Rattle.model.specs.Basics.{pick};
 ghost use Rattle.model.specs.Limits.{max_bytes, max_points};
@@ -37,7 +38,7 @@ pub fn early_refusal(g: problem::Reading, memory: usize) -> problem::Refusal
 }
 
 // What a call that lists the frontier answers: a refusal's number and place, or 0 and 0 and the count of points.
-#[derive(Drop)]
+#[derive(Clone, Copy)]
 pub struct Answer {
     pub number: u8,
     pub place: u32,
@@ -122,7 +123,7 @@ pub fn tell(answer: Answer, place: &mut u32, count: &mut u32) -> u8
 
 // A list in work memory: a refusal's number and place, or 0 and 0, the count of points,
 // and how many costs and choices each has.
-#[derive(Drop)]
+#[derive(Clone, Copy)]
 pub struct Listed {
     pub number: u8,
     pub place: u32,
@@ -214,7 +215,7 @@ pub fn cut_refusal(
 }
 
 // What the cut finds: whether a list is longer than its room, and else how many points it has and how many each half.
-#[derive(Drop)]
+#[derive(Clone, Copy)]
 pub struct Lists {
     pub full: bool,
     pub count: usize,
@@ -235,7 +236,7 @@ pub fn no_lists() -> Lists
 
 // What the cut call answers: a refusal's number and place,
 // or 0 and 0 with the count of points and how many each half has.
-#[derive(Drop)]
+#[derive(Clone, Copy)]
 pub struct Halves {
     pub number: u8,
     pub place: u32,

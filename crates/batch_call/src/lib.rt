@@ -1,5 +1,6 @@
 // The batch call: from a batch of problems to what single calls in turn give, each on its areas; or a refusal.
 #![tactic(auto)]
+
 ghost use Rattle.batch_frames.specs.Batches.{batch_of};
 ghost use Rattle.batch_frames.specs.Outcomes.{in_turn, batch_outcome};
 ghost use Rattle.batch_frames.specs.Statements.{Taken};

@@ -1,6 +1,7 @@
 // The frames and areas of a batch of problems, and what the batch call answers: definitions and theorems; reading the
 // frames, and what is refused before any solving.
 #![tactic(auto)]
+
 ghost use Rattle.std.specs.Prelude.{◌≡◌, [], ◌∷◌, ◌+◌, ◌*◌, ◌≤◌, ◌<◌, length};
 ghost use Rattle.batch_frames.specs.Batches.{max_batch};
 ghost use Rattle.batch_frames.specs.Outcomes.{result_area, areas_ok};
@@ -23,7 +24,7 @@ const RESULT_AREA: usize = 3;
 const LEAST_WORK: usize = 8192;
 
 // What starts with a frame: whether the frame is whole, and then how many bytes its problem has.
-#[derive(Drop)]
+#[derive(Clone, Copy)]
 pub struct Frame {
     pub whole: bool,
     pub size: usize,
@@ -54,7 +55,7 @@ pub fn frame_of(s: &[u8]) -> Frame
 }
 
 // Whether frames make up all of a batch, 16 at most, and then how many.
-#[derive(Drop)]
+#[derive(Clone, Copy)]
 pub struct Frames {
     pub whole: bool,
     pub count: usize,
@@ -98,7 +99,7 @@ fn areas_fit(count: usize, costs: usize, choices: usize, results: usize) -> bool
 }
 
 // What is refused of a whole batch: 21 or 12; else 0, and how many problems it has.
-#[derive(Drop)]
+#[derive(Clone, Copy)]
 pub struct Judged {
     pub number: u8,
     pub count: usize,

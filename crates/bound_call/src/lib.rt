@@ -1,10 +1,11 @@
 // From the bytes of a problem and a prefix to the bound in each objective; or a refusal.
 #![tactic(auto)]
+
 ghost use Rattle.std.specs.Prelude.{◌≡◌};
 ghost use Rattle.bound_call.specs.Says.{BoundSays};
 
 // What the bound call answers: a refusal's number and place, or 0 and 0 with the bound in each objective.
-#[derive(Drop)]
+#[derive(Clone, Copy)]
 pub struct Least {
     pub number: u8,
     pub place: u32,

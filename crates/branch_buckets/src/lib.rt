@@ -1,6 +1,7 @@
 // Buckets of the second form of the search: what the records and messages of a position hold for each of its variable's
 // values, and what it sends.
 #![tactic(auto)]
+
 ghost use Rattle.std.specs.Prelude.{◌≡◌, true, ℕ, ◌+◌, ◌*◌, ◌<◌, ◌≤◌, length, get_or, take, drop, set, ltb};
 ghost use Rattle.model.specs.Basics.{All, when};
 ghost use Rattle.model.specs.Limits.{max_tables, max_variables, max_domain, max_objectives};
@@ -21,7 +22,7 @@ ghost use Rattle.branch_buckets.specs.Adding.{Blank};
 ghost use Rattle.branch_buckets.specs.Adding.{Totalled, Small, four_sum, Directed};
 
 // A number that grows evenly with a variable's value: `first` at value 0, and `stride` more at each next one.
-#[derive(Drop)]
+#[derive(Clone, Copy)]
 pub struct Progression {
     pub first: usize,
     pub stride: usize,
@@ -29,7 +30,7 @@ pub struct Progression {
 
 // A part of a bucket, or the whole: the records from number `from` to below `to`, and the messages in slots `first` to
 // below `last`.
-#[derive(Drop)]
+#[derive(Clone, Copy)]
 pub struct Span {
     pub from: usize,
     pub to: usize,
@@ -38,7 +39,7 @@ pub struct Span {
 }
 
 // What a value costs in each of four objectives.
-#[derive(Drop)]
+#[derive(Clone, Copy)]
 struct Totals {
     one: u64,
     two: u64,

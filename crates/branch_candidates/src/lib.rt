@@ -2,6 +2,7 @@
 // all that extend it. A list of them is so many bytes that the caller lends: the numbers of rows, and in the last byte
 // how many there are.
 #![tactic(auto)]
+
 ghost use Rattle.std.specs.Prelude.{◌≡◌, ◌≤◌, length};
 ghost use Rattle.branch_candidates.specs.Sifted.{max_rows, list_width, Sifted};
 

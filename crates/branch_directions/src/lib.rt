@@ -1,5 +1,6 @@
 // Directions of the second form of the search: the objectives and weighted sums of them, and a vector in all of them.
 #![tactic(auto)]
+
 ghost use Rattle.std.specs.Prelude.{◌≡◌, ℕ, ◌*◌, ◌<◌, ◌≤◌, get_or, take, drop};
 ghost use Rattle.model.specs.Basics.{All};
 ghost use Rattle.model.specs.Limits.{max_objectives};
@@ -25,7 +26,7 @@ const MAX_SHARE: u64 = 65536;
 const MAX_RANGE: u64 = 1099511627776;
 
 // So many objectives, so many sums, and four weights for each sum. The first sum leads.
-#[derive(Drop)]
+#[derive(Clone, Copy)]
 pub struct Directions {
     pub objectives: usize,
     pub sums: usize,
@@ -34,7 +35,7 @@ pub struct Directions {
 
 // What the weights of up to four sums are made from, four numbers in a row: the share of each objective in each sum,
 // and the range that it is divided by. There are `count` sums.
-#[derive(Drop)]
+#[derive(Clone, Copy)]
 pub struct Sums {
     pub shares: [u64; 16],
     pub ranges: [u64; 16],

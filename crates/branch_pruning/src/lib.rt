@@ -1,6 +1,7 @@
 // The tests by which the second form of the search leaves a partial choice: by the limit, by the zones, and by archived
 // points that could be replaced.
 #![tactic(auto)]
+
 ghost use Rattle.std.specs.Prelude.{◌≡◌, false, ℕ, ◌+◌, ◌<◌, ◌≤◌, length, take, drop};
 ghost use Rattle.model.specs.Basics.{All};
 ghost use Rattle.model.specs.Limits.{max_variables, max_points};
@@ -18,7 +19,7 @@ const FEW: usize = 16;
 // How many points and zones there are, and the limit: only vectors with a smaller leading sum are sought. Of partial
 // choices `left` may still be opened; at 0 the pass is given up, and `done` says how far it came. Nothing relies on it.
 // Of complete choices `meets` may still be met: while that stays, so do points and zones.
-#[derive(Drop)]
+#[derive(Clone, Copy)]
 pub struct Progress {
     pub points: usize,
     pub zones: usize,

@@ -1,5 +1,6 @@
 // The second form of the search: passes of branch and bound over a plan, into an archive, until one leaves nothing out.
 #![tactic(auto)]
+
 ghost use Rattle.std.specs.Prelude.{◌≡◌, ℕ, ◌+◌, ◌<◌, ◌≤◌, List, length};
 ghost use Rattle.model.specs.Basics.{All};
 ghost use Rattle.model.specs.Limits.{max_variables, max_domain, max_points};
@@ -30,7 +31,7 @@ const MAX_MEETS: u64 = 9223372036854775808;
 const WHOLE: u64 = 1099511627776;
 
 // What a search goes on from: how many points are archived, and how many partial choices it may open.
-#[derive(Drop)]
+#[derive(Clone, Copy)]
 pub struct Resume {
     pub points: usize,
     pub budget: u64,
@@ -38,7 +39,7 @@ pub struct Resume {
 
 // What a search took, for those who choose the next plan or measure: how many partial choices may still be opened, how
 // far the last pass came where there are none, and how many passes there were.
-#[derive(Drop)]
+#[derive(Clone, Copy)]
 pub struct Effort {
     pub left: u64,
     pub done: u64,
@@ -47,7 +48,7 @@ pub struct Effort {
 
 // Whether the search came to an end, whether the list is longer than the room, and else how many points it has; those
 // of the archive where it was given up.
-#[derive(Drop)]
+#[derive(Clone, Copy)]
 pub struct Explored {
     pub decided: bool,
     pub full: bool,
@@ -56,14 +57,14 @@ pub struct Explored {
 }
 
 // What is searched, and in which directions.
-#[derive(Drop)]
+#[derive(Clone, Copy)]
 pub struct Aim {
     pub task: groups::Task,
     pub d: branch_directions::Directions,
 }
 
 // A partial choice: values for the variables at the first `depth` positions, and its bound in every direction.
-#[derive(Drop)]
+#[derive(Clone, Copy)]
 pub struct Node {
     pub depth: usize,
     pub choice: [u8; 24],

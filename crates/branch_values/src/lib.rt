@@ -1,5 +1,6 @@
 // The bounds of a partial choice with each value of its next variable, by a plan, and the value to try next.
 #![tactic(auto)]
+
 ghost use Rattle.std.specs.Prelude.{◌≡◌, true, ℕ, ◌<◌, ◌≤◌, length, get_or, replicate};
 ghost use Rattle.model.specs.Limits.{max_domain};
 ghost use Rattle.model.specs.Costs.{is_choice};

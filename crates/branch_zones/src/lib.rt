@@ -1,6 +1,7 @@
 // Zones of the second form of the search: upper corners under which new vectors may lie,
 // in rows of memory of their own.
 #![tactic(auto)]
+
 ghost use Rattle.std.specs.Prelude.{◌≡◌, true, false, ℕ, ◌+◌, ◌-◌, ◌<◌, ◌≤◌, length, get_or, take, drop};
 ghost use Rattle.model.specs.Basics.{All};
 ghost use Rattle.model.specs.Limits.{max_objectives};
@@ -20,7 +21,7 @@ pub const MAX_ZONES: usize = 128;
 pub const ZONE_WIDTH: usize = 8;
 
 // So many zones, and the next row to write: that of a zone which is gone, or the one behind them all.
-#[derive(Drop)]
+#[derive(Clone, Copy)]
 pub struct Places {
     pub count: usize,
     pub free: usize,

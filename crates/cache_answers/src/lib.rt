@@ -1,10 +1,11 @@
 // A store of solved problems, what the cached call answers, and runs of calls: definitions and theorems.
 #![tactic(auto)]
+
 ghost use Rattle.std.specs.Prelude.{◌≡◌};
 ghost use Rattle.model.specs.Basics.{when};
 
 // A refusal's number and place, or 0 and 0 and the count of points; and whether the store held the answer.
-#[derive(Drop)]
+#[derive(Clone, Copy)]
 pub struct Cached {
     pub number: u8,
     pub place: u32,

@@ -1,5 +1,6 @@
 // The cached call: from bytes to the frontier list that the store holds, or that is found and stored; or a refusal.
 #![tactic(auto)]
+
 ghost use Rattle.std.specs.Prelude.{◌≤◌, ◌<◌, ◌≡◌, length};
 ghost use Rattle.model.specs.Calls.{over};
 ghost use Rattle.cache_answers.specs.Stores.{slots_in};

@@ -1,5 +1,6 @@
 // A store of solved problems in lent memory: which slot holds a form, loading its answer, and saving one.
 #![tactic(auto)]
+
 ghost use Rattle.std.specs.Prelude.{◌≡◌, length, take, drop};
 ghost use Prim.Native.Nat.{◌+◌, ◌*◌, ◌/◌, ◌≤◌, ◌<◌};
 ghost use Rattle.model.specs.Limits.{max_points};

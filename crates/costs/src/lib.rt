@@ -1,5 +1,6 @@
 // Entries of tables and bounds of prefixes, over the accepted records of a problem.
 #![tactic(auto)]
+
 ghost use Rattle.std.specs.Prelude.{◌≡◌, true, length, drop};
 ghost use Prim.Native.Nat.{ℕ, ◌+◌, ◌-◌, ◌*◌, ◌<◌, ◌≤◌};
 ghost use Rattle.model.specs.Basics.{All};
@@ -102,7 +103,7 @@ pub fn least_row(s: &[u8], at: usize, first: usize, count: usize, sizes: &[u8]) 
 
 // Runs of entries in even steps: `rows` of them, of `count` entries each, `stride` apart, the first from entry `first`
 // on.
-#[derive(Drop)]
+#[derive(Clone, Copy)]
 pub struct Runs {
     pub first: usize,
     pub count: usize,

@@ -1,5 +1,6 @@
 // From the bytes of a problem and a side list to the frontier list by the cut, in the flat buffers; or a refusal.
 #![tactic(auto)]
+
 ghost use Rattle.model.specs.Calls.{cut_outcome};
 ghost use Rattle.answers.specs.Cuts.{CutSays};
 

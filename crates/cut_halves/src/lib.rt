@@ -1,5 +1,6 @@
 // The cut call's list: the lists of the two halves, each by a search, and the passes over the sums of their points.
 #![tactic(auto)]
+
 ghost use Rattle.std.specs.Prelude.{◌≡◌, true, ◌≤◌, length, take};
 ghost use Rattle.model.specs.Limits.{max_points, work_need};
 ghost use Rattle.model.specs.Reading.{problem_of};

@@ -1,6 +1,7 @@
 // Passes in list order over the sums of two lists' points in work memory. A half's choice has 0 for the other half's
 // variables, so merging is adding.
 #![tactic(auto)]
+
 ghost use Rattle.std.specs.Prelude.{◌≡◌, true, [], ◌+◌, ◌<◌, ◌≤◌, length, take};
 ghost use Rattle.model.specs.Basics.{All, keep_if};
 ghost use Rattle.model.specs.Limits.{max_objectives, max_variables, max_points};

@@ -1,5 +1,6 @@
 // From the bytes of a problem to its canonical form and its key; or a refusal.
 #![tactic(auto)]
+
 ghost use Rattle.std.specs.Prelude.{◌≡◌, ◌+◌, ◌≤◌, length};
 ghost use Rattle.model.specs.Calls.{over};
 ghost use Rattle.form_canonical.specs.Canonical.{canonical_bytes, canonical_outcome};

@@ -1,9 +1,10 @@
 // The canonical form of a problem: its definitions and the theorems about them; what the call for it answers.
 #![tactic(auto)]
+
 ghost use Rattle.std.specs.Prelude.{◌≡◌};
 
 // A refusal's number and place, or 0 and 0, how many bytes the form has, and its key.
-#[derive(Drop)]
+#[derive(Clone, Copy)]
 pub struct Canonical {
     pub number: u8,
     pub place: u32,

@@ -1,5 +1,6 @@
 // FNV-1a with 64 bits: the key of some bytes.
 #![tactic(auto)]
+
 ghost use Rattle.std.specs.Prelude.{◌≡◌, ◌*◌, ◌%◌, ◌^◌};
 ghost use Rattle.std.specs.Int.Bits.{bit_xor};
 ghost use Rattle.form_keys.specs.Keys.{key_from, key_prime, key_start};

@@ -1,5 +1,6 @@
 // The public calls, and their exports for C; the version.
 #![tactic(auto)]
+
 ghost use Rattle.std.specs.Prelude.{◌≡◌};
 ghost use Rattle.model.specs.Basics.{when};
 ghost use Rattle.model.specs.Calls.{solve_outcome, list_outcome, cut_outcome, bound_outcome};

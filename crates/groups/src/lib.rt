@@ -1,5 +1,6 @@
 // Records grouped by variable in work memory, so that a value looks only at the records that its variable touches.
 #![tactic(auto)]
+
 ghost use Rattle.std.specs.Prelude.{◌≡◌, ◌⊎◌, true, ◌++◌, ◌+◌, ◌-◌, ◌<◌, ◌≤◌, length, take, drop};
 ghost use Rattle.model.specs.Basics.{All};
 ghost use Rattle.model.specs.Limits.{max_tables, max_objectives};
@@ -12,7 +13,7 @@ ghost use Rattle.groups.specs.Groups.{group_of, tables_over, places_in, Placed, 
 
 // What is searched: so many records placed in work memory, so many objectives, their ceilings, and how many points
 // there is room for.
-#[derive(Drop)]
+#[derive(Clone, Copy)]
 pub struct Task {
     pub records: usize,
     pub objectives: usize,

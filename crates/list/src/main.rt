@@ -1,5 +1,6 @@
 // The list program: reads a problem from standard input and prints its frontier list, or why it is refused.
 #![tactic(auto)]
+
 use libc::{STDIN_FILENO, STDOUT_FILENO};
 
 fn wide_cost(x: u32) -> u64 {

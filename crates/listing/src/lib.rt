@@ -1,5 +1,6 @@
 // Finds a frontier list, of a problem or of a half: its records are placed in work memory and searched.
 #![tactic(auto)]
+
 ghost use Rattle.std.specs.Prelude.{◌≡◌, ◌≤◌, true, false, length, take};
 ghost use Rattle.model.specs.Basics.{All};
 ghost use Rattle.model.specs.Limits.{max_points};
@@ -17,7 +18,7 @@ ghost use Rattle.listing.specs.Says.{Searchable, Plannable, Kept, PlanSays, Expl
 const TURNS: usize = 5;
 
 // The kind of plan that came furthest, and how far.
-#[derive(Drop)]
+#[derive(Clone, Copy)]
 struct Best {
     kind: usize,
     done: u64,
@@ -26,7 +27,7 @@ struct Best {
 // What a search of the second form took, for those who measure: how many plans were made, how many of them failed their
 // test, how many passes were made by the others, and how many partial choices these opened. Whether the first form
 // answered, after it or alone. Nothing relies on it.
-#[derive(Drop)]
+#[derive(Clone, Copy)]
 pub struct Measures {
     pub plans: u64,
     pub failed: u64,
@@ -36,14 +37,14 @@ pub struct Measures {
 }
 
 // What the turns of a search found, and what they took.
-#[derive(Drop)]
+#[derive(Clone, Copy)]
 pub struct Taken {
     pub explored: branch_search::Explored,
     pub measures: Measures,
 }
 
 // What a search found, and what it took.
-#[derive(Drop)]
+#[derive(Clone, Copy)]
 pub struct Searched {
     pub found: pass_list::Found,
     pub measures: Measures,

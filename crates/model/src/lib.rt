@@ -17,7 +17,7 @@ fn from_one(limit: u8, x: u8) -> bool
 }
 
 // The header of a problem: n, p, r, and a ceiling for each objective.
-#[derive(Drop)]
+#[derive(Clone, Copy)]
 pub struct Header {
     pub variables: u8,
     pub objectives: u8,
@@ -60,7 +60,7 @@ impl Header {
 }
 
 // A variable's domain: the values 0 to size - 1.
-#[derive(Drop)]
+#[derive(Clone, Copy)]
 pub struct Domain {
     pub size: u8,
 }
@@ -76,7 +76,7 @@ impl Domain {
 }
 
 // A cost record: its objective, its arity, where it starts and how many bytes it has.
-#[derive(Drop)]
+#[derive(Clone, Copy)]
 pub struct CostRecord {
     pub objective: u8,
     pub arity: u8,
@@ -96,7 +96,7 @@ impl CostRecord {
 
 // A point of the frontier as a record: four costs and 24 choices, the unused ones zero.
 #[repr(C)]
-#[derive(Drop)]
+#[derive(Clone, Copy)]
 pub struct Point {
     pub costs: [u32; 4],
     pub choice: [u8; 24],

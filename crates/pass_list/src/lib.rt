@@ -1,5 +1,6 @@
 // The first form of the search: passes in list order, each of which adds the next point to the list in work memory.
 #![tactic(auto)]
+
 ghost use Rattle.std.specs.Prelude.{◌≡◌, ◌≤◌};
 ghost use Rattle.model.specs.Limits.{max_points};
 ghost use Rattle.model.specs.Suffixes.{Gains};
@@ -8,7 +9,7 @@ ghost use Rattle.groups.specs.Sources.{Source, source_problem};
 ghost use Rattle.pass_list.specs.Says.{CoreFound};
 
 // Whether the list is longer than the room, and else how many points it has.
-#[derive(Drop)]
+#[derive(Clone, Copy)]
 pub struct Found {
     pub full: bool,
     pub count: usize,

@@ -1,5 +1,6 @@
 // One pass in list order: a branch and bound over the tree of partial choices finds the next point.
 #![tactic(auto)]
+
 ghost use Rattle.std.specs.Prelude.{◌≡◌, ◌++◌, ◌∷◌, [], ◌+◌, ◌<◌, ◌≤◌, length, get_or, take};
 ghost use Rattle.model.specs.Basics.{All};
 ghost use Rattle.model.specs.Limits.{max_objectives, max_variables, max_points};
@@ -13,7 +14,7 @@ ghost use Rattle.pass_search.specs.States.{held_of, problem_in, listed_in, prefi
 ghost use Rattle.pass_search.specs.States.{Setting, Stands, Branching, rest_of, opens_from, tries_from};
 
 // A partial choice: values of the first `len` variables, and the bound of that prefix.
-#[derive(Drop)]
+#[derive(Clone, Copy)]
 pub struct Partial {
     pub len: usize,
     pub values: [u8; 24],
@@ -22,7 +23,7 @@ pub struct Partial {
 
 // The values of the next variable from `value` on are to be tried; `rest` is what the records that it does not touch
 // add to the bound.
-#[derive(Drop)]
+#[derive(Clone, Copy)]
 pub struct Branch {
     pub partial: Partial,
     pub rest: [u64; 4],
@@ -30,7 +31,7 @@ pub struct Branch {
 }
 
 // The least point that a pass has met so far, if any.
-#[derive(Drop)]
+#[derive(Clone, Copy)]
 pub struct Best {
     pub found: bool,
     pub costs: [u64; 4],

@@ -1,6 +1,7 @@
 // The problems of the last variables, each in one objective: what their least costs add to the bound of a prefix,
 // in work memory.
 #![tactic(auto)]
+
 ghost use Rattle.std.specs.Prelude.{◌≡◌, ◌++◌, ◌∷◌, [], ◌+◌, ◌-◌, ◌<◌, ◌≤◌, length, get_or, take, drop, replicate};
 ghost use Rattle.model.specs.Basics.{pick};
 ghost use Rattle.model.specs.Limits.{max_objectives, max_variables};

@@ -2,6 +2,7 @@
 // one plans with this sum alone, follows its least values to a choice, and gives more to the objectives that this
 // choice costs too much in. Nothing is promised of it but that no record is lost.
 #![tactic(auto)]
+
 ghost use Rattle.std.specs.Prelude.{◌≤◌, ◌<◌, length};
 ghost use Rattle.model.specs.Limits.{max_objectives, max_domain};
 ghost use Rattle.layout.specs.Places.{numbers_at};
@@ -33,7 +34,7 @@ const MOST_FAR: u64 = 1125899906842624;
 const NO_SHORT: u64 = 18446744073709551615;
 
 // Records and slots whose content is asked for, and the variable for each of whose values.
-#[derive(Drop)]
+#[derive(Clone, Copy)]
 struct Asked {
     span: branch_buckets::Span,
     own: usize,
@@ -41,7 +42,7 @@ struct Asked {
 
 // What the rounds keep: the shares to try, the best so far with what its bound falls short by, and how much shares
 // change.
-#[derive(Drop)]
+#[derive(Clone, Copy)]
 struct Trial {
     shares: [u64; 4],
     best: [u64; 4],

@@ -1,6 +1,7 @@
 // Makes a plan: the search order, the records by position, and the messages. Nothing is promised of it but that no
 // record and no message is lost: crate plan_test tests it.
 #![tactic(auto)]
+
 ghost use Rattle.std.specs.Prelude.{◌≡◌, ◌≤◌, ◌<◌, length, take, drop};
 ghost use Rattle.model.specs.Basics.{All};
 ghost use Rattle.model.specs.Limits.{max_variables, max_tables};
@@ -13,7 +14,7 @@ ghost use Rattle.branch_directions.specs.Directions.{Sensible};
 ghost use Rattle.plan_memory.specs.Arranged.{Loose, Arranged};
 
 // How a plan is made: its kind says which order it has, and where it is wide, parts may have three positions.
-#[derive(Drop)]
+#[derive(Clone, Copy)]
 pub struct Making {
     pub kind: usize,
     pub wide: bool,
@@ -24,7 +25,7 @@ const MOST_SHARES: usize = 2;
 
 // How far the plan is made: records and slots that have a part, messages sent, where the next numbers go, and what is
 // left of the bucket's content for each value.
-#[derive(Drop)]
+#[derive(Clone, Copy)]
 struct Made {
     records: usize,
     slots: usize,
@@ -34,7 +35,7 @@ struct Made {
 }
 
 // A bucket: its position, whether its parts may have three positions, and its records and slots.
-#[derive(Drop)]
+#[derive(Clone, Copy)]
 struct Bucket {
     position: usize,
     wide: bool,
@@ -42,7 +43,7 @@ struct Bucket {
 }
 
 // A part of a bucket that is to be sent: over the positions of `set`, and whether it is the bucket's last one.
-#[derive(Drop)]
+#[derive(Clone, Copy)]
 struct Wanted {
     bucket: Bucket,
     set: u32,

@@ -1,6 +1,7 @@
 // Reads, writes and rearranges a plan that is being made, so that no record and no message is lost.
 // Every index is tested as it is used, and every number that is read is taken as it comes.
 #![tactic(auto)]
+
 ghost use Rattle.std.specs.Prelude.{◌≡◌, ◌≤◌, ◌<◌, length};
 ghost use Rattle.model.specs.Limits.{max_tables};
 ghost use Rattle.layout.specs.Places.{numbers_at, max_messages, children_at, loose_at};

@@ -1,6 +1,7 @@
 // The numbers of messages: the least that a part of a bucket holds, with its share of what all parts of the bucket have
 // at least, and what they leave of it.
 #![tactic(auto)]
+
 ghost use Rattle.std.specs.Prelude.{◌≤◌};
 ghost use Rattle.branch_buckets.specs.Content.{Planned};
 ghost use Rattle.plan_memory.specs.Arranged.{Loose};
@@ -13,7 +14,7 @@ const NO_SUM: u64 = 18446744073709551615;
 
 // A part of a bucket: the bucket's variable, the records and slots of the part, its message, and what the parts before
 // it left for each value of the variable.
-#[derive(Drop)]
+#[derive(Clone, Copy)]
 struct Part {
     own: usize,
     span: branch_buckets::Span,
@@ -23,7 +24,7 @@ struct Part {
 
 // The parts of a bucket whose messages are written but for their numbers: the bucket's variable, the records and slots
 // before the first of them, and their messages from `from` to below `to`.
-#[derive(Drop)]
+#[derive(Clone, Copy)]
 pub struct Laid {
     pub own: usize,
     pub before: branch_buckets::Span,
@@ -33,7 +34,7 @@ pub struct Laid {
 
 // How the parts of a bucket share what they have at least: whether they do, how many are still to get a share, what
 // is still to be shared, and what the parts before left.
-#[derive(Drop)]
+#[derive(Clone, Copy)]
 struct Sharing {
     is_shared: bool,
     senders: usize,

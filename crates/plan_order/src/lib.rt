@@ -1,6 +1,7 @@
 // The search order of a plan: from the last position on, the variable with the fewest links, or with the least fill; or
 // the variables' own order.
 #![tactic(auto)]
+
 ghost use Rattle.std.specs.Prelude.{◌≤◌, ◌<◌, length};
 ghost use Rattle.model.specs.Limits.{max_variables, word_end};
 ghost use Rattle.plan_memory.specs.Arranged.{Loose};

@@ -1,9 +1,10 @@
 // The parts of a bucket: sets of a few earlier positions that cover what its records and messages read.
 #![tactic(auto)]
+
 ghost use Rattle.std.specs.Prelude.{◌≤◌};
 
 // Parts of a bucket: so many sets of earlier positions, of at most `most` each; zeros behind them.
-#[derive(Drop)]
+#[derive(Clone, Copy)]
 pub struct Parts {
     pub most: u32,
     pub count: usize,

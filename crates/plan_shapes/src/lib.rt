@@ -1,5 +1,6 @@
 // Which variables a message has, as there is room, and where its numbers stand.
 #![tactic(auto)]
+
 ghost use Rattle.std.specs.Prelude.{◌≤◌, ◌<◌};
 ghost use Rattle.model.specs.Limits.{max_variables};
 ghost use Rattle.layout.specs.Places.{numbers_at};
@@ -13,14 +14,14 @@ pub const NO_VARIABLE: usize = 255;
 pub const MOST_ENTRIES: usize = 512;
 
 // A variable and how many values it has. A missing one has one value.
-#[derive(Drop)]
+#[derive(Clone, Copy)]
 pub struct Variable {
     pub number: usize,
     pub values: usize,
 }
 
 // The variables of a part, from its first position on.
-#[derive(Drop)]
+#[derive(Clone, Copy)]
 pub struct Scope {
     pub u: Variable,
     pub v: Variable,
@@ -29,7 +30,7 @@ pub struct Scope {
 
 // A message: the variables of its part, their strides (0 where it has no entries for a variable), how many entries
 // there are, over how many combinations of values an entry is the least, and where the numbers start.
-#[derive(Drop)]
+#[derive(Clone, Copy)]
 pub struct Shape {
     pub scope: Scope,
     pub strides: [usize; 3],

@@ -1,5 +1,6 @@
 // What is known of each objective's costs before the search: its tables' least and largest entries, added up.
 #![tactic(auto)]
+
 ghost use Rattle.std.specs.Prelude.{◌≡◌, ◌<◌, ◌≤◌, length, take};
 ghost use Rattle.model.specs.Basics.{All};
 ghost use Rattle.model.specs.Limits.{max_tables};
@@ -11,14 +12,14 @@ ghost use Rattle.plan_spreads.specs.LargestCosts.{largest_under, Reaches};
 ghost use Rattle.plan_spreads.specs.Ceilings.{FittedTo, Fitted};
 
 // For each objective the sum over its records of the least, and of the largest, entry below the ceiling.
-#[derive(Drop)]
+#[derive(Clone, Copy)]
 pub struct Extents {
     pub lows: [u64; 4],
     pub mosts: [u64; 4],
 }
 
 // The least and the largest entry of a record.
-#[derive(Drop)]
+#[derive(Clone, Copy)]
 struct Extent {
     low: u64,
     most: u64,

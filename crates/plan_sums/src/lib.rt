@@ -1,6 +1,7 @@
 // Which sums a plan has: the shares of the objectives in them, and the ranges that they are divided by. A plan of
 // another kind has others, so that what one plan does not prune another may. Nothing is promised of them.
 #![tactic(auto)]
+
 ghost use Rattle.std.specs.Prelude.{◌≤◌};
 ghost use Rattle.model.specs.Limits.{max_objectives};
 
@@ -9,7 +10,7 @@ const MAX_RANGE: u64 = 1099511627776;
 
 // What is known of each objective's costs: how far apart they lie; how far above the least sum the largest one below
 // the ceiling lies, at least 1; that largest one; and whether some ceiling is below what its objective may cost.
-#[derive(Drop)]
+#[derive(Clone, Copy)]
 pub struct Ranges {
     pub spreads: [u64; 4],
     pub slacks: [u64; 4],

@@ -1,5 +1,6 @@
 // Tests a plan before the search relies on it: order, ends, what is read, and that no bucket sends more than it holds.
 #![tactic(auto)]
+
 ghost use Rattle.std.specs.Prelude.{◌≡◌, ◌⊎◌, true, false, ℕ, ◌+◌, ◌-◌, ◌/◌, ◌%◌, ◌≤◌, ◌<◌, length, get_or, drop};
 ghost use Rattle.model.specs.Basics.{All};
 ghost use Rattle.model.specs.Limits.{max_variables, max_tables};
@@ -26,7 +27,7 @@ const REST_BASE: u64 = 1152921504606846976;
 
 // A part of a bucket: the number of its message, the bucket's variable, the records and slots of the part, and what the
 // parts before it left over: a row of eight numbers for each value of the variable.
-#[derive(Drop)]
+#[derive(Clone, Copy)]
 struct Part {
     pub message: usize,
     pub own: usize,
@@ -35,7 +36,7 @@ struct Part {
 }
 
 // The last part of a bucket that was looked at, and what it left over.
-#[derive(Drop)]
+#[derive(Clone, Copy)]
 struct Held {
     pub ok: bool,
     pub span: branch_buckets::Span,

@@ -1,5 +1,6 @@
 // Reads a problem: its records in byte order, refusals 1 to 11 with their places, and where each cost record starts.
 #![tactic(auto)]
+
 ghost use Rattle.std.specs.Prelude.{◌≡◌, ◌+◌, ◌-◌, ◌*◌, ◌<◌, ◌≤◌, length, get_or, take, drop};
 ghost use Rattle.model.specs.Basics.{All};
 ghost use Rattle.model.specs.Limits.{max_bytes, max_variables, max_objectives, max_arity, short_end};
@@ -194,7 +195,7 @@ pub fn domain_number(s: &[u8], at: usize) -> u8
 }
 
 // What reading the domain records finds: a refusal's number and place, or 0 and 0 and the sizes.
-#[derive(Drop)]
+#[derive(Clone, Copy)]
 pub struct Domains {
     pub number: u8,
     pub place: usize,
@@ -267,7 +268,7 @@ pub fn size_of(s: &[u8], at: usize, arity: usize, sizes: &[u8]) -> usize
 }
 
 // What reading a cost record finds: its number of refusal, or 0 and how many bytes it has.
-#[derive(Drop)]
+#[derive(Clone, Copy)]
 pub struct Scan {
     pub number: u8,
     pub length: usize,
@@ -323,7 +324,7 @@ pub fn scan_table(s: &[u8], at: usize, p: u8, sizes: &[u8]) -> Scan
 }
 
 // A refusal's number and place, or 0 and 0.
-#[derive(Drop)]
+#[derive(Clone, Copy)]
 pub struct Refusal {
     pub number: u8,
     pub place: usize,
@@ -360,7 +361,7 @@ pub fn scan_tables(s: &[u8], at: usize, r: u32, p: u8, sizes: &[u8]) -> Refusal
 }
 
 // What reading a problem finds: a refusal's number and place, or 0 and 0 with the header and the domain sizes.
-#[derive(Drop)]
+#[derive(Clone, Copy)]
 pub struct Reading {
     pub number: u8,
     pub place: usize,
@@ -442,7 +443,7 @@ fn next_place(s: &[u8], at: usize, sizes: &[u8]) -> usize
 
 // The reader: a problem's bytes, and its place in them. The functions over it are proved by
 // hand; each takes it apart and leaves the work to a function on a plain slice.
-#[derive(Drop)]
+#[derive(Clone, Copy)]
 pub struct Reader<'a> {
     pub bytes: &'a [u8],
     pub at: usize,

@@ -1,5 +1,6 @@
 // The listed points in work memory: storing one, reading one, and which of two choices is earlier.
 #![tactic(auto)]
+
 ghost use Rattle.std.specs.Prelude.{◌≡◌, ◌+◌, ◌*◌, ◌/◌, ◌%◌, ◌≤◌, length, take};
 ghost use Rattle.model.specs.Limits.{max_objectives, max_variables, max_points};
 ghost use Rattle.model.specs.Vectors.{earlier};

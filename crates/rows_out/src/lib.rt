@@ -1,5 +1,6 @@
 // The listed points copied out of work memory, flat or as records; how many points the lent buffers hold, and clearing.
 #![tactic(auto)]
+
 ghost use Rattle.std.specs.Prelude.{◌≡◌, ◌++◌, length, take, drop, replicate};
 ghost use Prim.Native.Nat.{◌+◌, ◌*◌, ◌<◌, ◌≤◌};
 ghost use Rattle.model.specs.Basics.{All};

@@ -1,11 +1,12 @@
 // From the bytes of a problem to its frontier list: in the flat buffers, or in work memory to be copied out;
 // or a refusal.
 #![tactic(auto)]
+
 ghost use Rattle.model.specs.Calls.{solve_outcome};
 ghost use Rattle.answers.specs.Says.{SolveSays, ListedSays};
 
 // What the plain call answers, and what its search took, of which nothing is promised.
-#[derive(Drop)]
+#[derive(Clone, Copy)]
 pub struct Solved {
     pub answer: answers::Answer,
     pub measures: listing::Measures,

@@ -1,5 +1,6 @@
 // What is refused of a WCSP text, and how long its records are.
 #![tactic(auto)]
+
 ghost use Rattle.std.specs.Prelude.{◌≡◌, ◌||◌, [], ℕ, suc, ◌+◌, ◌-◌, ◌*◌, ◌≤◌, ◌<◌, min, ltb, length, get_or, take, set};
 ghost use Rattle.model.specs.Basics.{All};
 ghost use Rattle.model.specs.Limits.{max_domain};
@@ -21,28 +22,28 @@ const HALF: u64 = 9223372036854775808;
 
 // What is found (0 nothing, 1 what is refused, 2 what ends the reading so, 3 what is not the format), and the place
 // behind what was read.
-#[derive(Drop)]
+#[derive(Clone, Copy)]
 pub struct Step {
     pub finding: u8,
     pub next: usize,
 }
 
 // How many variables are declared, and the place of their domain sizes.
-#[derive(Drop)]
+#[derive(Clone, Copy)]
 pub struct Declared {
     pub variables: u64,
     pub sizes: usize,
 }
 
 // How many more variables a scope has, and the place of their words.
-#[derive(Drop)]
+#[derive(Clone, Copy)]
 pub struct Far {
     pub count: u64,
     pub at: usize,
 }
 
 // The same of a default cost and the number of tuples, which is told up to the cap.
-#[derive(Drop)]
+#[derive(Clone, Copy)]
 pub struct Counted {
     pub finding: u8,
     pub next: usize,
@@ -50,7 +51,7 @@ pub struct Counted {
 }
 
 // The same of a function, with the bytes of its record where nothing is found.
-#[derive(Drop)]
+#[derive(Clone, Copy)]
 pub struct Function {
     pub finding: u8,
     pub next: usize,
@@ -58,7 +59,7 @@ pub struct Function {
 }
 
 // The same of a domain size, whether it is the largest that is stated, and its entry.
-#[derive(Drop)]
+#[derive(Clone, Copy)]
 pub struct Sized {
     pub finding: u8,
     pub next: usize,
@@ -67,7 +68,7 @@ pub struct Sized {
 }
 
 // The same of all domain sizes.
-#[derive(Drop)]
+#[derive(Clone, Copy)]
 pub struct Sizes {
     pub finding: u8,
     pub next: usize,
@@ -75,7 +76,7 @@ pub struct Sizes {
 }
 
 // The same of what stands before the domain sizes.
-#[derive(Drop)]
+#[derive(Clone, Copy)]
 pub struct Head {
     pub finding: u8,
     pub next: usize,
@@ -85,14 +86,14 @@ pub struct Head {
 }
 
 // What is found, and the bytes of all records where nothing is found.
-#[derive(Drop)]
+#[derive(Clone, Copy)]
 pub struct Body {
     pub finding: u8,
     pub bytes: usize,
 }
 
 // 0, or the number of the refusal; the bytes of all records where it is 0.
-#[derive(Drop)]
+#[derive(Clone, Copy)]
 pub struct Network {
     pub number: u8,
     pub bytes: usize,

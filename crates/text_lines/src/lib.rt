@@ -1,5 +1,6 @@
 // Lines of decimal numbers, written to a place of a buffer, or measured where it is too short.
 #![tactic(auto)]
+
 ghost use Rattle.std.specs.Prelude.{◌≡◌, [], ◌∷◌, ◌++◌, ◌+◌, ◌≤◌, length, take, drop};
 ghost use Rattle.model.specs.Limits.{word_end};
 ghost use Rattle.text_words.specs.Texts.{decimal, spaced, line};

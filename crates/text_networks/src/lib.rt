@@ -1,9 +1,10 @@
 // The WCSP text format: its definitions and the theorems about them; what the calls that convert answer.
 #![tactic(auto)]
+
 ghost use Rattle.std.specs.Prelude.{◌≡◌};
 
 // A refusal's number and place, or 0 and 0 and how many bytes are written.
-#[derive(Drop)]
+#[derive(Clone, Copy)]
 pub struct Converted {
     pub number: u8,
     pub place: u32,

@@ -1,5 +1,6 @@
 // From WCSP text to the bytes of its problem; or a refusal.
 #![tactic(auto)]
+
 ghost use Rattle.std.specs.Prelude.{◌≡◌, [], ◌∷◌, ◌+◌, ◌≤◌, ◌<◌, length, replicate};
 ghost use Rattle.model.specs.Basics.{All};
 ghost use Rattle.model.specs.Limits.{max_variables, max_tables, max_arity, max_bytes, short_end, word_end};
@@ -19,7 +20,7 @@ ghost use Rattle.text_reading.specs.Functions.{TuplePlace, TuplePut, TuplesPlace
 ghost use Rattle.text_reading.specs.Functions.{FunctionsAt};
 
 // The numbers of the first line, with the ceiling for its upper bound, and the place behind them.
-#[derive(Drop)]
+#[derive(Clone, Copy)]
 struct Head {
     variables: usize,
     functions: u64,
@@ -28,7 +29,7 @@ struct Head {
 }
 
 // The domain sizes, and the place behind them.
-#[derive(Drop)]
+#[derive(Clone, Copy)]
 struct Domains {
     count: usize,
     sizes: [u8; 24],
@@ -36,7 +37,7 @@ struct Domains {
 }
 
 // A scope with the domain sizes of its variables, how many entries its table has, and the place behind it.
-#[derive(Drop)]
+#[derive(Clone, Copy)]
 struct Scope {
     arity: usize,
     variables: [u8; 3],
@@ -46,7 +47,7 @@ struct Scope {
 }
 
 // A cost function up to its tuples, which start at `end`.
-#[derive(Drop)]
+#[derive(Clone, Copy)]
 struct Function {
     scope: Scope,
     default: u32,
@@ -55,7 +56,7 @@ struct Function {
 }
 
 // Where reading and writing go on.
-#[derive(Drop)]
+#[derive(Clone, Copy)]
 struct Next {
     at: usize,
     to: usize,

@@ -1,5 +1,6 @@
 // Tuples of a WCSP text: where a tuple's entry stands in its table, and whether one is given twice.
 #![tactic(auto)]
+
 ghost use Rattle.std.specs.Prelude.{◌≡◌, suc, ◌≤◌, length, take};
 ghost use Rattle.model.specs.Basics.{All};
 ghost use Rattle.model.specs.Problems.{DomainSize};
@@ -9,7 +10,7 @@ ghost use Rattle.text_networks.specs.Networks.{tuple_finding, tuples_of, repeate
 ghost use Rattle.text_tuples.specs.Entries.{TupleAt, EntrySays};
 
 // Where a tuple's entry stands in its table, and the place behind the tuple's values.
-#[derive(Drop)]
+#[derive(Clone, Copy)]
 pub struct Entry {
     pub index: usize,
     pub end: usize,

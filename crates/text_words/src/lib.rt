@@ -1,5 +1,6 @@
 // Words and decimal numbers of a text, read from a place on.
 #![tactic(auto)]
+
 ghost use Rattle.std.specs.Prelude.{◌≡◌, true, ◌+◌, ◌-◌, ◌*◌, ◌≤◌, min, ltb, length, drop};
 ghost use Rattle.text_words.specs.Texts.{is_space, is_digit, all_digits, value_from};
 ghost use Rattle.text_words.specs.Reads.{part, is_break, cap_end, sign_width, Skipped, WordEnds, WordSays};
@@ -11,21 +12,21 @@ const CAP: u64 = 18446744073709551610;
 const ROOM: u64 = 1844674407370955161;
 
 // A word from `start` to `end`; empty where there is none.
-#[derive(Drop)]
+#[derive(Clone, Copy)]
 pub struct Word {
     pub start: usize,
     pub end: usize,
 }
 
 // Digits that end at `end`, and their value up to the cap.
-#[derive(Drop)]
+#[derive(Clone, Copy)]
 pub struct Digits {
     pub value: u64,
     pub end: usize,
 }
 
 // A word that ends at `end`: a number (kind 0) whose digits start at `from`, a negative number (1) or neither (2).
-#[derive(Drop)]
+#[derive(Clone, Copy)]
 pub struct Number {
     pub kind: u8,
     pub value: u64,

@@ -41,7 +41,7 @@ pub fn is_at_most(a: &[u64], b: &[u64], p: usize) -> bool
 }
 
 // What one vector is to another.
-#[derive(Drop)]
+#[derive(Clone, Copy)]
 pub enum Comparison {
     Beats,
     Beaten,

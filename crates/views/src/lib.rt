@@ -1,5 +1,6 @@
 // Parts of a problem by a side list: whether it may be cut, which domains and records a side has.
 #![tactic(auto)]
+
 ghost use Rattle.std.specs.Prelude.{◌≡◌, ◌⊎◌, ◌&&◌, ◌++◌, ◌+◌, ◌<◌, ◌≤◌, eqb, length, get_or, take, drop};
 ghost use Rattle.model.specs.Basics.{All};
 ghost use Rattle.model.specs.Limits.{max_tables, max_variables};
@@ -12,7 +13,7 @@ ghost use Rattle.problem.specs.Says.{RefusalSays};
 ghost use Rattle.views.specs.Wanted.{wanted, kept_places};
 
 // Which records a part of a problem has: those of objectives `low` to below `high` whose scope lies on the side.
-#[derive(Drop)]
+#[derive(Clone, Copy)]
 pub struct Part {
     pub side: u8,
     pub low: u8,
@@ -21,7 +22,7 @@ pub struct Part {
 
 // A part's records are selected of so many whose places stand in work memory from `from` on; theirs are written from
 // `to` on.
-#[derive(Drop)]
+#[derive(Clone, Copy)]
 pub struct Selection {
     pub part: Part,
     pub records: usize,

@@ -10,15 +10,15 @@ use Rattle.branch_candidates.proofs.Sifting.{sifted_all}
 use Rattle.branch_candidates.proofs.all_rows.Statement.{statement}
 use Rattle.branch_candidates.proofs.all_rows.Tie as tie
 
-abbrev invariant-loop : tie.invariant-loop
+abbrev invariant-loop : tie.invariant-loop-i
 invariant-loop m to₀ i₀ to i = (i ≤ m) × (length to ≡ list_width) × ((j : ℕ) → j < i → get_or to j 0 ≡ j)
 
-abbrev decreases-loop : tie.decreases-loop
+abbrev decreases-loop : tie.decreases-loop-i
 decreases-loop m to₀ i₀ to i = m - i
 
-loop-again : tie.Need-loop-preserved invariant-loop decreases-loop
+loop-again : tie.Need-loop-i-preserved invariant-loop decreases-loop
 loop-again c =
-    let w = c.before.loop in (
+    let w = c.before.loop-i in (
       omega arith,
       length-set w.to w.i _ ∙ w.invariant.1,
       below_more (λ j. get_or (set w.to w.i w.i) j 0 ≡ j) w.i
@@ -26,29 +26,29 @@ loop-again c =
           (get_or-set_same w.to w.i _ 0 (omega (arith, w.invariant.1))),
     )
 
-same_length : tie.Need-same-length invariant-loop decreases-loop
+same_length : tie.Need-shape_of-to invariant-loop decreases-loop
 same_length c =
-    let w = c.before.loop in
+    let w = c.before.loop-i in
     omega (arith, length-set w.to max_rows c.before.before.args.m, w.invariant.1, c.before.before.requires.1)
 
 returns : tie.Need-returns invariant-loop decreases-loop
 returns c =
-    let w = c.before.loop in
+    let w = c.before.loop-i in
     sifted_all w.to (omega arith) w.invariant.1 (λ j l. w.invariant.2 j (omega arith))
 
-pub all-rows-spec : {M : Type 1} → statement M
-all-rows-spec =
+pub all_rows_spec : {M : Type 1} → statement M
+all_rows_spec =
     tie.close
     (tie.spec
     invariant-loop
     decreases-loop
-    (λ c. (omega arith, c.requires.1, λ j l. absurd (omega arith)))  -- loop-holds
-    (λ c. omega arith)  -- cast-to
-    (λ c. omega arith)  -- slice-write-to
-    (λ c. omega arith)  -- add-i
-    (λ c. omega arith)  -- loop-less
+    (λ c. (omega arith, c.requires.1, λ j l. absurd (omega arith)))  -- loop-i-init
+    (λ c. omega arith)  -- overflow_cast-to
+    (λ c. omega arith)  -- bounds-to-i
+    (λ c. omega arith)  -- overflow_add-i
+    (λ c. omega arith)  -- loop-i-smaller
     loop-again
-    (λ c. omega arith)  -- cast-to-2
-    (λ c. omega arith)  -- slice-write-to-2
+    (λ c. omega arith)  -- overflow_cast-to-2
+    (λ c. omega arith)  -- bounds-to-128
     same_length
     returns)

@@ -22,37 +22,37 @@ unfolding key_from
 key_end bytes i key h = rw (drop_of_length-le bytes h) refl
 
 -- what is done and what is left give the key of the whole
-abbrev invariant-loop : tie.invariant-loop
+abbrev invariant-loop : tie.invariant-loop-i
 invariant-loop bytes key₀ i₀ key i = (i ≤ length bytes) × (key_from key (drop i bytes) ≡ key_from key_start bytes)
 
-abbrev decreases-loop : tie.decreases-loop
+abbrev decreases-loop : tie.decreases-loop-i
 decreases-loop bytes key₀ i₀ key i = length bytes - i
 
-loop-holds : tie.Need-loop-init invariant-loop decreases-loop
+loop-holds : tie.Need-loop-i-init invariant-loop decreases-loop
 loop-holds c = (search rules, refl)
 
-shared-slice-read-key-step : tie.Need-shared-slice-read-key-step invariant-loop decreases-loop
+shared-slice-read-key-step : tie.Need-bounds-bytes-i invariant-loop decreases-loop
 shared-slice-read-key-step c = search rules
 
-key-step-requires : tie.Need-key-step-requires invariant-loop decreases-loop
+key-step-requires : tie.Need-key_step-key-requires invariant-loop decreases-loop
 key-step-requires c κs = search rules
 
-add-i : tie.Need-overflow-add-i invariant-loop decreases-loop
+add-i : tie.Need-overflow_add-i invariant-loop decreases-loop
 add-i c = search rules
 
-loop-less : tie.Need-loop-smaller invariant-loop decreases-loop
+loop-less : tie.Need-loop-i-smaller invariant-loop decreases-loop
 loop-less c = search rules
 
-loop-again : tie.Need-loop-preserved invariant-loop decreases-loop
+loop-again : tie.Need-loop-i-preserved invariant-loop decreases-loop
 loop-again c =
-    let w = c.before.before.before.loop in
-    (search rules, key_more _ w.i _ _ (search rules) c.key_step.ensures ∙ w.invariant.1)
+    let w = c.before.before.before.loop-i in
+    (search rules, key_more _ w.i _ _ (search rules) c.key_step-key.ensures ∙ w.invariant.1)
 
 returns : tie.Need-returns invariant-loop decreases-loop
-returns c = key_end _ c.before.loop.i c.before.loop.key (search rules) ∙ c.before.loop.invariant.1
+returns c = key_end _ c.before.loop-i.i c.before.loop-i.key (search rules) ∙ c.before.loop-i.invariant.1
 
-pub key-of-spec : {M : Type 1} → statement M
-key-of-spec =
+pub key_of_spec : {M : Type 1} → statement M
+key_of_spec =
     tie.close
     (tie.spec
     invariant-loop

@@ -15,45 +15,45 @@ use Rattle.problem.proofs.domain_number.Statement.{statement}
 use Rattle.problem.proofs.domain_number.Tie as tie
 
 -- past the first test: the record's start is good
-started : (c : tie.Else1)
+started : (c : tie.Else-e-ne0)
     → start_number letter_d letter_o 1
     (drop c.before.before.before.args.at c.before.before.before.args.s.now)
     ≡ 0
-started c = sym c.before.start-number.ensures ∙ c.if1.false
+started c = sym c.before.start_number-e.ensures ∙ c.if-e-ne0.false
 
 -- what `allows_size` answers is about the record's size
-sized : (c : tie.After-allows-size)
-    → c.allows-size.result
+sized : (c : tie.After-allows_size)
+    → c.allows_size.result
     ≡ not (outside max_domain
     (domain_size (drop c.before.before.before.before.before.args.at
     c.before.before.before.before.before.args.s.now)))
-sized c = rw get_or-drop c.allows-size.ensures
+sized c = rw get_or-drop c.allows_size.ensures
 
-returns : tie.Need-returns
+returns : tie.Need-returns-then-e-ne0
 returns c =
-    let e = c.before.start-number.ensures in
-    rw (← e) at (sym (domain_start _ (λ z. c.if1.true (e ∙ z))))
+    let e = c.before.start_number-e.ensures in
+    rw (← e) at (sym (domain_start _ (λ z. c.if-e-ne0.true (e ∙ z))))
 
-shared-slice-read-allows-size : tie.Need-shared-slice-read-allows-size
+shared-slice-read-allows-size : tie.Need-bounds-s-at
 shared-slice-read-allows-size c =
     let a = c.before.before.before.before.args in
     let l = drop a.at a.s.now in
     omega (arith, (start_marked letter_d letter_o 1 l (started c.before)).long, length-drop a.at a.s.now)
 
-returns-2 : tie.Need-returns-2
-returns-2 c = sym (domain_large _ (started c.before.before.before) (denied _ (sized c.before) c.if2.true))
+returns-2 : tie.Need-returns-then-not-allows_size
+returns-2 c = sym (domain_large _ (started c.before.before.before) (denied _ (sized c.before) c.if-not-allows_size.true))
 
-returns-3 : tie.Need-returns-3
-returns-3 c = sym (domain_fits _ (started c.before.before.before) (allowed _ (sized c.before) c.if2.false))
+returns-3 : tie.Need-returns
+returns-3 c = sym (domain_fits _ (started c.before.before.before) (allowed _ (sized c.before) c.if-not-allows_size.false))
 
-pub domain-number-spec : {M : Type 1} → statement M
-domain-number-spec =
+pub domain_number_spec : {M : Type 1} → statement M
+domain_number_spec =
     tie.close
     (tie.spec
-    (λ c κs. search rules)  -- start-number-requires
+    (λ c κs. search rules)  -- start_number-e-requires
     returns
-    (λ c. search rules)  -- add-allows-size
+    (λ c. search rules)  -- overflow_add-at
     shared-slice-read-allows-size
-    (λ c κs. search rules)  -- allows-size-requires
+    (λ c κs. search rules)  -- allows_size-requires
     returns-2
     returns-3)

@@ -8,17 +8,17 @@ returns : tie.Need-returns
 returns c =
     cc (
       four_halves c.before.before.before.args.at c.before.before.before.args.s.now,
-      c.before.two_at.ensures.0,
-      c.two-at2.ensures.0,
+      c.before.two_at-low.ensures.0,
+      c.two_at-high.ensures.0,
     )
 
-pub four-at-spec : {M : Type 1} → statement M
-four-at-spec =
+pub four_at_spec : {M : Type 1} → statement M
+four_at_spec =
     tie.close
     (tie.spec
-    (λ c κs. search rules)  -- two-at-requires
-    (λ c. search rules)  -- add-two-at
-    (λ c κs. search rules)  -- two-at-requires-2
-    (λ c. search rules)  -- mul-result
-    (λ c. search rules)  -- add-result
+    (λ c κs. search rules)  -- two_at-low-requires
+    (λ c. search rules)  -- overflow_add-at
+    (λ c κs. search rules)  -- two_at-high-requires
+    (λ c. search rules)  -- overflow_mul-result
+    (λ c. search rules)  -- overflow_add-result
     returns)

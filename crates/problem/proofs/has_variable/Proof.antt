@@ -8,13 +8,13 @@ returns : tie.Need-returns
 returns c =
     let read = c.before in
     let a = read.before.before.args in
-    rw (scope_taken a.s.now a.at, ← read.arity-at.ensures) c.is-named.ensures
+    rw (scope_taken a.s.now a.at, ← read.arity_at-a.ensures) c.is_named.ensures
 
-pub has-variable-spec : {M : Type 1} → statement M
-has-variable-spec =
+pub has_variable_spec : {M : Type 1} → statement M
+has_variable_spec =
     tie.close
     (tie.spec
-    (λ c κs. search rules)  -- arity-at-requires
-    (λ c. search rules)  -- add-is-named
-    (λ c κs. search rules)  -- is-named-requires
+    (λ c κs. search rules)  -- arity_at-a-requires
+    (λ c. search rules)  -- overflow_add-at
+    (λ c κs. search rules)  -- is_named-requires
     returns)

@@ -12,47 +12,47 @@ use Rattle.problem.proofs.HeadFields.{words_more}
 use Rattle.problem.proofs.read_ceilings.Statement.{statement}
 use Rattle.problem.proofs.read_ceilings.Tie as tie
 
-abbrev invariant-loop : tie.invariant-loop
+abbrev invariant-loop : tie.invariant-loop-i
 invariant-loop s count ceilings₀ i₀ ceilings i =
     (i ≤ count) × (ceilings ≡ padded max_objectives (words_in i (drop 6 s)))
 
-abbrev decreases-loop : tie.decreases-loop
+abbrev decreases-loop : tie.decreases-loop-i
 decreases-loop s count ceilings₀ i₀ ceilings i = count - i
 
-loop-holds : tie.Need-loop-init invariant-loop decreases-loop
+loop-holds : tie.Need-loop-i-init invariant-loop decreases-loop
 unfolding padded words_in
 loop-holds c = (omega arith, refl)
 
-loop-again : tie.Need-loop-preserved invariant-loop decreases-loop
+loop-again : tie.Need-loop-i-preserved invariant-loop decreases-loop
 loop-again c =
     let s = c.before.before.before.before.args.s.now in
-    let w = c.before.before.loop in
-    let more = rw (← c.four-at.ensures) at (words_more 6 s w.i) in (
+    let w = c.before.before.loop-i in
+    let more = rw (← c.four_at.ensures) at (words_more 6 s w.i) in (
       omega arith,
-      padded_step max_objectives w.i (λ k. words_in k (drop 6 s)) w.ceilings c.four-at.result
+      padded_step max_objectives w.i (λ k. words_in k (drop 6 s)) w.ceilings c.four_at.result
           (length_words_in w.i (drop 6 s)) (omega arith) more w.invariant.1,
     )
 
 returns : tie.Need-returns invariant-loop decreases-loop
 returns c =
     let a = c.before.before.before.args in
-    let w = c.before.loop in
+    let w = c.before.loop-i in
     let n : w.i ≡ a.count = omega arith in
     w.invariant.1 ∙ ap (λ (m : ℕ). padded max_objectives (words_in m (drop 6 a.s.now))) n
 
-pub read-ceilings-spec : {M : Type 1} → statement M
-read-ceilings-spec =
+pub read_ceilings_spec : {M : Type 1} → statement M
+read_ceilings_spec =
     tie.close
     (tie.spec
     invariant-loop
     decreases-loop
     loop-holds
-    (λ c. omega arith)  -- mul-four-at
-    (λ c. omega arith)  -- add-four-at
-    (λ c κs. omega arith)  -- four-at-requires
-    (λ c. omega arith)  -- mul-ceilings
-    (λ c. omega arith)  -- array-write-ceilings
-    (λ c. omega arith)  -- add-i
-    (λ c. omega arith)  -- loop-less
+    (λ c. omega arith)  -- overflow_mul-i
+    (λ c. omega arith)  -- overflow_add-i
+    (λ c κs. omega arith)  -- four_at-requires
+    (λ c. omega arith)  -- offset_bounds-ceilings-i
+    (λ c. omega arith)  -- bounds-ceilings-i
+    (λ c. omega arith)  -- overflow_add-i-in-loop-i
+    (λ c. omega arith)  -- loop-i-smaller
     loop-again
     returns)

@@ -16,7 +16,7 @@ use Rattle.problem.proofs.DomainSteps.{domains_accepted}
 use Rattle.problem.proofs.read_domains.Statement.{statement}
 use Rattle.problem.proofs.read_domains.Tie as tie
 
-abbrev invariant-loop : tie.invariant-loop
+abbrev invariant-loop : tie.invariant-loop-i
 invariant-loop s at n sizes₀ here₀ i₀ sizes here i =
     (i ≤ n)
     × (here ≡ at + 3 * i)
@@ -24,41 +24,41 @@ invariant-loop s at n sizes₀ here₀ i₀ sizes here i =
     × (domains_verdict (n - i) s here ≡ domains_verdict n s at)
     × (sizes ≡ padded max_variables (domains_at i s at))
 
-abbrev decreases-loop : tie.decreases-loop
+abbrev decreases-loop : tie.decreases-loop-i
 decreases-loop s at n sizes₀ here₀ i₀ sizes here i = n - i
 
 -- past the branch: the record here is good, so the next one starts in the list
-good : (c : tie.Else1 invariant-loop decreases-loop)
+good : (c : tie.Else-e-ne0 invariant-loop decreases-loop)
     → domain_number
-    (drop c.before.before.before.loop.here c.before.before.before.before.before.args.s.now)
+    (drop c.before.before.before.loop-i.here c.before.before.before.before.before.args.s.now)
     ≡ 0
-good c = sym c.before.domain-number.ensures ∙ c.if1.false
+good c = sym c.before.domain_number-e.ensures ∙ c.if-e-ne0.false
 
-next : (c : tie.Else1 invariant-loop decreases-loop)
-    → c.before.before.before.loop.here + 3 ≤ length c.before.before.before.before.before.args.s.now
+next : (c : tie.Else-e-ne0 invariant-loop decreases-loop)
+    → c.before.before.before.loop-i.here + 3 ≤ length c.before.before.before.before.before.args.s.now
 next c = domain_next _ _ (good c)
 
-loop-holds : tie.Need-loop-init invariant-loop decreases-loop
+loop-holds : tie.Need-loop-i-init invariant-loop decreases-loop
 unfolding padded domains_at
 loop-holds c = (omega arith, omega arith, omega arith, rw sub-zero, refl)
 
-returns : tie.Need-returns invariant-loop decreases-loop
+returns : tie.Need-returns-then-e-ne0 invariant-loop decreases-loop
 unfolding padded
 returns c =
     let a = c.before.before.before.before.before.args in
-    let w = c.before.before.before.loop in
+    let w = c.before.before.before.loop-i in
     let more : a.n - w.i ≡ suc (a.n - (w.i + 1)) = omega arith in
-    let e = c.before.domain-number.ensures in
-    let v = domains_stop (a.n - (w.i + 1)) a.s.now w.here (λ z. c.if1.true (e ∙ z)) in
-    domains_refused a.s.now a.at a.n _ c.if1.true (sym (rw more at w.invariant.3) ∙ rw (← e) at v) refl
+    let e = c.before.domain_number-e.ensures in
+    let v = domains_stop (a.n - (w.i + 1)) a.s.now w.here (λ z. c.if-e-ne0.true (e ∙ z)) in
+    domains_refused a.s.now a.at a.n _ c.if-e-ne0.true (sym (rw more at w.invariant.3) ∙ rw (← e) at v) refl
 
-array-write-sizes : tie.Need-array-write-sizes invariant-loop decreases-loop
+array-write-sizes : tie.Need-bounds-sizes-i invariant-loop decreases-loop
 array-write-sizes c = omega (arith, c.before.before.before.before.before.before.requires)
 
-loop-again : tie.Need-loop-preserved invariant-loop decreases-loop
+loop-again : tie.Need-loop-i-preserved invariant-loop decreases-loop
 loop-again c =
     let a = c.before.before.before.before.before.before.args in
-    let w = c.before.before.before.before.loop in
+    let w = c.before.before.before.before.loop-i in
     let s = a.s.now in
     let more : a.n - w.i ≡ suc (a.n - (w.i + 1)) = omega arith in
     let size = rw (get_or-drop, ← w.invariant.1) at (domains_more s a.at w.i) in (
@@ -70,29 +70,29 @@ loop-again c =
           (omega (arith, c.before.before.before.before.before.before.requires)) size w.invariant.4,
     )
 
-returns-2 : tie.Need-returns-2 invariant-loop decreases-loop
+returns-2 : tie.Need-returns invariant-loop decreases-loop
 unfolding domains_verdict
 returns-2 c =
     let a = c.before.before.before.args in
-    let w = c.before.loop in
+    let w = c.before.loop-i in
     let all : w.i ≡ a.n = omega arith in
     let none : a.n - w.i ≡ 0 = omega arith in
     domains_accepted a.s.now a.at a.n w.sizes (sym (rw none at w.invariant.3)) (rw all at w.invariant.4)
 
-pub read-domains-spec : {M : Type 1} → statement M
-read-domains-spec =
+pub read_domains_spec : {M : Type 1} → statement M
+read_domains_spec =
     tie.close
     (tie.spec
     invariant-loop
     decreases-loop
     loop-holds
-    (λ c κs. omega arith)  -- domain-number-requires
+    (λ c κs. omega arith)  -- domain_number-e-requires
     returns
-    (λ c. omega (arith, next c))  -- add-sizes
-    (λ c. omega (arith, next c.before))  -- shared-slice-read-sizes
+    (λ c. omega (arith, next c))  -- overflow_add-sizes
+    (λ c. omega (arith, next c.before))  -- bounds-s-here
     array-write-sizes
-    (λ c. omega (arith, next c.before))  -- add-here
-    (λ c. omega arith)  -- add-i
-    (λ c. omega arith)  -- loop-less
+    (λ c. omega (arith, next c.before))  -- overflow_add-here
+    (λ c. omega arith)  -- overflow_add-i
+    (λ c. omega arith)  -- loop-i-smaller
     loop-again
     returns-2)

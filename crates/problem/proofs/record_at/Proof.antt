@@ -88,7 +88,7 @@ module _ {M : Type 1} {𝓤 : Ura M} (𝓛 : Logic 𝓤) (mem : Memory → SProp
         (and_then ! (load ! (from ! (stop !)) (look ! 11 refl))
         (and_then ! (load ! (from ! (stop !)) (look ! 9 refl)) (no_more !)))
         (λ u is. land ! (from ! (stop !)) (init ! 5 refl (reader_typed 𝓛 p (reader p) u is).0) $
-        use3 𝓛 (raw (Recorded.pre (to_record u))) (asks 𝓛 p u asked) $
+        use3 𝓛 (raw (Recorded.requires (to_record u))) (asks 𝓛 p u asked) $
         -- [what `cost_record` asks; sizes; bytes; _4; …; _3; …; _2; …; _1; …; room for _0; …]
         answers ! (fm_of 𝓤 H 𝓛.laws 𝓣) cost-record.ended (cost-record.clauses 𝓛 mem run) known-record
         (to_record u) (Tokens 𝓛 p) (id⊢ 𝓤 _) Said (λ r ws. id⊢ 𝓤 _)
@@ -112,9 +112,9 @@ module _ {M : Type 1} {𝓤 : Ura M} (𝓛 : Logic 𝓤) (mem : Memory → SProp
       needs 𝓤 (Asked (passed κs qs a)) _
       (walk (passed κs qs a) are.1.0.1 𝓣 known-new known-record are.0 are.1.1.0)))
 
-pub record-at-spec : {M : Type 1} → stated.statement M
+pub record_at_spec : {M : Type 1} → stated.statement M
 unfolding code.routine tables_of
-record-at-spec 𝓤 𝓛 𝓜 𝓡 =
+record_at_spec 𝓤 𝓛 𝓜 𝓡 =
     entered 𝓤 𝓛.H (triple_of 𝓛 f.signature (f.spec 𝓛 𝓜.mem 𝓡.run))
     (tables 𝓤 𝓛.H 𝓜 𝓡 code.env).C (tables 𝓤 𝓛.H 𝓜 𝓡 code.env).Λ #record-at code.function (code.unfolded 𝓤 𝓛.H 𝓜 𝓡)
     (meets 𝓛 𝓜.mem 𝓡.run (tables_of 𝓤 𝓛.H 𝓜 (tables 𝓤 𝓛.H 𝓜 𝓡 code.env))

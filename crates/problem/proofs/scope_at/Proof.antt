@@ -11,12 +11,12 @@ returns c =
     let a = c.before.args in
     sym (scope_variable a.s.now a.at a.k c.before.requires.1)
 
-pub scope-at-spec : {M : Type 1} → statement M
-scope-at-spec =
+pub scope_at_spec : {M : Type 1} → statement M
+scope_at_spec =
     tie.close
     (tie.spec
-    (λ c. omega arith)  -- add-result
-    (λ c. omega arith)  -- add-result-2
-    (λ c. omega arith)  -- shared-slice-read-result
-    (λ c. omega (arith, c.shared-slice-known.given (c.before.args.at + 4 + c.before.args.k)))  -- cast-result
+    (λ c. omega arith)  -- overflow_add-result
+    (λ c. omega arith)  -- overflow_add-result-2
+    (λ c. omega arith)  -- bounds-s-at
+    (λ c. omega (arith, c.shared_slice_known-1.given (c.before.args.at + 4 + c.before.args.k)))  -- overflow_cast-result
     returns)

@@ -12,19 +12,19 @@ use Rattle.problem.proofs.scope_of.Tie as tie
 returns : tie.Need-returns
 returns c =
     let a = c.before.before.before.args in
-    let read = c.before.arity-at in
-    let long : a.at + 4 + read.result - (a.at + 4) ≡ table_arity (drop a.at a.s.now) =
+    let read = c.before.arity_at-a in
+    let long : a.at + 4 + read.result-1 - (a.at + 4) ≡ table_arity (drop a.at a.s.now) =
     omega (arith, read.ensures) in
     rw long (sym (scope_taken a.s.now a.at))
 
-pub scope-of-spec : {M : Type 1} → statement M
-scope-of-spec =
+pub scope_of_spec : {M : Type 1} → statement M
+scope_of_spec =
     tie.close
     (tie.spec
-    (λ c κs. search rules)  -- arity-at-requires
-    (λ c. search rules)  -- add-start
-    (λ c. search rules)  -- add-end
-    (λ c. search rules)  -- sub-result
-    (λ c. search rules)  -- part-result-start
-    (λ c. search rules)  -- part-result-end
+    (λ c κs. search rules)  -- arity_at-a-requires
+    (λ c. search rules)  -- overflow_add-start
+    (λ c. search rules)  -- overflow_add-end
+    (λ c. search rules)  -- slice_bounds-result-count
+    (λ c. search rules)  -- slice_bounds-result-start
+    (λ c. search rules)  -- slice_bounds-result-end
     returns)

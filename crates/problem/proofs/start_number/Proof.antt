@@ -9,64 +9,64 @@ use Rattle.model.proofs.Lists.{get_d_first}
 use Rattle.problem.proofs.start_number.Statement.{statement}
 use Rattle.problem.proofs.start_number.Tie as tie
 
-returns : tie.Need-returns
+returns : tie.Need-returns-then-left-lt2
 unfolding first_of start_number
-returns c = simp (length-drop, lt-ltb _ _ c.if1.true)
+returns c = simp (length-drop, lt-ltb _ _ c.if-left-lt2.true)
 
-returns-2 : tie.Need-returns-2
+returns-2 : tie.Need-returns-then-s-at
 unfolding first_of start_number
 returns-2 c =
-    simp (length-drop, get_d_first, get_or-drop, le-ltb _ _ c.before.before.if1.false, ne_eqb _ _ c.if2.true)
+    simp (length-drop, get_d_first, get_or-drop, le-ltb _ _ c.before.before.if-left-lt2.false, ne_eqb _ _ c.if-s-at.true)
 
-returns-3 : tie.Need-returns-3
+returns-3 : tie.Need-returns-then-s-at-2
 unfolding first_of start_number
 returns-3 c =
     simp (
       length-drop,
       get_d_first,
       get_or-drop,
-      le-ltb _ _ c.before.before.before.before.if1.false,
-      eq-eqb _ _ c.before.before.if2.false,
-      ne_eqb _ _ c.if3.true,
+      le-ltb _ _ c.before.before.before.before.if-left-lt2.false,
+      eq-eqb _ _ c.before.before.if-s-at.false,
+      ne_eqb _ _ c.if-s-at-2.true,
     )
 
-returns-4 : tie.Need-returns-4
+returns-4 : tie.Need-returns-then-left-fields
 unfolding first_of start_number
 returns-4 c =
     simp (
       length-drop,
       get_d_first,
       get_or-drop,
-      le-ltb _ _ c.before.before.before.before.before.if1.false,
-      eq-eqb _ _ c.before.before.before.if2.false,
-      eq-eqb _ _ c.before.if3.false,
-      lt-ltb _ _ c.if4.true,
+      le-ltb _ _ c.before.before.before.before.before.if-left-lt2.false,
+      eq-eqb _ _ c.before.before.before.if-s-at.false,
+      eq-eqb _ _ c.before.if-s-at-2.false,
+      lt-ltb _ _ c.if-left-fields.true,
     )
 
-returns-5 : tie.Need-returns-5
+returns-5 : tie.Need-returns
 unfolding first_of start_number
 returns-5 c =
     simp (
       length-drop,
       get_d_first,
       get_or-drop,
-      le-ltb _ _ c.before.before.before.before.before.if1.false,
-      eq-eqb _ _ c.before.before.before.if2.false,
-      eq-eqb _ _ c.before.if3.false,
-      le-ltb _ _ c.if4.false,
+      le-ltb _ _ c.before.before.before.before.before.if-left-lt2.false,
+      eq-eqb _ _ c.before.before.before.if-s-at.false,
+      eq-eqb _ _ c.before.if-s-at-2.false,
+      le-ltb _ _ c.if-left-fields.false,
     )
 
-pub start-number-spec : {M : Type 1} → statement M
-start-number-spec =
+pub start_number_spec : {M : Type 1} → statement M
+start_number_spec =
     tie.close
     (tie.spec
-    (λ c. search rules)  -- sub-left
+    (λ c. search rules)  -- overflow_sub-left
     returns
-    (λ c. search rules)  -- shared-slice-read-if2
+    (λ c. search rules)  -- bounds-s-at
     returns-2
-    (λ c. search rules)  -- add-if3
-    (λ c. search rules)  -- shared-slice-read-if3
+    (λ c. search rules)  -- overflow_add-at
+    (λ c. search rules)  -- bounds-s-at-2
     returns-3
-    (λ c. search rules)  -- add-if4
+    (λ c. search rules)  -- overflow_add-fields
     returns-4
     returns-5)

@@ -8,40 +8,40 @@ use borrow.Author.Rules.{rules}
 use Rattle.problem.proofs.two_at.Statement.{statement}
 use Rattle.problem.proofs.two_at.Tie as tie
 
-mul_result : tie.Need-overflow-mul-result
+mul_result : tie.Need-overflow_mul-result
 mul_result c =
-    omega (arith, c.before.shared-slice-known3.given (c.before.before.before.before.before.args.at + 1))
+    omega (arith, c.before.shared_slice_known-3-1.given (c.before.before.before.before.before.args.at + 1))
 
-add-result : tie.Need-overflow-add-result
+add-result : tie.Need-overflow_add-result
 add-result c =
     let at = c.before.before.before.before.before.args.at in
     omega (
       arith,
-      c.before.before.before.shared-slice-known2.given at,
-      c.before.shared-slice-known3.given (at + 1),
+      c.before.before.before.shared_slice_known-2-1.given at,
+      c.before.shared_slice_known-3-1.given (at + 1),
     )
 
 returns : tie.Need-returns
 unfolding word2
 returns c =
     let at = c.before.before.before.before.before.args.at in (
-      simp (get_d_first, get_or-drop, c.before.before.wide.ensures, c.wide2.ensures),
+      simp (get_d_first, get_or-drop, c.before.before.wide-low.ensures, c.wide-high.ensures),
       omega (
         arith,
-        c.before.before.before.shared-slice-known2.given at,
-        c.before.shared-slice-known3.given (at + 1),
+        c.before.before.before.shared_slice_known-2-1.given at,
+        c.before.shared_slice_known-3-1.given (at + 1),
       ),
     )
 
-pub two-at-spec : {M : Type 1} → statement M
-two-at-spec =
+pub two_at_spec : {M : Type 1} → statement M
+two_at_spec =
     tie.close
     (tie.spec
-    (λ c. search rules)  -- shared-slice-read-wide
-    (λ c κs. search rules)  -- wide-requires
-    (λ c. search rules)  -- add-wide
-    (λ c. search rules)  -- shared-slice-read-wide-2
-    (λ c κs. search rules)  -- wide-requires-2
+    (λ c. search rules)  -- bounds-s-at
+    (λ c κs. search rules)  -- wide-low-requires
+    (λ c. search rules)  -- overflow_add-at
+    (λ c. search rules)  -- bounds-s-at-2
+    (λ c κs. search rules)  -- wide-high-requires
     mul_result
     add-result
     returns)

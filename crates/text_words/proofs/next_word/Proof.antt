@@ -7,8 +7,8 @@ use Rattle.text_words.proofs.next_word.Tie as tie
 returns : tie.Need-returns
 returns c =
     let a = c.before.before.before.args in
-    let skipped = c.before.skip-space in
-    let ended = c.word-end in
+    let skipped = c.before.skip_space-start in
+    let ended = c.word_end-end in
     record {
       after = skipped.ensures.after;
       ordered = ended.ensures.after;
@@ -19,10 +19,10 @@ returns c =
           word_some a.s.now a.at skipped.result ended.result skipped.ensures ended.ensures;
     }
 
-pub next-word-spec : {M : Type 1} → statement M
-next-word-spec =
+pub next_word_spec : {M : Type 1} → statement M
+next_word_spec =
     tie.close
     (tie.spec
-    (λ c κs. search rules)  -- skip-space-requires
-    (λ c κs. search rules)  -- word-end-requires
+    (λ c κs. search rules)  -- skip_space-start-requires
+    (λ c κs. search rules)  -- word_end-end-requires
     returns)

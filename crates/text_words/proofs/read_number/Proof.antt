@@ -13,86 +13,86 @@ use Rattle.text_words.proofs.Readings.{Begun, other_says, plain_says, zero_says,
 use Rattle.text_words.proofs.read_number.Statement.{statement}
 use Rattle.text_words.proofs.read_number.Tie as tie
 
-read-digits-requires : tie.Need-read-digits-requires
+read-digits-requires : tie.Need-read_digits-run-requires
 read-digits-requires c κs =
-    let skipped = c.before.skip-space in
-    rw c.behind-sign.ensures
+    let skipped = c.before.skip_space-start in
+    rw c.behind_sign-from.ensures
     (sign_within c.before.before.before.args.s.now skipped.result skipped.ensures.within)
 
-begun : (c : tie.After-read-digits)
+begun : (c : tie.After-read_digits-run)
     → let a = c.before.before.before.before.args in
-    Begun a.s.now a.at c.before.before.skip-space.result c.before.behind-sign.result
-    c.read-digits.result
+    Begun a.s.now a.at c.before.before.skip_space-start.result c.before.behind_sign-from.result
+    c.read_digits-run.result
 begun c =
     record {
-      skipped = c.before.before.skip-space.ensures;
-      sign = c.before.behind-sign.ensures;
-      run = c.read-digits.ensures;
+      skipped = c.before.before.skip_space-start.ensures;
+      sign = c.before.behind_sign-from.ensures;
+      run = c.read_digits-run.ensures;
     }
 
-returns : tie.Need-returns
+returns : tie.Need-returns-then-end-from
 returns c =
     let run = c.before.before.before in
-    rw c.no-digits.ensures
-    (other_says (begun run) c.before.word-end.result c.before.word-end.ensures
-    (λ _. c.before.before.if1.true))
+    rw c.no_digits.ensures
+    (other_says (begun run) c.before.word_end.result c.before.word_end.ensures
+    (λ _. c.before.before.if-end-from.true))
 
-returns-2 : tie.Need-returns-2
+returns-2 : tie.Need-returns-then-not-ends_word
 returns-2 c =
     let ended = c.before in
     let run = ended.before.before.before.before in
-    let goes = sym ended.before.before.ends-word.ensures ∙ not-true _ ended.before.if2.true in
-    rw c.no-digits2.ensures
-    (other_says (begun run) ended.word-end2.result ended.word-end2.ensures
+    let goes = sym ended.before.before.ends_word.ensures ∙ ended.before.if-not-ends_word.true in
+    rw c.no_digits-then-not-ends_word.ensures
+    (other_says (begun run) ended.word_end-then-not-ends_word.result ended.word_end-then-not-ends_word.ensures
     (λ stop. absurd (true_false stop goes)))
 
 -- digits alone are behind the sign
-some : (c : tie.Else2)
-    → let run = c.before.before.before in run.before.behind-sign.result < run.read-digits.result.end
+some : (c : tie.Else-not-ends_word)
+    → let run = c.before.before.before in run.before.behind_sign-from.result < run.read_digits-run.result.end
 some c =
     let run = c.before.before.before in
-    omega (arith, run.read-digits.ensures.after, c.before.before.if1.false)
+    omega (arith, run.read_digits-run.ensures.after, c.before.before.if-end-from.false)
 
-stops : (c : tie.Else2)
+stops : (c : tie.Else-not-ends_word)
     → let run = c.before.before.before in
-    is_break (drop run.read-digits.result.end run.before.before.before.before.args.s.now) ≡ true
-stops c = sym c.before.ends-word.ensures ∙ not-false _ c.if2.false
+    is_break (drop run.read_digits-run.result.end run.before.before.before.before.args.s.now) ≡ true
+stops c = sym c.before.ends_word.ensures ∙ c.if-not-ends_word.false
 
-returns-3 : tie.Need-returns-3
+returns-3 : tie.Need-returns-then-value-ne0
 returns-3 c =
     let alone = c.before.before.before.before in
     let run = alone.before.before.before in
-    rw c.no-digits3.ensures
-    (negative_says (begun run) (some alone) (stops alone) c.before.before.if3.true c.before.if4.true)
+    rw c.no_digits-then-value-ne0.ensures
+    (negative_says (begun run) (some alone) (stops alone) c.before.before.if-s-start-eq45.true c.before.if-value-ne0.true)
 
-returns-4 : tie.Need-returns-4
+returns-4 : tie.Need-returns-else-value-ne0
 returns-4 c =
     let alone = c.before.before.before in
     let run = alone.before.before.before in
-    zero_says (begun run) (some alone) (stops alone) c.before.if3.true c.if4.false
+    zero_says (begun run) (some alone) (stops alone) c.before.if-s-start-eq45.true c.if-value-ne0.false
 
-returns-5 : tie.Need-returns-5
+returns-5 : tie.Need-returns-else-s-start-eq45
 returns-5 c =
     let alone = c.before.before in
     let run = alone.before.before.before in
-    plain_says (begun run) (some alone) (stops alone) c.if3.false
+    plain_says (begun run) (some alone) (stops alone) c.if-s-start-eq45.false
 
-pub read-number-spec : {M : Type 1} → statement M
-read-number-spec =
+pub read_number_spec : {M : Type 1} → statement M
+read_number_spec =
     tie.close
     (tie.spec
-    (λ c κs. search rules)  -- skip-space-requires
-    (λ c κs. search rules)  -- behind-sign-requires
+    (λ c κs. search rules)  -- skip_space-start-requires
+    (λ c κs. search rules)  -- behind_sign-from-requires
     read-digits-requires
-    (λ c κs. search rules)  -- word-end-requires
-    (λ c κs. search rules)  -- no-digits-requires
+    (λ c κs. search rules)  -- word_end-requires
+    (λ c κs. search rules)  -- no_digits-requires
     returns
-    (λ c κs. search rules)  -- ends-word-requires
-    (λ c κs. search rules)  -- word-end-requires-2
-    (λ c κs. search rules)  -- no-digits-requires-2
+    (λ c κs. search rules)  -- ends_word-requires
+    (λ c κs. search rules)  -- word_end-requires-then-not-ends_word
+    (λ c κs. search rules)  -- no_digits-requires-then-not-ends_word
     returns-2
-    (λ c. search rules)  -- shared-slice-read-if3
-    (λ c κs. search rules)  -- no-digits-requires-3
+    (λ c. search rules)  -- bounds-s-start
+    (λ c κs. search rules)  -- no_digits-requires-then-value-ne0
     returns-3
     returns-4
     returns-5)

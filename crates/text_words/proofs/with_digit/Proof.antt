@@ -6,21 +6,21 @@ use Rattle.text_words.proofs.Values.{digit_low, digit_high}
 use Rattle.text_words.proofs.with_digit.Statement.{statement}
 use Rattle.text_words.proofs.with_digit.Tie as tie
 
-sub-digit : tie.Need-overflow-sub-digit
+sub-digit : tie.Need-overflow_sub-digit
 sub-digit c = omega (arith, digit_low c.before.args.b c.before.requires)
 
-add-result : tie.Need-overflow-add-result
+add-result : tie.Need-overflow_add-result
 add-result c = omega (arith, digit_high c.before.args.b c.before.requires)
 
-returns : tie.Need-returns
+returns : tie.Need-returns-then-value-lt-ROOM
 returns c = omega (arith, digit_high c.before.args.b c.before.requires)
 
-pub with-digit-spec : {M : Type 1} → statement M
-with-digit-spec =
+pub with_digit_spec : {M : Type 1} → statement M
+with_digit_spec =
     tie.close
     (tie.spec
     sub-digit
-    (λ c. search rules)  -- mul-result
+    (λ c. search rules)  -- overflow_mul-result
     add-result
     returns
-    (λ c. search rules))  -- returns-2
+    (λ c. search rules))  -- returns  -- returns-2

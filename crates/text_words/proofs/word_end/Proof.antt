@@ -11,45 +11,45 @@ use Rattle.text_words.proofs.Places.{break_here, break_end, solid_more}
 use Rattle.text_words.proofs.word_end.Statement.{statement}
 use Rattle.text_words.proofs.word_end.Tie as tie
 
-abbrev invariant-loop : tie.invariant-loop
+abbrev invariant-loop : tie.invariant-loop-i
 invariant-loop s at i₀ i = (at ≤ i) × (i ≤ length s) × (is_solid (part s at i) ≡ true)
 
-abbrev decreases-loop : tie.decreases-loop
+abbrev decreases-loop : tie.decreases-loop-i
 decreases-loop s at i₀ i = length s - i
 
-loop-holds : tie.Need-loop-init invariant-loop decreases-loop
+loop-holds : tie.Need-loop-i-init invariant-loop decreases-loop
 unfolding is_solid
 loop-holds c =
     let a = c.before.args in
     (omega arith, omega arith, ap is_solid (part_empty a.s.now a.at))
 
-returns : tie.Need-returns invariant-loop decreases-loop
+returns : tie.Need-returns-then-is_space invariant-loop decreases-loop
 returns c =
     let turn = c.before.before.before in
-    let w = turn.before.loop in
+    let w = turn.before.loop-i in
     record {
       after = w.invariant.0;
       within = w.invariant.1;
       solid = w.invariant.2;
       stop =
-          break_here turn.before.before.before.args.s.now w.i turn.loop-test.true
-          ∙ sym c.before.is-space.ensures ∙ c.if1.true;
+          break_here turn.before.before.before.args.s.now w.i turn.loop-i-test.true
+          ∙ sym c.before.is_space.ensures ∙ c.if-is_space.true;
     }
 
-loop-again : tie.Need-loop-preserved invariant-loop decreases-loop
+loop-again : tie.Need-loop-i-preserved invariant-loop decreases-loop
 loop-again c =
     let turn = c.before.before.before in
     let a = turn.before.before.before.args in
-    let w = turn.before.loop in (
+    let w = turn.before.loop-i in (
       omega arith,
       omega arith,
-      solid_more a.s.now a.at w.i w.invariant.0 turn.loop-test.true w.invariant.2
-          (sym c.before.is-space.ensures ∙ c.if1.false),
+      solid_more a.s.now a.at w.i w.invariant.0 turn.loop-i-test.true w.invariant.2
+          (sym c.before.is_space.ensures ∙ c.if-is_space.false),
     )
 
-returns-2 : tie.Need-returns-2 invariant-loop decreases-loop
+returns-2 : tie.Need-returns invariant-loop decreases-loop
 returns-2 c =
-    let w = c.before.loop in
+    let w = c.before.loop-i in
     record {
       after = w.invariant.0;
       within = w.invariant.1;
@@ -57,17 +57,17 @@ returns-2 c =
       stop = break_end c.before.before.before.args.s.now w.i (omega arith);
     }
 
-pub word-end-spec : {M : Type 1} → statement M
-word-end-spec =
+pub word_end_spec : {M : Type 1} → statement M
+word_end_spec =
     tie.close
     (tie.spec
     invariant-loop
     decreases-loop
     loop-holds
-    (λ c. omega arith)  -- shared-slice-read-is-space
-    (λ c κs. search rules)  -- is-space-requires
+    (λ c. omega arith)  -- bounds-s-i
+    (λ c κs. search rules)  -- is_space-requires
     returns
-    (λ c. omega arith)  -- add-i
-    (λ c. omega arith)  -- loop-less
+    (λ c. omega arith)  -- overflow_add-i
+    (λ c. omega arith)  -- loop-i-smaller
     loop-again
     returns-2)

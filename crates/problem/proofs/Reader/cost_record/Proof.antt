@@ -109,7 +109,7 @@ module _ {M : Type 1} {𝓤 : Ura M} (𝓛 : Logic 𝓤) (mem : Memory → SProp
     )
 
     goes : d.at < 2 ^ 64 → Whole z.now d.bytes.now d.at × All DomainSize z.now
-        → ent 𝓤 (⋆ 𝓛 (Tokens ∷ ‵ (OwnedSlice u8 α d.bytes) ∷ ‵ Sizes ∷ [])) (FieldsAt.pre to)
+        → ent 𝓤 (⋆ 𝓛 (Tokens ∷ ‵ (OwnedSlice u8 α d.bytes) ∷ ‵ Sizes ∷ [])) (FieldsAt.requires to)
     goes fits asked =
         qed 𝓛 (Tokens ∷ ‵ (OwnedSlice u8 α d.bytes) ∷ ‵ Sizes ∷ []) ∵ says ! asked $ frame ! $
         nothing ! $ move ! (2 ∷ 0 ∷ []) $ fjoin ! $ number ! d.at fits $ fjoin ! $ move ! (1 ∷ 0 ∷ []) $ fjoin ! $
@@ -148,7 +148,7 @@ module _ {M : Type 1} {𝓤 : Ura M} (𝓛 : Logic 𝓤) (mem : Memory → SProp
         move ! (11 ∷ []) $ fsplit ! $ use1 𝓛 (‵ (OwnedSlice u8 α d.bytes) ⊛ ‵ (Owned α d)) (bytes_of α 𝓛 d) $
         split ! $
         move ! (2 ∷ []) $ fsplit ! $ twice ! u8 (named_lft 2 1 tt κs) z $
-        move ! (15 ∷ 3 ∷ 0 ∷ []) $ use3 𝓛 (raw (FieldsAt.pre to)) (goes wt.1.1.0.fits asked) $
+        move ! (15 ∷ 3 ∷ 0 ∷ []) $ use3 𝓛 (raw (FieldsAt.requires to)) (goes wt.1.1.0.fits asked) $
         -- [what `fields_at` asks; sizes; true; the reader; _4; …]
         answers ! (fm_of 𝓤 H 𝓛.laws 𝓣) callee.ended (callee.clauses 𝓛 mem run) known to Tokens (id⊢ 𝓤 _) Said
         (λ r ws. id⊢ 𝓤 _) (and_then ! (load ! (from ! (stop !)) (look ! 6 refl)) (and_then ! (load ! (from ! (stop !))
@@ -180,9 +180,9 @@ module _ {M : Type 1} {𝓤 : Ura M} (𝓛 : Logic 𝓤) (mem : Memory → SProp
       are.0).0
       are.1.0)))
 
-pub cost-record-spec : {M : Type 1} → stated.statement M
+pub cost_record_spec : {M : Type 1} → stated.statement M
 unfolding code.routine tables_of
-cost-record-spec 𝓤 𝓛 𝓜 𝓡 =
+cost_record_spec 𝓤 𝓛 𝓜 𝓡 =
     entered 𝓤 𝓛.H (triple_of 𝓛 f.signature (f.spec 𝓛 𝓜.mem 𝓡.run))
     (tables 𝓤 𝓛.H 𝓜 𝓡 code.env).C (tables 𝓤 𝓛.H 𝓜 𝓡 code.env).Λ #cost-record code.function (code.unfolded 𝓤 𝓛.H 𝓜 𝓡)
     (meets 𝓛 𝓜.mem 𝓡.run (tables_of 𝓤 𝓛.H 𝓜 (tables 𝓤 𝓛.H 𝓜 𝓡 code.env))

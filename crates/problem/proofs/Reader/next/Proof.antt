@@ -49,10 +49,10 @@ use Rattle.problem.specs.contracts.Reader as T
 use Rattle.problem.proofs.Reader.TheLaws as T'
 use Rattle.problem.proofs.Walks.{slice_of, OwnedSlice, number, twice, answers}
 use Rattle.problem.proofs.Readers.{reader_of, Owned, bytes_of, reader_of_lem}
-use Rattle.problem.specs.contracts.next_place as callee
-use Rattle.problem.proofs.next_place.Symbol as callee-def
-use Rattle.problem.proofs.next_place.Symbol.{name as #next-place}
-use Rattle.problem.proofs.next_place.Met as callee-thm
+use Rattle.problem.specs.contracts.next_place-at as callee
+use Rattle.problem.proofs.next_place-at.Symbol as callee-def
+use Rattle.problem.proofs.next_place-at.Symbol.{name as #next-place}
+use Rattle.problem.proofs.next_place-at.Met as callee-thm
 use Rattle.problem.specs.contracts.Reader.next.Key.{name as #next}
 use Rattle.problem.specs.contracts.Reader.next as f
 use Rattle.problem.proofs.Reader.next.Statement as stated
@@ -115,7 +115,7 @@ module _ {M : Type 1} {𝓤 : Ura M} (𝓛 : Logic 𝓤) (mem : Memory → SProp
     )
 
     goes : d.at < 2 ^ 64 → Asked
-        → ent 𝓤 (⋆ 𝓛 (Tokens ∷ ‵ (OwnedSlice u8 α d.bytes) ∷ ‵ Sizes ∷ [])) (NextPlace.pre to)
+        → ent 𝓤 (⋆ 𝓛 (Tokens ∷ ‵ (OwnedSlice u8 α d.bytes) ∷ ‵ Sizes ∷ [])) (NextPlace.requires to)
     goes at-fits asked =
         qed 𝓛 (Tokens ∷ ‵ (OwnedSlice u8 α d.bytes) ∷ ‵ Sizes ∷ []) ∵ says ! asked $ frame ! $
         nothing ! $ move ! (2 ∷ 0 ∷ []) $ fjoin ! $ number ! d.at at-fits $ fjoin ! $ move ! (1 ∷ 0 ∷ []) $ fjoin ! $
@@ -158,7 +158,7 @@ module _ {M : Type 1} {𝓤 : Ura M} (𝓛 : Logic 𝓤) (mem : Memory → SProp
         move ! (15 ∷ []) $ fsplit ! $ use1 𝓛 (‵ (OwnedSlice u8 α d.bytes) ⊛ ‵ (Owned α d)) (bytes_of α 𝓛 d) $
         split ! $
         move ! (2 ∷ []) $ fsplit ! $ twice ! u8 (named_lft 2 1 tt κs) z $
-        move ! (19 ∷ 3 ∷ 0 ∷ []) $ use3 𝓛 (raw (NextPlace.pre to)) (goes wt.1.1.0.fits asked) $
+        move ! (19 ∷ 3 ∷ 0 ∷ []) $ use3 𝓛 (raw (NextPlace.requires to)) (goes wt.1.1.0.fits asked) $
         -- [what `next_place` asks; sizes; true; the reader; _6; …]
         answers ! (fm_of 𝓤 H 𝓛.laws 𝓣) callee.ended (callee.clauses 𝓛 mem run) known to Tokens (id⊢ 𝓤 _) Said
         (λ at ws. id⊢ 𝓤 _) (and_then ! (load ! (from ! (stop !)) (look ! 8 refl)) (and_then ! (load ! (from ! (stop !))
@@ -200,9 +200,9 @@ module _ {M : Type 1} {𝓤 : Ura M} (𝓛 : Logic 𝓤) (mem : Memory → SProp
       are.0).0
       are.1.0)))
 
-pub next-spec : {M : Type 1} → stated.statement M
+pub next_spec : {M : Type 1} → stated.statement M
 unfolding code.routine tables_of
-next-spec 𝓤 𝓛 𝓜 𝓡 =
+next_spec 𝓤 𝓛 𝓜 𝓡 =
     entered 𝓤 𝓛.H (triple_of 𝓛 f.signature (f.spec 𝓛 𝓜.mem 𝓡.run))
     (tables 𝓤 𝓛.H 𝓜 𝓡 code.env).C (tables 𝓤 𝓛.H 𝓜 𝓡 code.env).Λ #next code.function (code.unfolded 𝓤 𝓛.H 𝓜 𝓡)
     (meets 𝓛 𝓜.mem 𝓡.run (tables_of 𝓤 𝓛.H 𝓜 (tables 𝓤 𝓛.H 𝓜 𝓡 code.env))
