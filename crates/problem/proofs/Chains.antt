@@ -50,8 +50,8 @@ same_verdict p q = rw (p, q)
 
 -- ## a branch on `!r`, where r says that a field is not outside its limits
 
-pub denied : {r : Bool} (t : Bool) → r ≡ not t → not r ≡ true → t ≡ true
-denied t e h = not-false t (sym e ∙ not-true _ h)
+pub denied : {r : Bool} (t : Bool) → r ≡ not t → r ≡ false → t ≡ true
+denied t e h = not-false t (sym e ∙ h)
 
-pub allowed : {r : Bool} (t : Bool) → r ≡ not t → not r ≡ false → t ≡ false
-allowed t e h = not-true t (sym e ∙ not-false _ h)
+pub allowed : {r : Bool} (t : Bool) → r ≡ not t → r ≡ true → t ≡ false
+allowed t e h = not-true t (sym e ∙ h)

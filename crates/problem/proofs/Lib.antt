@@ -15,10 +15,6 @@ pub mod Scopes
 pub mod DomainSteps
 pub mod TableSteps
 pub mod RecordPlaces
--- walks by hand, of a reader
-pub mod Walks
-pub mod Readers
-pub mod ByReader
 -- the whole
 pub mod Parts
 pub mod Accepted

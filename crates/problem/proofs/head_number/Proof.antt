@@ -5,7 +5,7 @@ use mathlib.Core.List.{List}
 use Prim.Native.Nat.{ℕ, ◌≤◌}
 use native.Mathlib.Omega.{arith}
 use borrow.Author.Rules.{rules}
-use borrow.Author.Tests.{leb-true, leb-false, not-true, not-false}
+use borrow.Author.Tests.{leb-true, leb-false}
 use Rattle.model.specs.Limits.{max_variables, max_objectives, max_tables}
 use Rattle.model.specs.Encoding.{letter_h, letter_d}
 use Rattle.model.specs.Reading.{start_number, outside, head_variables, head_objectives, head_tables}

@@ -6,7 +6,7 @@ use native.Mathlib.Omega.{arith}
 use lib.ListN.{length}
 use lib.Seq.{length-take-le}
 use borrow.Author.Rules.{rules}
-use borrow.Author.Tests.{ne_eqb, leb-true, leb-false, not-true, not-false}
+use borrow.Author.Tests.{ne_eqb, leb-true, leb-false}
 use Rattle.model.specs.Limits.{max_bytes}
 use Rattle.model.specs.Refusals.{oversize}
 use Rattle.model.specs.Reading.{head_variables, head_length, head_number}

@@ -7,7 +7,7 @@ use native.Mathlib.Omega.{arith}
 use lib.ListN.{length, get_or, drop, length-drop}
 use lib.Seq.{get_or-drop}
 use borrow.Author.Rules.{rules}
-use borrow.Author.Tests.{ne_eqb, leb-true, leb-false, not-true, not-false}
+use borrow.Author.Tests.{ne_eqb, leb-true, leb-false}
 use Rattle.model.specs.Limits.{max_arity}
 use Rattle.model.specs.Refusals.{cut_short, bad_owner, bad_arity, bad_scope}
 use Rattle.model.specs.Problems.{InRange, scope_rule}

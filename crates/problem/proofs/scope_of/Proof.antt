@@ -1,5 +1,5 @@
 -- `problem::scope_of` meets its contract: the variables of a scope stand from byte 4 of its record on.
-use mathlib.Core.Path.{◌≡◌, ◌∙◌, sym}
+use mathlib.Core.Path.{◌≡◌, sym}
 use Prim.Native.Nat.{◌+◌, ◌-◌}
 use native.Mathlib.Omega.{arith}
 use borrow.Author.Rules.{rules}
@@ -13,7 +13,7 @@ returns : tie.Need-returns
 returns c =
     let a = c.before.before.before.args in
     let read = c.before.arity_at-a in
-    let long : a.at + 4 + read.result-1 - (a.at + 4) ≡ table_arity (drop a.at a.s.now) =
+    let long : a.at + 4 + read.result - (a.at + 4) ≡ table_arity (drop a.at a.s.now) =
     omega (arith, read.ensures) in
     rw long (sym (scope_taken a.s.now a.at))
 
