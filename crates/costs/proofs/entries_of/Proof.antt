@@ -4,18 +4,18 @@ use borrow.Author.Rules.{rules}
 use Rattle.costs.proofs.entries_of.Statement.{statement}
 use Rattle.costs.proofs.entries_of.Tie as tie
 
-arity-at-requires : tie.Need-arity-at-requires
+arity-at-requires : tie.Need-arity_at-a-requires
 arity-at-requires c κs =
     let s = c.before.before in
     whole_inside s.args.sizes.now s.args.s.now s.args.at s.requires.0
 
-size-of-requires : tie.Need-size-of-requires
+size-of-requires : tie.Need-size_of-requires
 size-of-requires c κs =
     let start = c.before.before.before in
     let s = start.args.s.now in
     let at = start.args.at in
     let w = start.requires.0 in
-    rw c.arity-at.ensures (
+    rw c.arity_at-a.ensures (
       whole_inside start.args.sizes.now s at w,
       w.few,
       rw (scope_taken s at) at w.range,
@@ -25,13 +25,13 @@ size-of-requires c κs =
 returns : tie.Need-returns
 returns c =
     let a = c.before.before.before.before.args in
-    rw (scope_taken a.s.now a.at) (rw c.before.arity-at.ensures at c.type_size.ensures.0)
+    rw (scope_taken a.s.now a.at) (rw c.before.arity_at-a.ensures at c.size_of.ensures.0)
 
-pub entries-of-spec : {M : Type 1} → statement M
-entries-of-spec =
+pub entries_of_spec : {M : Type 1} → statement M
+entries_of_spec =
     tie.close
     (tie.spec
     arity-at-requires
-    (λ c. search rules)  -- add-size-of
+    (λ c. search rules)  -- overflow_add-at
     size-of-requires
     returns)

@@ -13,12 +13,12 @@ returns c =
     let read = c.before in
     let a = read.before.before.before.before.args in
     let weighs = core_least a.sizes.now a.prefix.now (table_of a.sizes.now (drop a.at a.s.now)) in
-    (c.weigh.ensures.0 ∙ ap entry read.least-number.ensures ∙ sym weighs, c.weigh.ensures.1)
+    (c.weigh.ensures.0 ∙ ap entry read.least_number.ensures ∙ sym weighs, c.weigh.ensures.1)
 
-pub least-at-spec : {M : Type 1} → statement M
-least-at-spec =
+pub least_at_spec : {M : Type 1} → statement M
+least_at_spec =
     tie.close
     (tie.spec
-    (λ c κs. search rules)  -- least-number-requires
+    (λ c κs. search rules)  -- least_number-requires
     (λ c κs. search rules)  -- weigh-requires
     returns)

@@ -8,12 +8,12 @@ use Rattle.costs.proofs.least_number.Tie as tie
 
 returns : tie.Need-returns
 unfolding least_of table_of
-returns c = c.least-in.ensures ∙ c.before.runs-at.ensures.least
+returns c = c.least_in.ensures ∙ c.before.runs_at-runs.ensures.least
 
-pub least-number-spec : {M : Type 1} → statement M
-least-number-spec =
+pub least_number_spec : {M : Type 1} → statement M
+least_number_spec =
     tie.close
     (tie.spec
-    (λ c κs. search rules)  -- runs-at-requires
-    (λ c κs. search rules)  -- least-in-requires
+    (λ c κs. search rules)  -- runs_at-runs-requires
+    (λ c κs. search rules)  -- least_in-requires
     returns)

@@ -14,69 +14,69 @@ use Rattle.costs.proofs.RunSteps.{running_free, running_value, running_fixed, ru
 use Rattle.costs.proofs.runs_at.Statement.{statement}
 use Rattle.costs.proofs.runs_at.Tie as tie
 
-abbrev invariant-loop : tie.invariant-loop
+abbrev invariant-loop : tie.invariant-loop-k
 invariant-loop s at sizes prefix a first₀ count₀ rows₀ stride₀ k₀ first count rows stride k =
     Running sizes prefix s at k first count rows stride
 
-abbrev decreases-loop : tie.decreases-loop
+abbrev decreases-loop : tie.decreases-loop-k
 decreases-loop s at sizes prefix a first₀ count₀ rows₀ stride₀ k₀ first count rows stride k = a - k
 
 -- ## the places: the arity is read, a variable is read, it has a value in the prefix
 
 abbrev Headed : Type 0
-Headed = tie.After-arity-at invariant-loop decreases-loop
+Headed = tie.After-arity_at-a invariant-loop decreases-loop
 
 abbrev start : Headed → tie.Start invariant-loop decreases-loop
 start c = c.before.before.before.before
 
 abbrev Turn : Type 0
-Turn = tie.In-loop invariant-loop decreases-loop
+Turn = tie.In-loop-k invariant-loop decreases-loop
 
 abbrev head : Turn → Headed
 head c = c.before.before
 
 abbrev Read : Type 0
-Read = tie.After-scope-at invariant-loop decreases-loop
+Read = tie.After-scope_at-v invariant-loop decreases-loop
 
 abbrev Valued : Type 0
-Valued = tie.After-shared-slice-known5 invariant-loop decreases-loop
+Valued = tie.After-shared_slice_known-in-loop-k-2-1 invariant-loop decreases-loop
 
 abbrev read : Valued → Read
 read c = c.before.before.before
 
 -- ## what is known there
 
-more : (c : Turn) → let a = (start (head c)).args in c.before.loop.k < table_arity (drop a.at a.s.now)
-more c = rw (← (head c).arity-at.ensures) c.loop-test.true
+more : (c : Turn) → let a = (start (head c)).args in c.before.loop-k.k < table_arity (drop a.at a.s.now)
+more c = rw (← (head c).arity_at-a.ensures) c.loop-k-test.true
 
 abbrev domain : Read → ℕ
-domain c = get_or (start (head c.before)).args.sizes.now c.scope-at.result 0
+domain c = get_or (start (head c.before)).args.sizes.now c.scope_at-v.result 0
 
-exists : (c : Read) → c.scope-at.result < length (start (head c.before)).args.sizes.now
+exists : (c : Read) → c.scope_at-v.result < length (start (head c.before)).args.sizes.now
 exists c =
     let s = start (head c.before) in
-    rw c.scope-at.ensures
-    (variable_exists s.args.sizes.now s.args.s.now s.args.at s.pre.0 c.before.before.loop.k
+    rw c.scope_at-v.ensures
+    (variable_exists s.args.sizes.now s.args.s.now s.args.at s.requires.0 c.before.before.loop-k.k
     (more c.before))
 
 size : (c : Read) → DomainSize (domain c)
 size c =
     let s = start (head c.before) in
-    rw c.scope-at.ensures
-    (variable_size s.args.sizes.now s.args.s.now s.args.at s.pre.0 c.before.before.loop.k
-    (more c.before) s.pre.1)
+    rw c.scope_at-v.ensures
+    (variable_size s.args.sizes.now s.args.s.now s.args.at s.requires.0 c.before.before.loop-k.k
+    (more c.before) s.requires.1)
 
 fits : (c : Read)
-    → let w = c.before.before.loop in
+    → let w = c.before.before.loop-k in
     let long = length (start (head c.before)).args.s.now in
     (w.first * domain c + (w.rows - 1) * (w.stride * domain c) + w.count * domain c ≤ long)
     × (w.stride * domain c ≤ long)
 fits c =
     let s = start (head c.before) in
     let a = s.args in
-    let w = c.before.before.loop in
-    rw c.scope-at.ensures
-    (running_fits a.sizes.now a.prefix.now a.s.now a.at s.pre.0 s.pre.1 w.k w.first
+    let w = c.before.before.loop-k in
+    rw c.scope_at-v.ensures
+    (running_fits a.sizes.now a.prefix.now a.s.now a.at s.requires.0 s.requires.1 w.k w.first
     w.count w.rows w.stride w.invariant (more c.before))
 
 -- the variable's value, which the prefix has
@@ -84,117 +84,117 @@ module _ (c : Valued) where
   abbrev from : tie.Start invariant-loop decreases-loop
   from = start (head (read c).before)
 
-  within : let a = from.args in get_or (table_scope (drop a.at a.s.now)) (read c).before.before.loop.k 0
+  within : let a = from.args in get_or (table_scope (drop a.at a.s.now)) (read c).before.before.loop-k.k 0
       < length a.prefix.now
-  within = rw (read c).scope-at.ensures at c.before.if1.false
+  within = rw (read c).scope_at-v.ensures at c.before.if-prefix-v.false
 
-  below : get_or from.args.prefix.now (read c).scope-at.result 0 < domain (read c)
+  below : get_or from.args.prefix.now (read c).scope_at-v.result 0 < domain (read c)
   below =
-      prefix_below from.args.sizes.now from.args.prefix.now from.pre.2 (read c).scope-at.result
-      c.before.if1.false
+      prefix_below from.args.sizes.now from.args.prefix.now from.requires.2 (read c).scope_at-v.result
+      c.before.if-prefix-v.false
 
   value_fits :
-      (read c).before.before.loop.first * domain (read c)
-      + get_or from.args.prefix.now (read c).scope-at.result 0
+      (read c).before.before.loop-k.first * domain (read c)
+      + get_or from.args.prefix.now (read c).scope_at-v.result 0
       ≤ length from.args.s.now
   value_fits =
       let a = from.args in
-      let w = (read c).before.before.loop in
+      let w = (read c).before.before.loop-k in
       subst
       (λ (u : ℕ). w.first * get_or a.sizes.now u 0 + get_or a.prefix.now u 0 ≤ length a.s.now)
-      (sym (read c).scope-at.ensures)
-      (running_value a.sizes.now a.prefix.now a.s.now a.at from.pre.0 from.pre.1 w.k
-      w.first w.count w.rows w.stride w.inv (more (read c).before) within
-      (prefix_below a.sizes.now a.prefix.now from.pre.2 _ within))
+      (sym (read c).scope_at-v.ensures)
+      (running_value a.sizes.now a.prefix.now a.s.now a.at from.requires.0 from.requires.1 w.k
+      w.first w.count w.rows w.stride w.invariant (more (read c).before) within
+      (prefix_below a.sizes.now a.prefix.now from.requires.2 _ within))
 
 -- ## the needs, in the order of the code
 
-arity-at-requires : tie.Need-arity-at-requires invariant-loop decreases-loop
+arity-at-requires : tie.Need-arity_at-a-requires invariant-loop decreases-loop
 arity-at-requires c κs =
     let s = c.before.before.before in
     whole_inside s.args.sizes.now s.args.s.now s.args.at s.requires.0
 
-loop-holds : tie.Need-loop-init invariant-loop decreases-loop
+loop-holds : tie.Need-loop-k-init invariant-loop decreases-loop
 loop-holds c =
     let a = (start c).args in
     running_start a.sizes.now a.prefix.now a.s.now a.at
 
-scope-at-requires : tie.Need-scope-at-requires invariant-loop decreases-loop
+scope-at-requires : tie.Need-scope_at-v-requires invariant-loop decreases-loop
 scope-at-requires c κs =
     let s = start (head c) in
-    (whole_inside s.args.sizes.now s.args.s.now s.args.at s.pre.0, more c)
+    (whole_inside s.args.sizes.now s.args.s.now s.args.at s.requires.0, more c)
 
-add-k : tie.Need-overflow-add-k invariant-loop decreases-loop
-add-k c = omega (arith, more c.before.before, (start (head c.before.before)).pre.0.few)
+add-k : tie.Need-overflow_add-k invariant-loop decreases-loop
+add-k c = omega (arith, more c.before.before, (start (head c.before.before)).requires.0.few)
 
-loop-again : tie.Need-loop-preserved invariant-loop decreases-loop
+loop-again : tie.Need-loop-k-preserved-then-prefix-v invariant-loop decreases-loop
 loop-again c =
     let r = c.before.before in
     let s = start (head r.before) in
     let a = s.args in
-    let w = r.before.before.loop in
-    let is = r.scope-at.ensures in
+    let w = r.before.before.loop-k in
+    let is = r.scope_at-v.ensures in
     rw is
-    (running_free a.sizes.now a.prefix.now a.s.now a.at s.pre.0 s.pre.1 w.k w.first
-    w.count w.rows w.stride w.invariant (more r.before) (rw is at c.if1.true))
+    (running_free a.sizes.now a.prefix.now a.s.now a.at s.requires.0 s.requires.1 w.k w.first
+    w.count w.rows w.stride w.invariant (more r.before) (rw is at c.if-prefix-v.true))
 
-loop-again-2 : tie.Need-loop-preserved-2 invariant-loop decreases-loop
+loop-again-2 : tie.Need-loop-k-preserved-then-count-eq1 invariant-loop decreases-loop
 loop-again-2 c =
     let v = c.before in
     let r = read v in
     let s = start (head r.before) in
     let a = s.args in
-    let w = r.before.before.loop in
-    let is = r.scope-at.ensures in
+    let w = r.before.before.loop-k in
+    let is = r.scope_at-v.ensures in
     subst
     (λ (u : ℕ). Running a.sizes.now a.prefix.now a.s.now a.at (w.k + 1)
     (w.first * get_or a.sizes.now u 0 + get_or a.prefix.now u 0) w.count w.rows
     (w.stride * get_or a.sizes.now u 0))
     (sym is)
-    (running_fixed a.sizes.now a.prefix.now a.s.now a.at s.pre.0 s.pre.1 w.k w.first
-    w.count w.rows w.stride w.inv (more r.before) (within v)
-    (prefix_below a.sizes.now a.prefix.now s.pre.2 _ (within v))
-    c.if2.true)
+    (running_fixed a.sizes.now a.prefix.now a.s.now a.at s.requires.0 s.requires.1 w.k w.first
+    w.count w.rows w.stride w.invariant (more r.before) (within v)
+    (prefix_below a.sizes.now a.prefix.now s.requires.2 _ (within v))
+    c.if-count-eq1.true)
 
-loop-again-3 : tie.Need-loop-preserved-3 invariant-loop decreases-loop
+loop-again-3 : tie.Need-loop-k-preserved invariant-loop decreases-loop
 loop-again-3 c =
     let v = c.before in
     let r = read v in
     let s = start (head r.before) in
     let a = s.args in
-    let w = r.before.before.loop in
-    let is = r.scope-at.ensures in
+    let w = r.before.before.loop-k in
+    let is = r.scope_at-v.ensures in
     subst
     (λ (u : ℕ). Running a.sizes.now a.prefix.now a.s.now a.at (w.k + 1)
     (w.first * get_or a.sizes.now u 0 + get_or a.prefix.now u 0) 1 w.count (get_or a.sizes.now u 0))
     (sym is)
-    (running_split a.sizes.now a.prefix.now a.s.now a.at s.pre.0 s.pre.1 w.k w.first
-    w.count w.rows w.stride w.inv (more r.before) (within v)
-    (prefix_below a.sizes.now a.prefix.now s.pre.2 _ (within v))
-    c.if2.false)
+    (running_split a.sizes.now a.prefix.now a.s.now a.at s.requires.0 s.requires.1 w.k w.first
+    w.count w.rows w.stride w.invariant (more r.before) (within v)
+    (prefix_below a.sizes.now a.prefix.now s.requires.2 _ (within v))
+    c.if-count-eq1.false)
 
 returns : tie.Need-returns invariant-loop decreases-loop
 returns c =
     let h = c.before.before in
     let s = start h in
     let a = s.args in
-    let w = c.before.loop in
-    let end : w.k ≡ table_arity (drop a.at a.s.now) = omega (arith, h.arity-at.ensures, w.invariant.inside) in
+    let w = c.before.loop-k in
+    let end : w.k ≡ table_arity (drop a.at a.s.now) = omega (arith, h.arity_at-a.ensures, w.invariant.inside) in
     record {
       fit = record {
         some = w.invariant.some;
         row = w.invariant.row;
         inside =
-            running_inside a.sizes.now a.prefix.now a.s.now a.at s.pre.0 s.pre.1 w.k
+            running_inside a.sizes.now a.prefix.now a.s.now a.at s.requires.0 s.requires.1 w.k
             w.first w.count w.rows w.stride w.invariant;
       };
       least =
-          running_end a.sizes.now a.prefix.now a.s.now a.at s.pre.0 s.pre.1 w.k w.first
+          running_end a.sizes.now a.prefix.now a.s.now a.at s.requires.0 s.requires.1 w.k w.first
           w.count w.rows w.stride w.invariant end;
     }
 
-pub runs-at-spec : {M : Type 1} → statement M
-runs-at-spec =
+pub runs_at_spec : {M : Type 1} → statement M
+runs_at_spec =
     tie.close
     (tie.spec
     invariant-loop
@@ -202,19 +202,19 @@ runs-at-spec =
     arity-at-requires
     loop-holds
     scope-at-requires
-    (λ c. exists c.before)  -- shared-slice-read-d
-    (λ c. omega (arith, size c.before))  -- cast-d
+    (λ c. exists c.before)  -- bounds-sizes-v
+    (λ c. omega (arith, size c.before))  -- overflow_cast-d
     add-k
-    (λ c. omega (arith, fits c.before))  -- mul-first
-    (λ c. omega (arith, fits c.before))  -- mul-stride
-    (λ c. omega (arith, fits c.before.before))  -- mul-count
-    (λ c. omega arith)  -- loop-less
+    (λ c. omega (arith, fits c.before))  -- overflow_mul-first
+    (λ c. omega (arith, fits c.before))  -- overflow_mul-stride
+    (λ c. omega (arith, fits c.before.before))  -- overflow_mul-count
+    (λ c. omega arith)  -- loop-k-smaller-then-prefix-v
     loop-again
-    (λ c. omega (arith, c.before.if1.false))  -- shared-slice-read-first
-    (λ c. omega (arith, below c, size (read c)))  -- cast-first
-    (λ c. omega (arith, value_fits c))  -- add-first
-    (λ c. omega arith)  -- loop-less-2
+    (λ c. omega (arith, c.before.if-prefix-v.false))  -- bounds-prefix-v
+    (λ c. omega (arith, below c, size (read c)))  -- overflow_cast-first
+    (λ c. omega (arith, value_fits c))  -- overflow_add-first
+    (λ c. omega arith)  -- loop-k-smaller-then-count-eq1
     loop-again-2
-    (λ c. omega arith)  -- loop-less-3
+    (λ c. omega arith)  -- loop-k-smaller
     loop-again-3
     returns)

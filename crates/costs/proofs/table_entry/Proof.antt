@@ -15,10 +15,10 @@ returns c =
     let weighs = weighed_at (table_of a.sizes.now (drop a.at a.s.now)).costs a.i in
     (c.weigh.ensures.0 ∙ ap entry read.number_at.ensures ∙ sym weighs, c.weigh.ensures.1)
 
-pub table-entry-spec : {M : Type 1} → statement M
-table-entry-spec =
+pub table_entry_spec : {M : Type 1} → statement M
+table_entry_spec =
     tie.close
     (tie.spec
-    (λ c κs. search rules)  -- number-at-requires
+    (λ c κs. search rules)  -- number_at-requires
     (λ c κs. search rules)  -- weigh-requires
     returns)

@@ -4,13 +4,15 @@ use Rattle.model.specs.Core.{plain}
 use Rattle.costs.proofs.unweighed.Statement.{statement}
 use Rattle.costs.proofs.unweighed.Tie as tie
 
-returns : tie.Need-returns
+returns : tie.Need-returns-then-w-gt4294967295
 unfolding plain
 returns c = omega arith
 
-returns-2 : tie.Need-returns-2
+returns-2 : tie.Need-returns
 unfolding plain
 returns-2 c = omega arith
 
-pub unweighed-spec : {M : Type 1} → statement M
-unweighed-spec = tie.close (tie.spec returns returns-2)
+pub unweighed_spec : {M : Type 1} → statement M
+unweighed_spec = tie.close (tie.spec
+    returns
+    returns-2)
