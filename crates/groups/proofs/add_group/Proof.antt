@@ -19,64 +19,64 @@ use Rattle.groups.proofs.add_group.Reads as reads
 use Rattle.groups.proofs.add_group.Lts as lts
 use Rattle.problem.proofs.has_variable.Reads as has-variable-reads
 
-abbrev invariant-loop : tie.invariant-loop
+abbrev invariant-loop : tie.invariant-loop-i
 invariant-loop s sizes r v from work₀ end₀ i₀ work end i =
     Adding (touches s v) (group_of s v) work₀ r records_at from work end i
 
-abbrev decreases-loop : tie.decreases-loop
+abbrev decreases-loop : tie.decreases-loop-i
 decreases-loop s sizes r v from work₀ end₀ i₀ work end i = r - i
 
-loop-holds : tie.Need-loop-init invariant-loop decreases-loop
+loop-holds : tie.Need-loop-i-init invariant-loop decreases-loop
 loop-holds c =
     let a = c.before.before.before.args in
     let q = c.before.before.before.requires in
     adding_start (group_keeps a.s.now a.v)
     (group_apart a.sizes.now a.s.now a.work.now a.r q.0 a.v a.from q.2)
 
-add_at : tie.Need-overflow-add-at invariant-loop decreases-loop
+add_at : tie.Need-overflow_add-at invariant-loop decreases-loop
 add_at c = omega (arith, c.before.before.before.before.before.requires.0.few)
 
-mul_at : tie.Need-overflow-mul-at invariant-loop decreases-loop
+mul_at : tie.Need-offset_bounds-work-i invariant-loop decreases-loop
 mul_at c = omega (arith, c.before.before.before.before.before.requires.0.few)
 
-slice-read-at : tie.Need-slice-read-at invariant-loop decreases-loop
+slice-read-at : tie.Need-bounds-work-i invariant-loop decreases-loop
 slice-read-at c =
-    let u = c.before.before.loop.invariant in
+    let u = c.before.before.loop-i.invariant in
     omega (arith, u.parts.inside, adding_length u)
 
-cast-has-variable : tie.Need-overflow-cast-has-variable invariant-loop decreases-loop
-cast-has-variable c = omega (arith, c.slice-known2.given (records_at + c.before.before.loop.i))
+cast-has-variable : tie.Need-overflow_cast-at invariant-loop decreases-loop
+cast-has-variable c = omega (arith, c.slice_known-in-loop-i-1.given (records_at + c.before.before.loop-i.i))
 
-has-variable-requires : tie.Need-has-variable-requires invariant-loop decreases-loop
+has-variable-requires : tie.Need-has_variable-requires invariant-loop decreases-loop
 has-variable-requires c κs =
     let a = c.before.before.before.before.before.before.args in
     let q = c.before.before.before.before.before.before.requires in
     whole_inside a.sizes.now a.s.now _
-    (adding_has c.before.before.loop.invariant (omega arith) (Whole a.sizes.now a.s.now) q.0.whole)
+    (adding_has c.before.before.loop-i.invariant (omega arith) (Whole a.sizes.now a.s.now) q.0.whole)
 
 -- a place that is kept has room
-room : (c : lts.Then1 (has-variable-reads.Asked, has-variable-reads.Learnt) reads.Pre reads.Post invariant-loop decreases-loop)
-    → let w = c.before.before.before.before.loop in (w.end < records_at) × (records_at ≤ length w.work)
+room : (c : lts.Then-has_variable (has-variable-reads.Asked, has-variable-reads.Learnt) reads.Pre reads.Post invariant-loop decreases-loop)
+    → let w = c.before.before.before.before.loop-i in (w.end < records_at) × (records_at ≤ length w.work)
 room c =
     let q = c.before.before.before.before.before.before.before.before.requires in
-    let u = c.before.before.before.before.loop.invariant in
-    let has = sym c.before.has-variable.ensures ∙ c.if1.true in
+    let u = c.before.before.before.before.loop-i.invariant in
+    let has = sym c.before.has_variable.ensures ∙ c.if-has_variable.true in
     (omega (arith, adding_below u (omega arith) has, q.2), omega (arith, u.parts.inside, adding_length u))
 
-add-i : tie.Need-overflow-add-i invariant-loop decreases-loop
+add-i : tie.Need-overflow_add-i invariant-loop decreases-loop
 add-i c = omega (arith, c.before.before.before.before.before.before.before.before.requires.0.few)
 
-loop-again : tie.Need-loop-preserved invariant-loop decreases-loop
+loop-again : tie.Need-loop-i-preserved invariant-loop decreases-loop
 loop-again c =
-    let u = c.before.before.before.before.loop.invariant in
-    let says = sym c.before.has-variable.ensures in
+    let u = c.before.before.before.before.loop-i.invariant in
+    let says = sym c.before.has_variable.ensures in
     ⊎_elim
-    (λ t. rw (t.1, t.2) (adding_next u (omega arith) (says ∙ t.0.taken)))
-    (λ t. rw (t.1, t.2) (adding_skip u (omega arith) (says ∙ t.0.left)))
-    c.if1.branch
+    (λ t. rw (t.work-is, t.end-is) (adding_next u (omega arith) (says ∙ t.if-has_variable.true)))
+    (λ t. rw (t.work-is, t.end-is) (adding_skip u (omega arith) (says ∙ t.if-has_variable.false)))
+    c.if-has_variable.branch-raw
 
-pub add-group-spec : {M : Type 1} → statement M
-add-group-spec =
+pub add_group_spec : {M : Type 1} → statement M
+add_group_spec =
     tie.close
     (tie.spec
     invariant-loop
@@ -87,11 +87,11 @@ add-group-spec =
     slice-read-at
     cast-has-variable
     has-variable-requires
-    (λ c. omega (arith, room c))  -- mul-work
-    (λ c. omega (arith, room c))  -- slice-write-work
-    (λ c. omega (arith, room c))  -- add-end
+    (λ c. omega (arith, room c))  -- offset_bounds-work-end
+    (λ c. omega (arith, room c))  -- bounds-work-end
+    (λ c. omega (arith, room c))  -- overflow_add-end
     add-i
-    (λ c. omega arith)  -- loop-less
+    (λ c. omega arith)  -- loop-i-smaller
     loop-again
-    (λ c. adding_length c.before.loop.invariant)  -- same-length
-    (λ c. adding_end c.before.loop.invariant (omega arith)))  -- returns
+    (λ c. adding_length c.before.loop-i.invariant)  -- shape_of-work
+    (λ c. adding_end c.before.loop-i.invariant (omega arith)))  -- returns  -- returns

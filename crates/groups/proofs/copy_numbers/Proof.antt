@@ -10,50 +10,50 @@ use Rattle.groups.proofs.Adding.{Adding, all_apart, adding_start, adding_length,
 use Rattle.groups.proofs.copy_numbers.Statement.{statement}
 use Rattle.groups.proofs.copy_numbers.Tie as tie
 
-abbrev invariant-loop : tie.invariant-loop
+abbrev invariant-loop : tie.invariant-loop-i
 invariant-loop from to count work₀ i₀ work i = Adding (λ x. true) (λ xs. xs) work₀ count from to work (to + i) i
 
-abbrev decreases-loop : tie.decreases-loop
+abbrev decreases-loop : tie.decreases-loop-i
 decreases-loop from to count work₀ i₀ work i = count - i
 
-loop-holds : tie.Need-loop-init invariant-loop decreases-loop
+loop-holds : tie.Need-loop-i-init invariant-loop decreases-loop
 loop-holds c =
     let a = c.args in
     let q = c.requires in
     rw add-zero
     (adding_start copy_keeps (all_apart copy_keeps a.work.now a.count a.from a.to q.0 q.1 q.2))
 
-slice-read-work : tie.Need-slice-read-work invariant-loop decreases-loop
+slice-read-work : tie.Need-bounds-work-from invariant-loop decreases-loop
 slice-read-work c =
-    let u = c.before.before.loop.invariant in
+    let u = c.before.before.loop-i.invariant in
     omega (arith, u.parts.inside, adding_length u)
 
-loop-again : tie.Need-loop-preserved invariant-loop decreases-loop
+loop-again : tie.Need-loop-i-preserved invariant-loop decreases-loop
 loop-again c =
-    let w = c.before.before.loop in
+    let w = c.before.before.loop-i in
     rw add_assoc at (adding_next w.invariant (omega arith) refl)
 
 returns : tie.Need-returns invariant-loop decreases-loop
 returns c =
-    let w = c.before.loop in
+    let w = c.before.loop-i in
     let last : w.i ≡ c.before.before.args.count = omega (arith, w.invariant.fewer) in
     rw last at (adding_end w.invariant (omega arith)).1
 
-pub copy-numbers-spec : {M : Type 1} → statement M
-copy-numbers-spec =
+pub copy_numbers_spec : {M : Type 1} → statement M
+copy_numbers_spec =
     tie.close
     (tie.spec
     invariant-loop
     decreases-loop
     loop-holds
-    (λ c. omega (arith, c.before.loop.invariant.parts.inside))  -- add-work
-    (λ c. omega (arith, c.before.loop.invariant.parts.inside))  -- mul-work
+    (λ c. omega (arith, c.before.loop-i.invariant.parts.inside))  -- overflow_add-work
+    (λ c. omega (arith, c.before.loop-i.invariant.parts.inside))  -- offset_bounds-work-from
     slice-read-work
-    (λ c. omega arith)  -- add-work-2
-    (λ c. omega arith)  -- mul-work-2
-    (λ c. omega (arith, adding_length c.before.before.loop.invariant))  -- slice-write-work
-    (λ c. omega arith)  -- add-i
-    (λ c. omega arith)  -- loop-less
+    (λ c. omega arith)  -- overflow_add-work-in-loop-i
+    (λ c. omega arith)  -- offset_bounds-work-to
+    (λ c. omega (arith, adding_length c.before.before.loop-i.invariant))  -- bounds-work-to
+    (λ c. omega arith)  -- overflow_add-i
+    (λ c. omega arith)  -- loop-i-smaller
     loop-again
-    (λ c. adding_length c.before.loop.invariant)  -- same-length
+    (λ c. adding_length c.before.loop-i.invariant)  -- shape_of-work
     returns)

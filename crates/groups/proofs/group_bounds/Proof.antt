@@ -9,14 +9,14 @@ use Rattle.groups.proofs.PlacedRecords.{group_few}
 use Rattle.groups.proofs.group_bounds.Statement.{statement}
 use Rattle.groups.proofs.group_bounds.Tie as tie
 
-cast-from : tie.Need-overflow-cast-from
-cast-from c = omega (arith, c.shared-slice-known5.given c.before.before.before.before.before.args.v)
+cast-from : tie.Need-overflow_cast-from
+cast-from c = omega (arith, c.shared_slice_known-5-1.given c.before.before.before.before.before.args.v)
 
-cast-to : tie.Need-overflow-cast-to
+cast-to : tie.Need-overflow_cast-to
 cast-to c =
-    omega (arith, c.shared-slice-known6.given (c.before.before.before.before.before.before.args.v + 1))
+    omega (arith, c.shared_slice_known-6-1.given (c.before.before.before.before.before.before.args.v + 1))
 
-bounds-over-requires : tie.Need-bounds-over-requires
+bounds-over-requires : tie.Need-bounds_over-requires
 bounds-over-requires c κs =
     let a = c.before.before.before.before.before.before.args in
     let q = c.before.before.before.before.before.before.requires in
@@ -35,18 +35,18 @@ returns : tie.Need-returns
 returns c =
     let a = c.before.before.before.before.before.before.before.args in
     let q = c.before.before.before.before.before.before.before.requires in
-    rw (q.0.group a.v q.1) at c.bounds-over.ensures
+    rw (q.0.group a.v q.1) at c.bounds_over.ensures
 
-pub group-bounds-spec : {M : Type 1} → statement M
-group-bounds-spec =
+pub group_bounds_spec : {M : Type 1} → statement M
+group_bounds_spec =
     tie.close
     (tie.spec
-    (λ c. search rules)  -- mul-from
-    (λ c. search rules)  -- shared-slice-read-from
+    (λ c. search rules)  -- offset_bounds-work-v
+    (λ c. search rules)  -- bounds-work-v
     cast-from
-    (λ c. search rules)  -- add-to
-    (λ c. search rules)  -- mul-to
-    (λ c. search rules)  -- shared-slice-read-to
+    (λ c. search rules)  -- overflow_add-to
+    (λ c. search rules)  -- offset_bounds-work-v-2
+    (λ c. search rules)  -- bounds-work-v-2
     cast-to
     bounds-over-requires
     returns)
