@@ -24,84 +24,84 @@ taken {r = r} a = sym (length-take-le r.head.variables r.sizes (within a))
 
 -- ## the places: read, accepted, and the domain sizes lent to the test of the prefix
 
-abbrev bytes : tie.After-read-problem → List ℕ
+abbrev bytes : tie.After-read_problem-g → List ℕ
 bytes c = c.before.before.before.args.problem.now
 
-abbrev prefix : tie.After-read-problem → List ℕ
+abbrev prefix : tie.After-read_problem-g → List ℕ
 prefix c = c.before.before.before.args.prefix.now
 
-abbrev read_of : tie.Else1 → tie.After-read-problem
+abbrev read_of : tie.Else-g-ne0 → tie.After-read_problem-g
 read_of c = c.before.before
 
-accepted : (c : tie.Else1) → AcceptedReading (bytes (read_of c)) (read_of c).read-problem.result
+accepted : (c : tie.Else-g-ne0) → AcceptedReading (bytes (read_of c)) (read_of c).read_problem-g.result
 accepted c =
-    let g = (read_of c).read-problem in
-    read_accepted (bytes (read_of c)) g.result g.ensures c.if1.false
+    let g = (read_of c).read_problem-g in
+    read_accepted (bytes (read_of c)) g.result g.ensures c.if-g-ne0.false
 
-abbrev opened : tie.After-sizes → tie.Else1
+abbrev opened : tie.After-sizes-1 → tie.Else-g-ne0
 opened c = c.before.before.before
 
-abbrev tested : tie.After-prefix-ok → tie.Else1
+abbrev tested : tie.After-prefix_ok → tie.Else-g-ne0
 tested c = opened c.before.before
 
 -- ## a refused problem
 
-cast-t10 : tie.Need-overflow-cast-t10
+cast-t10 : tie.Need-overflow_cast-result
 cast-t10 c =
-    let read : tie.After-read-problem = c.before.before.before in
-    omega (arith, read.read-problem.ensures.place, place_limit (bytes read))
+    let read : tie.After-read_problem-g = c.before.before.before in
+    omega (arith, read.read_problem-g.ensures.place, place_limit (bytes read))
 
-returns : tie.Need-returns
+returns : tie.Need-returns-then-g-ne0
 returns c =
-    let read : tie.After-read-problem = c.before.before.before in
-    let g = read.read-problem in
+    let read : tie.After-read_problem-g = c.before.before.before in
+    let g = read.read_problem-g in
     refused_answer (bytes read) (prefix read) g.result.number g.result.place g.ensures.number
-    g.ensures.place c.before.if1.true
+    g.ensures.place c.before.if-g-ne0.true
 
 -- ## the prefix
 
-returns-2 : tie.Need-returns-2
+returns-2 : tie.Need-returns-then-not-prefix_ok
 returns-2 c =
     let a = accepted (tested c.before) in
-    prefix_answer _ a.none _ (rw (← a.domains) (sym c.before.prefix-ok.ensures ∙ not-true _ c.if2.true))
+    prefix_answer _ a.none _ (rw (← a.domains) (sym c.before.prefix_ok.ensures ∙ c.if-not-prefix_ok.true))
 
 -- ## the bound
 
-slice-aggregate-bounds-of : tie.Need-slice-aggregate-bounds-of
+slice-aggregate-bounds-of : tie.Need-slice_bounds-bounds_of-end
 slice-aggregate-bounds-of c = taken (accepted (tested c.before.before.before))
 
-bounds-of-requires : tie.Need-bounds-of-requires
+bounds-of-requires : tie.Need-bounds_of-least-requires
 bounds-of-requires c κs =
-    let started : tie.After-tables-start = c.before in
-    let good : tie.Else2 = started.before in
+    let started : tie.After-tables_start-start = c.before in
+    let good : tie.Else-not-prefix_ok = started.before in
     let a = accepted (tested good.before) in
-    let ok = sym good.before.prefix-ok.ensures ∙ not-false _ good.if2.false in
-    (rw started.tables_start.ensures a.whole, a.few_tables, a.small, ok)
+    let ok = sym good.before.prefix_ok.ensures ∙ good.if-not-prefix_ok.false in
+    (rw started.tables_start-start.ensures a.whole, a.few_tables, a.small, ok)
 
-returns-3 : tie.Need-returns-3
+returns-3 : tie.Need-returns
 returns-3 c =
-    let started : tie.After-tables-start = c.before.before in
-    let good : tie.Else2 = started.before in
+    let started : tie.After-tables_start-start = c.before.before in
+    let good : tie.Else-not-prefix_ok = started.before in
     let a = accepted (tested good.before) in
-    let ok = sym good.before.prefix-ok.ensures ∙ not-false _ good.if2.false in
-    let said = rw started.tables_start.ensures at c.bounds_of.ensures in
-    bound_answer _ a.none _ c.bounds_of.result (rw (← a.domains) ok)
+    let ok = sym good.before.prefix_ok.ensures ∙ good.if-not-prefix_ok.false in
+    let said = rw started.tables_start-start.ensures at c.bounds_of-least.ensures in
+    bound_answer _ a.none _ c.bounds_of-least.result (rw (← a.domains) ok)
     (rw (← a.domains, ← a.tables, ← a.objectives, ← a.variables) said)
 
-pub bound-of-spec : {M : Type 1} → statement M
-bound-of-spec =
+pub bound_of_spec : {M : Type 1} → statement M
+bound_of_spec =
     tie.close
     (tie.spec
-    (λ c κs. search rules)  -- read-problem-requires
+    (λ c κs. search rules)  -- read_problem-g-requires
     cast-t10
     returns
-    (λ c. search rules)  -- cast-n
-    (λ c. within (accepted (opened c)))  -- array-share-prefix-sizes
-    (λ c. taken (accepted (opened c.before)))  -- slice-aggregate-prefix-ok
-    (λ c κs. search rules)  -- prefix-ok-requires
+    (λ c. search rules)  -- overflow_cast-n
+    (λ c. within (accepted (opened c)))  -- slice_bounds-sizes-end
+    (λ c. taken (accepted (opened c.before)))  -- slice_bounds-prefix_ok-end
+    (λ c κs. search rules)  -- prefix_ok-requires
     returns-2
-    (λ c κs. search rules)  -- tables-start-requires
-    (λ c. within (accepted (tested c.before.before)))  -- array-share-prefix-sizes-2
+    (λ c κs. search rules)  -- tables_start-start-requires
+    (λ c. within (accepted (tested c.before.before)))  -- slice_bounds-sizes-end-2
     slice-aggregate-bounds-of
     bounds-of-requires
     returns-3)

@@ -11,52 +11,52 @@ use Rattle.vectors.proofs.Comparing.{comparing_end}
 use Rattle.rows.proofs.is_earlier_choice.Statement.{statement}
 use Rattle.rows.proofs.is_earlier_choice.Tie as tie
 
-abbrev invariant-loop : tie.invariant-loop
+abbrev invariant-loop : tie.invariant-loop-i
 invariant-loop n x y i₀ i = Comparing n x y i
 
-abbrev decreases-loop : tie.decreases-loop
+abbrev decreases-loop : tie.decreases-loop-i
 decreases-loop n x y i₀ i = n - i
 
-long_x : (s : tie.Start invariant-loop decreases-loop) → s.args.n ≤ length s.args.t1
-long_x s = array_front w8 max_variables s.args.t1 _ s.well-formed.0 s.args.n s.requires
+long_x : (s : tie.Start invariant-loop decreases-loop) → s.args.n ≤ length s.args.x
+long_x s = array_front w8 max_variables s.args.x _ s.well_formed.0 s.args.n s.requires
 
-long_y : (s : tie.Start invariant-loop decreases-loop) → s.args.n ≤ length s.args.t2
-long_y s = array_front w8 max_variables s.args.t2 _ s.well-formed.1.0 s.args.n s.requires
+long_y : (s : tie.Start invariant-loop decreases-loop) → s.args.n ≤ length s.args.y
+long_y s = array_front w8 max_variables s.args.y _ s.well_formed.1.0 s.args.n s.requires
 
-returns : tie.Need-returns invariant-loop decreases-loop
+returns : tie.Need-returns-then-x-i invariant-loop decreases-loop
 returns c =
     let s = c.before.before.before in
-    comparing_less c.before.before.loop.invariant (long_x s) (long_y s) (omega arith) c.if1.true
+    comparing_less c.before.before.loop-i.invariant (long_x s) (long_y s) (omega arith) c.if-x-i.true
 
-returns-2 : tie.Need-returns-2 invariant-loop decreases-loop
+returns-2 : tie.Need-returns-then-y-i invariant-loop decreases-loop
 returns-2 c =
     let s = c.before.before.before.before in
-    comparing_more c.before.before.before.loop.invariant (long_x s) (long_y s) (omega arith) c.if2.true
+    comparing_more c.before.before.before.loop-i.invariant (long_x s) (long_y s) (omega arith) c.if-y-i.true
 
-loop-again : tie.Need-loop-preserved invariant-loop decreases-loop
+loop-again : tie.Need-loop-i-preserved invariant-loop decreases-loop
 loop-again c =
     let s = c.before.before.before.before in
-    comparing_next c.before.before.before.loop.invariant (long_x s) (long_y s) (omega arith) (omega arith)
+    comparing_next c.before.before.before.loop-i.invariant (long_x s) (long_y s) (omega arith) (omega arith)
 
-returns-3 : tie.Need-returns-3 invariant-loop decreases-loop
+returns-3 : tie.Need-returns invariant-loop decreases-loop
 returns-3 c =
     let s = c.before.before in
-    comparing_end c.before.loop.invariant (long_x s) (long_y s) (omega arith)
+    comparing_end c.before.loop-i.invariant (long_x s) (long_y s) (omega arith)
 
-pub is-earlier-choice-spec : {M : Type 1} → statement M
-is-earlier-choice-spec =
+pub is_earlier_choice_spec : {M : Type 1} → statement M
+is_earlier_choice_spec =
     tie.close
     (tie.spec
     invariant-loop
     decreases-loop
-    (λ c. comparing_start c.args.n c.args.t1 c.args.t2)  -- loop-holds
-    (λ c. search rules)  -- array-read-if1
-    (λ c. search rules)  -- array-read-if1-2
+    (λ c. comparing_start c.args.n c.args.x c.args.y)  -- loop-i-init
+    (λ c. search rules)  -- bounds-x-i
+    (λ c. search rules)  -- bounds-y-i
     returns
-    (λ c. search rules)  -- array-read-if2
-    (λ c. search rules)  -- array-read-if2-2
+    (λ c. search rules)  -- bounds-y-i-in-loop-i
+    (λ c. search rules)  -- bounds-x-i-in-loop-i
     returns-2
-    (λ c. search rules)  -- add-i
-    (λ c. search rules)  -- loop-less
+    (λ c. search rules)  -- overflow_add-i
+    (λ c. search rules)  -- loop-i-smaller
     loop-again
     returns-3)

@@ -35,76 +35,76 @@ returns c =
     let value-1 = value-2.before in
     rw add-zero
     (ap₂ ◌∷◌ value-1.byte_of.ensures
-    (ap₂ ◌∷◌ value-2.byte-of2.ensures
-    (ap₂ ◌∷◌ value-3.byte-of3.ensures
-    (ap₂ ◌∷◌ value-4.byte-of4.ensures
-    (ap₂ ◌∷◌ value-5.byte-of5.ensures
-    (ap₂ ◌∷◌ value-6.byte-of6.ensures
-    (ap₂ ◌∷◌ value-7.byte-of7.ensures
-    (ap₂ ◌∷◌ value-8.byte-of8.ensures
-    (ap₂ ◌∷◌ value-9.byte-of9.ensures
-    (ap₂ ◌∷◌ value-10.byte-of10.ensures
-    (ap₂ ◌∷◌ value-11.byte-of11.ensures
-    (ap₂ ◌∷◌ value-12.byte-of12.ensures
-    (ap₂ ◌∷◌ value-13.byte-of13.ensures
-    (ap₂ ◌∷◌ value-14.byte-of14.ensures
-    (ap₂ ◌∷◌ value-15.byte-of15.ensures
-    (ap₂ ◌∷◌ value-16.byte-of16.ensures
-    (ap₂ ◌∷◌ value-17.byte-of17.ensures
-    (ap₂ ◌∷◌ value-18.byte-of18.ensures
-    (ap₂ ◌∷◌ value-19.byte-of19.ensures
-    (ap₂ ◌∷◌ value-20.byte-of20.ensures
-    (ap₂ ◌∷◌ value-21.byte-of21.ensures
-    (ap₂ ◌∷◌ value-22.byte-of22.ensures
-    (ap₂ ◌∷◌ value-23.byte-of23.ensures
-    (ap₂ ◌∷◌ c.byte-of24.ensures refl))))))))))))))))))))))))
+    (ap₂ ◌∷◌ value-2.byte_of-2.ensures
+    (ap₂ ◌∷◌ value-3.byte_of-3.ensures
+    (ap₂ ◌∷◌ value-4.byte_of-4.ensures
+    (ap₂ ◌∷◌ value-5.byte_of-5.ensures
+    (ap₂ ◌∷◌ value-6.byte_of-6.ensures
+    (ap₂ ◌∷◌ value-7.byte_of-7.ensures
+    (ap₂ ◌∷◌ value-8.byte_of-8.ensures
+    (ap₂ ◌∷◌ value-9.byte_of-9.ensures
+    (ap₂ ◌∷◌ value-10.byte_of-10.ensures
+    (ap₂ ◌∷◌ value-11.byte_of-11.ensures
+    (ap₂ ◌∷◌ value-12.byte_of-12.ensures
+    (ap₂ ◌∷◌ value-13.byte_of-13.ensures
+    (ap₂ ◌∷◌ value-14.byte_of-14.ensures
+    (ap₂ ◌∷◌ value-15.byte_of-15.ensures
+    (ap₂ ◌∷◌ value-16.byte_of-16.ensures
+    (ap₂ ◌∷◌ value-17.byte_of-17.ensures
+    (ap₂ ◌∷◌ value-18.byte_of-18.ensures
+    (ap₂ ◌∷◌ value-19.byte_of-19.ensures
+    (ap₂ ◌∷◌ value-20.byte_of-20.ensures
+    (ap₂ ◌∷◌ value-21.byte_of-21.ensures
+    (ap₂ ◌∷◌ value-22.byte_of-22.ensures
+    (ap₂ ◌∷◌ value-23.byte_of-23.ensures
+    (ap₂ ◌∷◌ c.byte_of-24.ensures refl))))))))))))))))))))))))
 
-pub row-choice-spec : {M : Type 1} → statement M
-row-choice-spec =
+pub row_choice_spec : {M : Type 1} → statement M
+row_choice_spec =
     tie.close
     (tie.spec
-    (λ c. search rules)  -- mul-at
-    (λ c. search rules)  -- add-at
-    (λ c. search rules)  -- add-at-2
-    (λ c. search rules)  -- mul-a
-    (λ c. search rules)  -- shared-slice-read-a
-    (λ c. search rules)  -- add-b
-    (λ c. search rules)  -- mul-b
-    (λ c. search rules)  -- shared-slice-read-b
-    (λ c. search rules)  -- add-c
-    (λ c. search rules)  -- mul-c
-    (λ c. search rules)  -- shared-slice-read-c
-    (λ c. search rules)  -- add-d
-    (λ c. search rules)  -- mul-d
-    (λ c. search rules)  -- shared-slice-read-d
-    (λ c. search rules)  -- add-e
-    (λ c. search rules)  -- mul-e
-    (λ c. search rules)  -- shared-slice-read-e
-    (λ c. search rules)  -- add-f
-    (λ c. search rules)  -- mul-f
-    (λ c. search rules)  -- shared-slice-read-f
-    (λ c κs. search rules)  -- byte-of-requires
-    (λ c κs. search rules)  -- byte-of-requires-2
-    (λ c κs. search rules)  -- byte-of-requires-3
-    (λ c κs. search rules)  -- byte-of-requires-4
-    (λ c κs. search rules)  -- byte-of-requires-5
-    (λ c κs. search rules)  -- byte-of-requires-6
-    (λ c κs. search rules)  -- byte-of-requires-7
-    (λ c κs. search rules)  -- byte-of-requires-8
-    (λ c κs. search rules)  -- byte-of-requires-9
-    (λ c κs. search rules)  -- byte-of-requires-10
-    (λ c κs. search rules)  -- byte-of-requires-11
-    (λ c κs. search rules)  -- byte-of-requires-12
-    (λ c κs. search rules)  -- byte-of-requires-13
-    (λ c κs. search rules)  -- byte-of-requires-14
-    (λ c κs. search rules)  -- byte-of-requires-15
-    (λ c κs. search rules)  -- byte-of-requires-16
-    (λ c κs. search rules)  -- byte-of-requires-17
-    (λ c κs. search rules)  -- byte-of-requires-18
-    (λ c κs. search rules)  -- byte-of-requires-19
-    (λ c κs. search rules)  -- byte-of-requires-20
-    (λ c κs. search rules)  -- byte-of-requires-21
-    (λ c κs. search rules)  -- byte-of-requires-22
-    (λ c κs. search rules)  -- byte-of-requires-23
-    (λ c κs. search rules)  -- byte-of-requires-24
+    (λ c. search rules)  -- overflow_mul-at
+    (λ c. search rules)  -- overflow_add-at
+    (λ c. search rules)  -- overflow_add-at-2
+    (λ c. search rules)  -- offset_bounds-work-at
+    (λ c. search rules)  -- bounds-work-at
+    (λ c. search rules)  -- overflow_add-b
+    (λ c. search rules)  -- offset_bounds-work-at-2
+    (λ c. search rules)  -- bounds-work-at-2
+    (λ c. search rules)  -- overflow_add-c
+    (λ c. search rules)  -- offset_bounds-work-at-3
+    (λ c. search rules)  -- bounds-work-at-3
+    (λ c. search rules)  -- overflow_add-d
+    (λ c. search rules)  -- offset_bounds-work-at-4
+    (λ c. search rules)  -- bounds-work-at-4
+    (λ c. search rules)  -- overflow_add-e
+    (λ c. search rules)  -- offset_bounds-work-at-5
+    (λ c. search rules)  -- bounds-work-at-5
+    (λ c. search rules)  -- overflow_add-f
+    (λ c. search rules)  -- offset_bounds-work-at-6
+    (λ c. search rules)  -- bounds-work-at-6
+    (λ c κs. search rules)  -- byte_of-requires
+    (λ c κs. search rules)  -- byte_of-requires-2
+    (λ c κs. search rules)  -- byte_of-requires-3
+    (λ c κs. search rules)  -- byte_of-requires-4
+    (λ c κs. search rules)  -- byte_of-requires-5
+    (λ c κs. search rules)  -- byte_of-requires-6
+    (λ c κs. search rules)  -- byte_of-requires-7
+    (λ c κs. search rules)  -- byte_of-requires-8
+    (λ c κs. search rules)  -- byte_of-requires-9
+    (λ c κs. search rules)  -- byte_of-requires-10
+    (λ c κs. search rules)  -- byte_of-requires-11
+    (λ c κs. search rules)  -- byte_of-requires-12
+    (λ c κs. search rules)  -- byte_of-requires-13
+    (λ c κs. search rules)  -- byte_of-requires-14
+    (λ c κs. search rules)  -- byte_of-requires-15
+    (λ c κs. search rules)  -- byte_of-requires-16
+    (λ c κs. search rules)  -- byte_of-requires-17
+    (λ c κs. search rules)  -- byte_of-requires-18
+    (λ c κs. search rules)  -- byte_of-requires-19
+    (λ c κs. search rules)  -- byte_of-requires-20
+    (λ c κs. search rules)  -- byte_of-requires-21
+    (λ c κs. search rules)  -- byte_of-requires-22
+    (λ c κs. search rules)  -- byte_of-requires-23
+    (λ c κs. search rules)  -- byte_of-requires-24
     returns)

@@ -14,20 +14,20 @@ returns c =
     let two = three.before in
     let one = two.before in
     rw add-zero
-    (ap₂ ◌∷◌ one.cost_at_lem.ensures
-    (ap₂ ◌∷◌ two.cost-at2.ensures (ap₂ ◌∷◌ three.cost-at3.ensures (ap₂ ◌∷◌ c.cost-at4.ensures refl))))
+    (ap₂ ◌∷◌ one.cost_at.ensures
+    (ap₂ ◌∷◌ two.cost_at-2.ensures (ap₂ ◌∷◌ three.cost_at-3.ensures (ap₂ ◌∷◌ c.cost_at-4.ensures refl))))
 
-pub row-costs-spec : {M : Type 1} → statement M
-row-costs-spec =
+pub row_costs_spec : {M : Type 1} → statement M
+row_costs_spec =
     tie.close
     (tie.spec
-    (λ c. search rules)  -- mul-at
-    (λ c. search rules)  -- add-at
-    (λ c κs. search rules)  -- cost-at-requires
-    (λ c. search rules)  -- add-cost-at
-    (λ c κs. search rules)  -- cost-at-requires-2
-    (λ c. search rules)  -- add-cost-at-2
-    (λ c κs. search rules)  -- cost-at-requires-3
-    (λ c. search rules)  -- add-cost-at-3
-    (λ c κs. search rules)  -- cost-at-requires-4
+    (λ c. search rules)  -- overflow_mul-at
+    (λ c. search rules)  -- overflow_add-at
+    (λ c κs. search rules)  -- cost_at-requires
+    (λ c. search rules)  -- overflow_add-at-2
+    (λ c κs. search rules)  -- cost_at-requires-2
+    (λ c. search rules)  -- overflow_add-at-3
+    (λ c κs. search rules)  -- cost_at-requires-3
+    (λ c. search rules)  -- overflow_add-at-4
+    (λ c κs. search rules)  -- cost_at-requires-4
     returns)

@@ -13,73 +13,73 @@ use Rattle.rows.proofs.Packing.{CostsTo, costs_none, costs_more}
 use Rattle.rows.proofs.store_costs.Statement.{statement}
 use Rattle.rows.proofs.store_costs.Tie as tie
 
-abbrev invariant-loop : tie.invariant-loop
+abbrev invariant-loop : tie.invariant-loop-i
 invariant-loop p at work₀ costs i₀ work i =
     (i ≤ max_objectives) × CostsTo at (padded max_objectives (take p costs)) work₀ work i
 
-abbrev decreases-loop : tie.decreases-loop
+abbrev decreases-loop : tie.decreases-loop-i
 decreases-loop p at work₀ costs i₀ work i = max_objectives - i
 
-loop-holds : tie.Need-loop-init invariant-loop decreases-loop
+loop-holds : tie.Need-loop-i-init invariant-loop decreases-loop
 loop-holds c =
     let a = c.args in
-    (omega arith, costs_none a.at (padded max_objectives (take a.p a.t1)) a.work.now)
+    (omega arith, costs_none a.at (padded max_objectives (take a.p a.costs)) a.work.now)
 
-mul-work-2 : tie.Need-overflow-mul-work-2 invariant-loop decreases-loop
-mul-work-2 c = omega (arith, c.before.before.before.loop.invariant.1.changed.long)
+mul-work-2 : tie.Need-offset_bounds-work-at invariant-loop decreases-loop
+mul-work-2 c = omega (arith, c.before.before.before.loop-i.invariant.1.changed.long)
 
-slice-write-work : tie.Need-slice-write-work invariant-loop decreases-loop
-slice-write-work c = omega (arith, c.before.before.before.loop.invariant.1.changed.long)
+slice-write-work : tie.Need-bounds-work-at invariant-loop decreases-loop
+slice-write-work c = omega (arith, c.before.before.before.loop-i.invariant.1.changed.long)
 
-mul-work-4 : tie.Need-overflow-mul-work-4 invariant-loop decreases-loop
-mul-work-4 c = omega (arith, c.before.before.before.loop.invariant.1.changed.long)
+mul-work-4 : tie.Need-offset_bounds-work-at-in-loop-i invariant-loop decreases-loop
+mul-work-4 c = omega (arith, c.before.before.before.loop-i.invariant.1.changed.long)
 
-slice-write-work-2 : tie.Need-slice-write-work-2 invariant-loop decreases-loop
+slice-write-work-2 : tie.Need-bounds-work-at-in-loop-i invariant-loop decreases-loop
 slice-write-work-2 c =
-    let w = c.before.before.before.loop in
+    let w = c.before.before.before.loop-i in
     simp length-set (omega (arith, w.invariant.1.changed.long))
 
-loop-again : tie.Need-loop-preserved invariant-loop decreases-loop
+loop-again : tie.Need-loop-i-preserved invariant-loop decreases-loop
 loop-again c =
     let branch = c.before in
-    let w = branch.before.before.loop in
+    let w = branch.before.before.loop-i in
     let s = branch.before.before.before in
     let a = s.args in
-    let long : max_objectives ≤ length a.t1 = omega (arith, array_length w64 max_objectives a.t1 _ s.well-formed.0) in
-    let is : branch.if1.cost ≡ get_or (padded max_objectives (take a.p a.t1)) w.i 0 =
+    let long : max_objectives ≤ length a.costs = omega (arith, array_length w64 max_objectives a.costs _ s.well_formed.0) in
+    let is : branch.if-i-p.cost ≡ get_or (padded max_objectives (take a.p a.costs)) w.i 0 =
     ⊎_elim
-    (λ t. t.1 ∙ padded_front max_objectives a.p a.t1 s.requires.1 long w.i (omega (arith, t.0)))
-    (λ t. t.1 ∙ padded_rest max_objectives a.p a.t1 s.requires.1 long w.i (omega (arith, t.0)) (omega arith))
-    branch.if1.branch in
-    (omega arith, costs_more w.invariant.1 (omega arith) s.requires.0 branch.if1.cost is)
+    (λ t. t.cost-is ∙ padded_front max_objectives a.p a.costs s.requires.1 long w.i (omega (arith, t.if-i-p.true)))
+    (λ t. t.cost-is ∙ padded_rest max_objectives a.p a.costs s.requires.1 long w.i (omega (arith, t.if-i-p.false)) (omega arith))
+    branch.if-i-p.branch-raw in
+    (omega arith, costs_more w.invariant.1 (omega arith) s.requires.0 branch.if-i-p.cost is)
 
 returns : tie.Need-returns invariant-loop decreases-loop
 returns c =
-    let w = c.before.loop in
+    let w = c.before.loop-i in
     record { changed = w.invariant.1.changed; written = λ j l. w.invariant.1.written j (omega arith) }
 
-pub store-costs-spec : {M : Type 1} → statement M
-store-costs-spec =
+pub store_costs_spec : {M : Type 1} → statement M
+store_costs_spec =
     tie.close
     (tie.spec
     invariant-loop
     decreases-loop
     loop-holds
-    (λ c. omega arith)  -- mul-cost
-    (λ c. omega arith)  -- array-read-cost
-    (λ c. omega arith)  -- cast-work
-    (λ c. omega arith)  -- mul-work
-    (λ c. omega arith)  -- add-work
+    (λ c. omega arith)  -- offset_bounds-costs-i
+    (λ c. omega arith)  -- bounds-costs-i
+    (λ c. omega arith)  -- overflow_cast-work
+    (λ c. omega arith)  -- overflow_mul-work
+    (λ c. omega arith)  -- overflow_add-work
     mul-work-2
     slice-write-work
-    (λ c. omega arith)  -- cast-work-2
-    (λ c. omega arith)  -- mul-work-3
-    (λ c. omega arith)  -- add-work-2
-    (λ c. omega arith)  -- add-work-3
+    (λ c. omega arith)  -- overflow_cast-work-in-loop-i
+    (λ c. omega arith)  -- overflow_mul-work-in-loop-i
+    (λ c. omega arith)  -- overflow_add-work-in-loop-i
+    (λ c. omega arith)  -- overflow_add-work-in-loop-i-2
     mul-work-4
     slice-write-work-2
-    (λ c. omega arith)  -- add-i
-    (λ c. omega arith)  -- loop-less
+    (λ c. omega arith)  -- overflow_add-i
+    (λ c. omega arith)  -- loop-i-smaller
     loop-again
-    (λ c. c.before.loop.invariant.1.changed.long)  -- same-length
+    (λ c. c.before.loop-i.invariant.1.changed.long)  -- shape_of-work
     returns)

@@ -15,19 +15,19 @@ returns c =
     let costs = values.before.before.before.before in
     let s = costs.before.before.before in
     let a = s.args in
-    let four = array_length w64 max_objectives a.costs _ s.well-formed.0 in
+    let four = array_length w64 max_objectives a.costs _ s.well_formed.0 in
     let wide = padded_long max_objectives a.p a.costs s.requires.2 (omega (arith, four)) in
-    let full = array_length w8 max_variables a.choice _ s.well-formed.1.0 in
-    row_stored a.k costs.store-costs.ensures values.store-choice.ensures wide full s.requires.1 s.requires.0
+    let full = array_length w8 max_variables a.choice _ s.well_formed.1.0 in
+    row_stored a.k costs.store_costs.ensures values.store_choice.ensures wide full s.requires.1 s.requires.0
 
-pub store-point-spec : {M : Type 1} → statement M
-store-point-spec =
+pub store_point_spec : {M : Type 1} → statement M
+store_point_spec =
     tie.close
     (tie.spec
-    (λ c. search rules)  -- mul-at
-    (λ c. search rules)  -- add-at
-    (λ c κs. search rules)  -- store-costs-requires
-    (λ c. search rules)  -- add-store-choice
-    (λ c κs. search rules)  -- store-choice-requires
-    (λ c. search rules)  -- same-length
+    (λ c. search rules)  -- overflow_mul-at
+    (λ c. search rules)  -- overflow_add-at
+    (λ c κs. search rules)  -- store_costs-requires
+    (λ c. search rules)  -- overflow_add-at-2
+    (λ c κs. search rules)  -- store_choice-requires
+    (λ c. search rules)  -- shape_of-work
     returns)
