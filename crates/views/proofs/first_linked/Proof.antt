@@ -16,62 +16,63 @@ use Rattle.views.proofs.first_linked.Lts as lts
 use Rattle.problem.proofs.record_at.Reads as record-at-reads
 use Rattle.views.proofs.has_side.Reads as has-side-reads
 
-abbrev invariant-loop : tie.invariant-loop
+abbrev invariant-loop : tie.invariant-loop-left
 invariant-loop s at r sizes sides here₀ left₀ here left = Linking sizes s sides r at here left
 
-abbrev decreases-loop : tie.decreases-loop
+abbrev decreases-loop : tie.decreases-loop-left
 decreases-loop s at r sizes sides here₀ left₀ here left = left
 
-loop-holds : tie.Need-loop-init invariant-loop decreases-loop
+loop-holds : tie.Need-loop-left-init invariant-loop decreases-loop
 loop-holds c =
     let a = c.before.before.before.args in
     linking_start a.sizes.now a.s.now a.sides.now a.r a.at c.before.before.before.requires.0
 
 -- the next record is whole
 whole :
-    (c : lts.In-loop (has-side-reads.Asked, has-side-reads.Learnt, record-at-reads.Asked, record-at-reads.Learnt)
+    (c : lts.In-loop-left (has-side-reads.Asked, has-side-reads.Learnt, record-at-reads.Asked, record-at-reads.Learnt)
     reads.Pre reads.Post invariant-loop decreases-loop)
     → let a = c.before.before.before.before.before.args in
-    Whole a.sizes.now a.s.now c.before.loop.here
-whole c = linking_whole c.before.loop.invariant (omega arith)
+    Whole a.sizes.now a.s.now c.before.loop-left.here
+whole c = linking_whole c.before.loop-left.invariant (omega arith)
 
-has-side-requires : tie.Need-has-side-requires invariant-loop decreases-loop
+has-side-requires : tie.Need-has_side-requires invariant-loop decreases-loop
 has-side-requires c κs =
     whole_sides c.before.before.before.before.before.args.sides.now
     c.before.before.before.before.before.requires.2 (whole c)
 
-has-side-requires-2 : tie.Need-has-side-requires-2 invariant-loop decreases-loop
+has-side-requires-2 : tie.Need-has_side-requires-then-has_side invariant-loop decreases-loop
 has-side-requires-2 c κs =
     whole_sides c.before.before.before.before.before.before.before.args.sides.now
     c.before.before.before.before.before.before.before.requires.2 (whole c.before.before)
 
-returns : tie.Need-returns invariant-loop decreases-loop
+returns : tie.Need-returns-then-has_side-2 invariant-loop decreases-loop
 returns c =
-    let first = sym c.before.before.before.has_side_lem.ensures ∙ c.before.before.if1.true in
-    let second = sym c.before.has-side2.ensures ∙ c.if2.true in
+    let first = sym c.before.before.before.has_side.ensures ∙ c.before.before.if-has_side.true in
+    let second = sym c.before.has_side-then-has_side.ensures ∙ c.if-has_side-2.true in
     says_verdict linked _
-    (linking_found c.before.before.before.before.before.loop.invariant (omega arith) first second)
+    (linking_found c.before.before.before.before.before.loop-left.invariant (omega arith) first second)
 
-record-at-requires : tie.Need-record-at-requires invariant-loop decreases-loop
+record-at-requires : tie.Need-record_at-t-requires invariant-loop decreases-loop
 record-at-requires c κs = (whole c.before.before, c.before.before.before.before.before.before.before.requires.1)
 
-add-here : tie.Need-overflow-add-here invariant-loop decreases-loop
-add-here c = omega (arith, c.before.record-at.ensures.width, (whole c.before.before.before.before).long)
+add-here : tie.Need-overflow_add-here invariant-loop decreases-loop
+add-here c = omega (arith, c.before.record_at-t.ensures.width, (whole c.before.before.before.before).long)
 
-loop-again : tie.Need-loop-preserved invariant-loop decreases-loop
+loop-again : tie.Need-loop-left-preserved invariant-loop decreases-loop
 loop-again c =
-    let u = c.before.before.before.before.before.loop.invariant in
-    let wide = c.before.record-at.ensures.width in
-    let first = sym c.before.before.before.has_side_lem.ensures in
+    let u = c.before.before.before.before.before.loop-left.invariant in
+    let wide = c.before.record_at-t.ensures.width in
+    let first = sym c.before.before.before.has_side.ensures in
     linking_next u (omega arith)
-    (⊎_elim (λ t. inr (sym t.1.ensures ∙ t.2.left)) (λ t. inl (first ∙ t.left)) c.before.before.if1.branch) _
+    (⊎_elim (λ t. inr (sym t.has_side-then-has_side.ensures ∙ t.if-has_side-2.false)) (λ t. inl (first ∙ t.if-has_side.false))
+    c.before.before.else-has_side.branch-raw) _
     wide
 
-returns-2 : tie.Need-returns-2 invariant-loop decreases-loop
-returns-2 c = says_verdict 0 0 (linking_end c.before.loop.invariant (omega arith))
+returns-2 : tie.Need-returns invariant-loop decreases-loop
+returns-2 c = says_verdict 0 0 (linking_end c.before.loop-left.invariant (omega arith))
 
-pub first-linked-spec : {M : Type 1} → statement M
-first-linked-spec =
+pub first_linked_spec : {M : Type 1} → statement M
+first_linked_spec =
     tie.close
     (tie.spec
     invariant-loop
@@ -82,7 +83,7 @@ first-linked-spec =
     returns
     record-at-requires
     add-here
-    (λ c. omega arith)  -- sub-left
-    (λ c. omega arith)  -- loop-less
+    (λ c. omega arith)  -- overflow_sub-left
+    (λ c. omega arith)  -- loop-left-smaller
     loop-again
     returns-2)

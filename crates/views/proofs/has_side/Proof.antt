@@ -10,78 +10,78 @@ use Rattle.problem.proofs.Scopes.{scope_next, scope_end, scope_each}
 use Rattle.views.proofs.has_side.Statement.{statement}
 use Rattle.views.proofs.has_side.Tie as tie
 
-abbrev invariant-loop : tie.invariant-loop
+abbrev invariant-loop : tie.invariant-loop-i
 invariant-loop s at sides side a i₀ i =
     (i ≤ a) × (has_side side sides (drop i (table_scope (drop at s))) ≡ has_side side sides (table_scope (drop at s)))
 
-abbrev decreases-loop : tie.decreases-loop
+abbrev decreases-loop : tie.decreases-loop-i
 decreases-loop s at sides side a i₀ i = a - i
 
 abbrev Headed : Type 0
-Headed = tie.After-arity-at invariant-loop decreases-loop
+Headed = tie.After-arity_at-a invariant-loop decreases-loop
 
 abbrev start : Headed → tie.Start invariant-loop decreases-loop
 start c = c.before.before.before
 
 abbrev Turn : Type 0
-Turn = tie.In-loop invariant-loop decreases-loop
+Turn = tie.In-loop-i invariant-loop decreases-loop
 
 abbrev head : Turn → Headed
 head c = c.before.before
 
-more : (c : Turn) → let a = (start (head c)).args in c.before.loop.i < table_arity (drop a.at a.s.now)
-more c = rw (← (head c).arity-at.ensures) c.loop-test.true
+more : (c : Turn) → let a = (start (head c)).args in c.before.loop-i.i < table_arity (drop a.at a.s.now)
+more c = rw (← (head c).arity_at-a.ensures) c.loop-i-test.true
 
-side-at-requires : tie.Need-side-at-requires invariant-loop decreases-loop
+side-at-requires : tie.Need-side_at-requires invariant-loop decreases-loop
 side-at-requires c κs =
     let s = start (head c) in
     let a = s.args in (
-      s.pre.0,
+      s.requires.0,
       more c,
-      scope_each a.s.now a.at s.pre.0 (λ v. v < length a.sides.now) s.pre.1 c.before.loop.i
+      scope_each a.s.now a.at s.requires.0 (λ v. v < length a.sides.now) s.requires.1 c.before.loop-i.i
           (more c),
     )
 
-returns : tie.Need-returns invariant-loop decreases-loop
+returns : tie.Need-returns-then-side_at-side invariant-loop decreases-loop
 unfolding has_side
 returns c =
     let t = c.before.before in
     let s = start (head t) in
-    let w = t.before.loop in
-    let next = scope_next s.args.s.now s.args.at s.pre.0 w.i (more t) in
-    rw (next, eq-eqb _ _ (sym c.before.side-at.ensures ∙ c.if1.true)) at w.invariant.1
+    let w = t.before.loop-i in
+    let next = scope_next s.args.s.now s.args.at s.requires.0 w.i (more t) in
+    rw (next, eq-eqb _ _ (sym c.before.side_at.ensures ∙ c.if-side_at-side.true)) at w.invariant.1
 
-add-i : tie.Need-overflow-add-i invariant-loop decreases-loop
-add-i c = omega (arith, more c.before.before, (start (head c.before.before)).pre.0)
+add-i : tie.Need-overflow_add-i invariant-loop decreases-loop
+add-i c = omega (arith, more c.before.before, (start (head c.before.before)).requires.0)
 
-loop-again : tie.Need-loop-preserved invariant-loop decreases-loop
+loop-again : tie.Need-loop-i-preserved invariant-loop decreases-loop
 unfolding has_side
 loop-again c =
     let t = c.before.before in
     let s = start (head t) in
-    let w = t.before.loop in
-    let next = scope_next s.args.s.now s.args.at s.pre.0 w.i (more t) in
-    (omega arith, rw (next, ne_eqb _ _ (λ e. c.if1.false (c.before.side-at.ensures ∙ e))) at w.invariant.1)
+    let w = t.before.loop-i in
+    let next = scope_next s.args.s.now s.args.at s.requires.0 w.i (more t) in
+    (omega arith, rw (next, ne_eqb _ _ (λ e. c.if-side_at-side.false (c.before.side_at.ensures ∙ e))) at w.invariant.1)
 
-returns-2 : tie.Need-returns-2 invariant-loop decreases-loop
+returns-2 : tie.Need-returns invariant-loop decreases-loop
 unfolding has_side
 returns-2 c =
     let h = c.before.before in
     let a = (start h).args in
-    let w = c.before.loop in
-    rw (scope_end a.s.now a.at w.i (omega (arith, h.arity-at.ensures))) at w.invariant.1
+    let w = c.before.loop-i in
+    rw (scope_end a.s.now a.at w.i (omega (arith, h.arity_at-a.ensures))) at w.invariant.1
 
-pub has-side-spec : {M : Type 1} → statement M
-has-side-spec =
+pub has_side_spec : {M : Type 1} → statement M
+has_side_spec =
     tie.close
     (tie.spec
     invariant-loop
     decreases-loop
-    (λ c κs. c.before.before.requires.0)  -- arity-at-requires
-    (λ c. (omega arith, refl))  -- loop-holds
+    (λ c κs. c.before.before.requires.0)  -- arity_at-a-requires
+    (λ c. (omega arith, refl))  -- loop-i-init
     side-at-requires
     returns
     add-i
-    (λ c. omega arith)  -- loop-less
+    (λ c. omega arith)  -- loop-i-smaller
     loop-again
     returns-2)

@@ -5,21 +5,21 @@ use lib.Seq.{get_or-drop}
 use Rattle.views.proofs.is_wanted.Statement.{statement}
 use Rattle.views.proofs.is_wanted.Tie as tie
 
-returns-2 : tie.Need-returns-2
-returns-2 c = rw (get_or-drop, le-leb _ _ c.before.before.if1.false, le-ltb _ _ c.if2.true)
+returns-2 : tie.Need-returns-then-o-part-2
+returns-2 c = rw (get_or-drop, le-leb _ _ c.before.before.if-o-part.false, le-ltb _ _ c.if-o-part-2.true)
 
-returns-3 : tie.Need-returns-3
+returns-3 : tie.Need-returns
 returns-3 c =
-    let below : tie.Else2 = c.before in
-    rw (get_or-drop, le-leb _ _ below.before.before.if1.false, lt-ltb _ _ below.if2.false) c.lies-on.ensures
+    let below : tie.Else-o-part-2 = c.before in
+    rw (get_or-drop, le-leb _ _ below.before.before.if-o-part.false, lt-ltb _ _ below.if-o-part-2.false) c.lies_on.ensures
 
-pub is-wanted-spec : {M : Type 1} → statement M
-is-wanted-spec =
+pub is_wanted_spec : {M : Type 1} → statement M
+is_wanted_spec =
     tie.close
     (tie.spec
-    (λ c. search rules)  -- add-o
-    (λ c. search rules)  -- shared-slice-read-o
-    (λ c. rw (get_or-drop, lt-leb _ _ c.if1.true))  -- returns
+    (λ c. search rules)  -- overflow_add-o
+    (λ c. search rules)  -- bounds-s-at
+    (λ c. rw (get_or-drop, lt-leb _ _ c.if-o-part.true))  -- returns-then-o-part
     returns-2
-    (λ c κs. search rules)  -- lies-on-requires
+    (λ c κs. search rules)  -- lies_on-requires
     returns-3)

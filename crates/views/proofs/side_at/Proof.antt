@@ -2,10 +2,10 @@
 use Rattle.views.proofs.side_at.Statement.{statement}
 use Rattle.views.proofs.side_at.Tie as tie
 
-pub side-at-spec : {M : Type 1} → statement M
-side-at-spec =
+pub side_at_spec : {M : Type 1} → statement M
+side_at_spec =
     tie.close
     (tie.spec
-    (λ c κs. (c.before.before.requires.0, c.before.before.requires.1))  -- scope-at-requires
-    (λ c. rw c.before.scope-at.ensures c.before.before.before.before.requires.2)  -- shared-slice-read-result
-    (λ c. rw c.before.scope-at.ensures))  -- returns
+    (λ c κs. (c.before.before.requires.0, c.before.before.requires.1))  -- scope_at-v-requires
+    (λ c. rw c.before.scope_at-v.ensures c.before.before.before.before.requires.2)  -- bounds-sides-v
+    (λ c. rw c.before.scope_at-v.ensures))  -- returns  -- returns
