@@ -1,12 +1,12 @@
 -- How many directions and weights there are, and that the leading one is among them.
-use mathlib.Core.Path.{◌≡◌, sym, ◌∙◌}
+use mathlib.Core.Path.{◌≡◌}
 use mathlib.Core.Logic.{⊎_elim}
 use mathlib.Core.Bool.{true, false}
 use mathlib.Core.List.{List}
 use Prim.Native.Nat.{◌≤◌, ◌<◌}
 use native.Mathlib.Omega.{arith}
 use lib.Dec.{eqb}
-use lib.ListN.{length, length-map}
+use lib.ListN.{length}
 use borrow.Author.Tests.{eqb-false}
 use mir.Val.{Val}
 use denote.Laws.{Is}
@@ -28,4 +28,4 @@ width_few d h = omega (arith, h.few, h.few_sums)
 
 -- a value that is a parameter has sixteen weights
 pub weights_long : (d : DD.Directions) (vs : List Val) → Is (row the_type) d vs → length d.weights ≡ 16
-weights_long d vs good = sym (length-map d.weights (λ v. v)) ∙ good.1.1.1.1.0.1.0.1
+weights_long d vs good = good.1.1.1.1.0.1.0.1

@@ -9,26 +9,26 @@ use borrow.Author.Rules.{rules}
 use Rattle.branch_directions.proofs.choose_directions.Statement.{statement}
 use Rattle.branch_directions.proofs.choose_directions.Tie as tie
 
-returns : tie.Need-returns
+returns : tie.Need-returns-then-p-eq1
 returns c = (
   record {
-    some = c.before.requires.0;
-    few = c.before.requires.1;
+    some = c.requires.0;
+    few = c.requires.1;
     few_sums = omega arith;
     small = search rules;
-    every = rw c.if1.true (omega arith, tt);
-    alone = λ _. (c.if1.true, rw c.if1.true);
+    every = rw c.if-p-eq1.true (omega arith, tt);
+    alone = λ _. (c.if-p-eq1.true, rw c.if-p-eq1.true);
   },
   refl,
 )
 
-returns-2 : tie.Need-returns-2
+returns-2 : tie.Need-returns
 returns-2 c =
-    let weighed = c.before in
-    let s = weighed.before.before in
+    let weighed = c in
+    let s = weighed in
     let p = s.args.p in
-    let made = weighed.weights-for in
-    let count = c.some-sums.ensures in (
+    let made = weighed.weights_for-weights in
+    let count = c.some_sums.ensures in (
       record {
         some = s.requires.0;
         few = s.requires.1;
@@ -42,11 +42,11 @@ returns-2 c =
       refl,
     )
 
-pub choose-directions-spec : {M : Type 1} → statement M
-choose-directions-spec =
+pub choose_directions_spec : {M : Type 1} → statement M
+choose_directions_spec =
     tie.close
     (tie.spec
     returns
-    (λ c κs. search rules)  -- weights-for-requires
-    (λ c κs. search rules)  -- some-sums-requires
+    (λ c κs. search rules)  -- weights_for-weights-requires
+    (λ c κs. search rules)  -- some_sums-requires
     returns-2)

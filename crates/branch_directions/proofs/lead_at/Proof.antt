@@ -3,9 +3,9 @@ use borrow.Author.Tests.{eq-eqb, ne_eqb}
 use Rattle.branch_directions.proofs.lead_at.Statement.{statement}
 use Rattle.branch_directions.proofs.lead_at.Tie as tie
 
-pub lead-at-spec : {M : Type 1} → statement M
-lead-at-spec =
+pub lead_at_spec : {M : Type 1} → statement M
+lead_at_spec =
     tie.close
     (tie.spec
-    (λ c. rw (eq-eqb _ 0 c.if1.true))  -- returns
-    (λ c. rw (ne_eqb _ 0 c.if1.false)))  -- returns-2
+    (λ c. rw (eq-eqb _ 0 c.if-d-eq0.true))  -- returns-then-d-eq0
+    (λ c. rw (ne_eqb _ 0 c.if-d-eq0.false)))  -- returns-else-d-eq0  -- returns-2

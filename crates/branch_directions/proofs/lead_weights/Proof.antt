@@ -9,15 +9,15 @@ use Rattle.branch_directions.proofs.lead_weights.Tie as tie
 
 returns : tie.Need-returns
 returns c =
-    let d = c.before.before.args.d in
-    let s = c.before.before.requires in (
+    let d = c.args.d in
+    let s = c.requires in (
       rw c.row_of.ensures (take-take d.objectives 4 d.weights s.few),
       row_all (λ w. w ≤ max_weight) d.weights c.row_of.result 0 c.row_of.ensures s.small,
     )
 
-pub lead-weights-spec : {M : Type 1} → statement M
-lead-weights-spec =
+pub lead_weights_spec : {M : Type 1} → statement M
+lead_weights_spec =
     tie.close
     (tie.spec
-    (λ c κs. search rules)  -- row-of-requires
+    (λ c κs. search rules)  -- row_of-requires
     returns)

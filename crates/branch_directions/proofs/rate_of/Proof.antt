@@ -9,15 +9,15 @@ use Rattle.branch_directions.proofs.rate_of.Tie as tie
 returns : tie.Need-returns
 returns c =
     λ h.
-    let some : 0 < c.range-of.result = omega arith in
-    (le-div_iff_mul-le {x = 1} {y = c.before.args.share * 17592186044416} some).1
-    (omega (arith, c.range-of.ensures.1))
+    let some : 0 < c.range_of.result = omega arith in
+    (le-div_iff_mul-le {x = 1} {y = c.args.share * 17592186044416} some).1
+    (omega (arith, c.range_of.ensures.1))
 
-pub rate-of-spec : {M : Type 1} → statement M
-rate-of-spec =
+pub rate_of_spec : {M : Type 1} → statement M
+rate_of_spec =
     tie.close
     (tie.spec
-    (λ c. search rules)  -- mul-result
-    (λ c κs. search rules)  -- range-of-requires
-    (λ c. search rules)  -- div-result
+    (λ c. search rules)  -- overflow_mul-result
+    (λ c κs. search rules)  -- range_of-requires
+    (λ c. search rules)  -- nonzero_div-result
     returns)

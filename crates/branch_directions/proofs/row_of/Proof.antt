@@ -10,22 +10,22 @@ use Rattle.branch_directions.proofs.row_of.Tie as tie
 
 returns : tie.Need-returns
 returns c =
-    four_read 0 c.args.t1 (4 * c.args.i) (omega (arith, c.requires, array_length w64 16 c.args.t1 _ c.well-formed.0))
+    four_read 0 c.args.table (4 * c.args.i) (omega (arith, c.requires, array_length w64 16 c.args.table _ c.well_formed.0))
 
-pub row-of-spec : {M : Type 1} → statement M
-row-of-spec =
+pub row_of_spec : {M : Type 1} → statement M
+row_of_spec =
     tie.close
     (tie.spec
-    (λ c. search rules)  -- mul-at
-    (λ c. search rules)  -- mul-t5
-    (λ c. search rules)  -- array-read-t8
-    (λ c. search rules)  -- add-t9
-    (λ c. search rules)  -- mul-t10
-    (λ c. search rules)  -- array-read-t13
-    (λ c. search rules)  -- add-t14
-    (λ c. search rules)  -- mul-t15
-    (λ c. search rules)  -- array-read-t18
-    (λ c. search rules)  -- add-t19
-    (λ c. search rules)  -- mul-t20
-    (λ c. search rules)  -- array-read-t23
+    (λ c. search rules)  -- overflow_mul-at
+    (λ c. search rules)  -- offset_bounds-table-at
+    (λ c. search rules)  -- bounds-table-at
+    (λ c. search rules)  -- overflow_add-result
+    (λ c. search rules)  -- offset_bounds-table-at-2
+    (λ c. search rules)  -- bounds-table-at-2
+    (λ c. search rules)  -- overflow_add-result-2
+    (λ c. search rules)  -- offset_bounds-table-at-3
+    (λ c. search rules)  -- bounds-table-at-3
+    (λ c. search rules)  -- overflow_add-result-3
+    (λ c. search rules)  -- offset_bounds-table-at-4
+    (λ c. search rules)  -- bounds-table-at-4
     returns)

@@ -10,12 +10,12 @@ use Rattle.branch_directions.proofs.TableRows.{row_all}
 use Rattle.branch_directions.proofs.sum_at.Statement.{statement}
 use Rattle.branch_directions.proofs.sum_at.Tie as tie
 
-row-of-requires : tie.Need-row-of-requires
-row-of-requires c κs = omega (arith, c.before.requires.1)
+row-of-requires : tie.Need-row_of-requires
+row-of-requires c κs = omega (arith, c.requires.1)
 
-sum-of-requires : tie.Need-sum-of-requires
+sum-of-requires : tie.Need-sum_of-requires
 sum-of-requires c κs =
-    let s = c.before.before in
+    let s = c in
     let d = s.args.d in
     let small : ℕ → Type 0 = λ w. w ≤ max_weight in (
       s.requires.0.few,
@@ -26,10 +26,13 @@ sum-of-requires c κs =
 
 returns : tie.Need-returns
 returns c =
-    let s = c.before.before.before in
+    let s = c in
     let d = s.args.d in
-    c.sum_of_lem.ensures
-    ∙ rw (c.before.row_of.ensures, take-take d.objectives 4 (drop (4 * s.args.i) d.weights) s.requires.0.few)
+    c.sum_of.ensures
+    ∙ rw (c.row_of.ensures, take-take d.objectives 4 (drop (4 * s.args.i) d.weights) s.requires.0.few)
 
-pub sum-at-spec : {M : Type 1} → statement M
-sum-at-spec = tie.close (tie.spec row-of-requires sum-of-requires returns)
+pub sum_at_spec : {M : Type 1} → statement M
+sum_at_spec = tie.close (tie.spec
+    row-of-requires
+    sum-of-requires
+    returns)

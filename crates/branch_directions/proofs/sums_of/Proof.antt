@@ -7,17 +7,17 @@ use Rattle.branch_directions.proofs.sums_of.Tie as tie
 returns : tie.Need-returns
 unfolding sums_from
 returns c =
-    let third = c.before in
-    let second = third.before in
-    let first = second.before in
-    rw (first.sum-at.ensures, second.sum-at2.ensures, third.sum-at3.ensures, c.sum-at4.ensures)
+    let third = c in
+    let second = third in
+    let first = second in
+    rw (first.sum_at.ensures, second.sum_at-2.ensures, third.sum_at-3.ensures, c.sum_at-4.ensures)
 
-pub sums-of-spec : {M : Type 1} → statement M
-sums-of-spec =
+pub sums_of_spec : {M : Type 1} → statement M
+sums_of_spec =
     tie.close
     (tie.spec
-    (λ c κs. search rules)  -- sum-at-requires
-    (λ c κs. search rules)  -- sum-at-requires-2
-    (λ c κs. search rules)  -- sum-at-requires-3
-    (λ c κs. search rules)  -- sum-at-requires-4
+    (λ c κs. search rules)  -- sum_at-requires
+    (λ c κs. search rules)  -- sum_at-requires-2
+    (λ c κs. search rules)  -- sum_at-requires-3
+    (λ c κs. search rules)  -- sum_at-requires-4
     returns)

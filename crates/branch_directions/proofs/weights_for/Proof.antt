@@ -13,20 +13,20 @@ use Rattle.branch_directions.proofs.TableRows.{row_written, with_row_all, with_r
 use Rattle.branch_directions.proofs.weights_for.Statement.{statement}
 use Rattle.branch_directions.proofs.weights_for.Tie as tie
 
-abbrev invariant-loop : tie.invariant-loop
+abbrev invariant-loop : tie.invariant-loop-i
 invariant-loop sums ranges weights₀ i₀ weights i =
     (i ≤ 4) × (length weights ≡ 16) × All (λ w. w ≤ max_weight) weights × (1 ≤ i → All (λ w. 1 ≤ w) (take 4 weights))
 
-abbrev decreases-loop : tie.decreases-loop
+abbrev decreases-loop : tie.decreases-loop-i
 decreases-loop sums ranges weights₀ i₀ weights i = 4 - i
 
-loop-again : tie.Need-loop-preserved invariant-loop decreases-loop
+loop-again : tie.Need-loop-i-preserved invariant-loop decreases-loop
 loop-again c =
-    let shares = c.before.before.Shares-at in
-    let w = c.before.before.before.before.loop in
-    let row = c.sum-weights.result in
-    let new = c.sum-weights.ensures in
-    let four : length row ≡ 4 = omega (arith, c.sum-weights.type-inv) in
+    let shares = c.shares_at in
+    let w = c.loop-i in
+    let row = c.sum_weights-row.result in
+    let new = c.sum_weights-row.ensures in
+    let four : length row ≡ 4 = omega (arith, c.sum_weights-row.type_inv) in
     let is = sym (row_written w.weights row (4 * w.i) (omega (arith, w.invariant.1)) four) in
     let led : w.i ≡ 0 → All (λ x. 1 ≤ x) (take 4 row) = λ z. new.1 4
     (all_take (λ x. 1 ≤ x) 4 shares.result (shares.ensures.1 z)) in (
@@ -40,35 +40,35 @@ loop-again c =
     )
 
 returns : tie.Need-returns invariant-loop decreases-loop
-returns c = (c.before.loop.invariant.2, c.before.loop.invariant.3 (omega arith))
+returns c = (c.loop-i.invariant.2, c.loop-i.invariant.3 (omega arith))
 
-pub weights-for-spec : {M : Type 1} → statement M
-weights-for-spec =
+pub weights_for_spec : {M : Type 1} → statement M
+weights_for_spec =
     tie.close
     (tie.spec
     invariant-loop
     decreases-loop
-    (λ c. (omega arith, refl, search rules, λ h. absurd (omega arith)))  -- loop-holds
-    (λ c κs. omega arith)  -- shares-at-requires
-    (λ c κs. omega arith)  -- row-of-requires
-    (λ c κs. c.before.Shares-at.ensures.0)  -- sum-weights-requires
-    (λ c. omega arith)  -- mul-at
-    (λ c. omega arith)  -- array-read-weights
-    (λ c. omega arith)  -- mul-weights
-    (λ c. omega arith)  -- array-write-weights
-    (λ c. omega arith)  -- array-read-weights-2
-    (λ c. omega arith)  -- add-weights
-    (λ c. omega arith)  -- mul-weights-2
-    (λ c. omega arith)  -- array-write-weights-2
-    (λ c. omega arith)  -- array-read-weights-3
-    (λ c. omega arith)  -- add-weights-2
-    (λ c. omega arith)  -- mul-weights-3
-    (λ c. omega arith)  -- array-write-weights-3
-    (λ c. omega arith)  -- array-read-weights-4
-    (λ c. omega arith)  -- add-weights-3
-    (λ c. omega arith)  -- mul-weights-4
-    (λ c. omega arith)  -- array-write-weights-4
-    (λ c. omega arith)  -- add-i
-    (λ c. omega arith)  -- loop-less
+    (λ c. (omega arith, refl, search rules, λ h. absurd (omega arith)))  -- loop-i-init
+    (λ c κs. omega arith)  -- shares_at-requires
+    (λ c κs. omega arith)  -- row_of-requires
+    (λ c κs. c.shares_at.ensures.0)  -- sum_weights-row-requires
+    (λ c. omega arith)  -- overflow_mul-at
+    (λ c. omega arith)  -- bounds-row-0
+    (λ c. omega arith)  -- offset_bounds-weights-at
+    (λ c. omega arith)  -- bounds-weights-at
+    (λ c. omega arith)  -- bounds-row-1
+    (λ c. omega arith)  -- overflow_add-weights
+    (λ c. omega arith)  -- offset_bounds-weights-at-in-loop-i
+    (λ c. omega arith)  -- bounds-weights-at-in-loop-i
+    (λ c. omega arith)  -- bounds-row-2
+    (λ c. omega arith)  -- overflow_add-weights-in-loop-i
+    (λ c. omega arith)  -- offset_bounds-weights-at-in-loop-i-2
+    (λ c. omega arith)  -- bounds-weights-at-in-loop-i-2
+    (λ c. omega arith)  -- bounds-row-3
+    (λ c. omega arith)  -- overflow_add-weights-in-loop-i-2
+    (λ c. omega arith)  -- offset_bounds-weights-at-in-loop-i-3
+    (λ c. omega arith)  -- bounds-weights-at-in-loop-i-3
+    (λ c. omega arith)  -- overflow_add-i
+    (λ c. omega arith)  -- loop-i-smaller
     loop-again
     returns)

@@ -13,45 +13,45 @@ use Rattle.branch_directions.specs.Directions.{max_directions}
 use Rattle.branch_directions.proofs.with_costs.Statement.{statement}
 use Rattle.branch_directions.proofs.with_costs.Tie as tie
 
-abbrev invariant-loop : tie.invariant-loop
+abbrev invariant-loop : tie.invariant-loop-i
 invariant-loop p v all₀ i₀ all i = (i ≤ p) × (all ≡ padded max_directions (take i v))
 
-abbrev decreases-loop : tie.decreases-loop
+abbrev decreases-loop : tie.decreases-loop-i
 decreases-loop p v all₀ i₀ all i = p - i
 
-loop-holds : tie.Need-loop-init invariant-loop decreases-loop
+loop-holds : tie.Need-loop-i-init invariant-loop decreases-loop
 unfolding padded
 loop-holds c = (omega arith, refl)
 
-loop-again : tie.Need-loop-preserved invariant-loop decreases-loop
+loop-again : tie.Need-loop-i-preserved invariant-loop decreases-loop
 loop-again c =
-    let a = c.before.before.args in
-    let w = c.before.loop in
-    let long = array_length w64 max_objectives a.t1 _ c.before.before.well-formed.0 in
-    let inside : w.i < length a.t1 = omega (arith, long, c.before.before.requires) in (
+    let a = c.args in
+    let w = c.loop-i in
+    let long = array_length w64 max_objectives a.v _ c.well_formed.0 in
+    let inside : w.i < length a.v = omega (arith, long, c.requires) in (
       omega arith,
-      padded_step max_directions w.i (λ k. take k a.t1) w.all _ (length-take-le w.i a.t1 (omega arith))
-          (omega arith) (take-suc a.t1 w.i 0 inside) w.invariant.1,
+      padded_step max_directions w.i (λ k. take k a.v) w.all _ (length-take-le w.i a.v (omega arith))
+          (omega arith) (take-suc a.v w.i 0 inside) w.invariant.1,
     )
 
 returns : tie.Need-returns invariant-loop decreases-loop
 returns c =
-    let w = c.before.loop in
-    let last : w.i ≡ c.before.before.args.p = omega arith in
+    let w = c.loop-i in
+    let last : w.i ≡ c.args.p = omega arith in
     rw last at w.invariant.1
 
-pub with-costs-spec : {M : Type 1} → statement M
-with-costs-spec =
+pub with_costs_spec : {M : Type 1} → statement M
+with_costs_spec =
     tie.close
     (tie.spec
     invariant-loop
     decreases-loop
     loop-holds
-    (λ c. omega arith)  -- mul-all
-    (λ c. omega arith)  -- array-read-all
-    (λ c. omega arith)  -- mul-all-2
-    (λ c. omega arith)  -- array-write-all
-    (λ c. omega arith)  -- add-i
-    (λ c. omega arith)  -- loop-less
+    (λ c. omega arith)  -- offset_bounds-v-i
+    (λ c. omega arith)  -- bounds-v-i
+    (λ c. omega arith)  -- offset_bounds-all-i
+    (λ c. omega arith)  -- bounds-all-i
+    (λ c. omega arith)  -- overflow_add-i
+    (λ c. omega arith)  -- loop-i-smaller
     loop-again
     returns)
