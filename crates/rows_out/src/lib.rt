@@ -77,7 +77,7 @@ pub fn point_at(work: &[u32], row: usize, n: usize, p: usize) -> model::Point
     model::Point { costs, choice }
 }
 
-// Writes the records of the first `k` rows over the start of a list of records. Proved by hand.
+// Writes the records of the first `k` rows over the start of a list of records.
 pub fn copy_points(work: &[u32], k: usize, n: usize, p: usize, points: &mut [model::Point])
     requires { (k ≤ length points.old) × RowsHold p n k work.now }
     ensures { points.new

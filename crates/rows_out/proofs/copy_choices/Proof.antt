@@ -12,57 +12,57 @@ use Rattle.rows_out.proofs.FlatRows.{flat_choices_lem}
 use Rattle.rows_out.proofs.copy_choices.Statement.{statement}
 use Rattle.rows_out.proofs.copy_choices.Tie as tie
 
-abbrev invariant-loop : tie.invariant-loop
+abbrev invariant-loop : tie.invariant-loop-row
 invariant-loop work k n p choices₀ row₀ choices row = (row ≤ k) × Out (values_in n work) n choices₀ choices row
 
-abbrev decreases-loop : tie.decreases-loop
+abbrev decreases-loop : tie.decreases-loop-row
 decreases-loop work k n p choices₀ row₀ choices row = k - row
 
-loop-holds : tie.Need-loop-init invariant-loop decreases-loop
+loop-holds : tie.Need-loop-row-init invariant-loop decreases-loop
 loop-holds c =
-    let a = c.before.before.args in
+    let a = c.args in
     (omega arith, out_start (values_in a.n a.work.now) a.n a.choices.now)
 
-put-choice-requires : tie.Need-put-choice-requires invariant-loop decreases-loop
+put-choice-requires : tie.Need-put_choice-requires invariant-loop decreases-loop
 put-choice-requires c κs =
-    let w = c.before.before.before.loop in
-    let s = c.before.before.before.before.before.before in
+    let w = c.loop-row in
+    let s = c in
     let a = s.args in
     let room = row_room a.n a.k w.row (length a.choices.now) s.requires.3 (omega arith) in
     (s.requires.2, omega (arith, room, out_length w.invariant.1))
 
-loop-again : tie.Need-loop-preserved invariant-loop decreases-loop
+loop-again : tie.Need-loop-row-preserved invariant-loop decreases-loop
 loop-again c =
-    let put = c.before.before in
-    let read = put.before.before in
-    let w = read.before.before.loop in
-    let s = read.before.before.before.before.before in
+    let put = c in
+    let read = put in
+    let w = read.loop-row in
+    let s = read in
     let a = s.args in
     let work = a.work.now in
     let room = row_room a.n a.k w.row (length a.choices.now) s.requires.3 (omega arith) in
-    let row : take a.n read.row-choice.result ≡ values_in a.n work w.row =
-    rw read.row-choice.ensures (values_front work w.row a.n max_variables s.requires.2) in
+    let row : take a.n read.row_choice.result ≡ values_in a.n work w.row =
+    rw read.row_choice.ensures (values_front work w.row a.n max_variables s.requires.2) in
     (omega arith, out_next w.invariant.1 room (values_long work w.row a.n) _ (rw row at put.put_choice.ensures))
 
 returns : tie.Need-returns invariant-loop decreases-loop
 returns c =
-    let w = c.before.loop in
-    let a = c.before.before.before.before.args in
+    let w = c.loop-row in
+    let a = c.args in
     let last : w.row ≡ a.k = omega arith in
     rw (flat_choices_lem a.p a.n a.work.now 0 a.k) (rw last at w.invariant.1.holds)
 
-pub copy-choices-spec : {M : Type 1} → statement M
-copy-choices-spec =
+pub copy_choices_spec : {M : Type 1} → statement M
+copy_choices_spec =
     tie.close
     (tie.spec
     invariant-loop
     decreases-loop
     loop-holds
-    (λ c κs. omega arith)  -- row-choice-requires
-    (λ c. omega arith)  -- mul-put-choice
+    (λ c κs. omega arith)  -- row_choice-requires
+    (λ c. omega arith)  -- overflow_mul-row
     put-choice-requires
-    (λ c. omega arith)  -- add-row
-    (λ c. omega arith)  -- loop-less
+    (λ c. omega arith)  -- overflow_add-row
+    (λ c. omega arith)  -- loop-row-smaller
     loop-again
-    (λ c. out_length c.before.loop.invariant.1)  -- same-length
+    (λ c. out_length c.loop-row.invariant.1)  -- shape_of-choices
     returns)

@@ -10,45 +10,45 @@ use Rattle.rows_out.proofs.OverZeros.{front_over_zeros}
 use Rattle.rows_out.proofs.point_at.Statement.{statement}
 use Rattle.rows_out.proofs.point_at.Tie as tie
 
-put-costs-requires : tie.Need-put-costs-requires
+put-costs-requires : tie.Need-put_costs-requires
 put-costs-requires c κs =
-    let read = c.before in
-    let s = read.before.before in
+    let read = c in
+    let s = read in
     let front = costs_front s.args.work.now s.args.row s.args.p max_objectives s.requires.3 in
-    (s.requires.3, omega arith, rw (read.row-costs.ensures, front) s.requires.4)
+    (s.requires.3, omega arith, rw (read.row_costs.ensures, front) s.requires.4)
 
 returns : tie.Need-returns
 returns c =
-    let values = c.before.before.before in
-    let costs-put = values.before.before in
-    let costs = costs-put.before.before in
-    let s = costs.before.before in
+    let values = c in
+    let costs-put = values in
+    let costs = costs-put in
+    let s = costs in
     let a = s.args in
     let work = a.work.now in
-    let row-costs : take a.p costs.row-costs.result ≡ costs_in a.p work a.row =
-    rw costs.row-costs.ensures (costs_front work a.row a.p max_objectives s.requires.3) in
-    let row-values : take a.n values.row-choice.result ≡ values_in a.n work a.row =
-    rw values.row-choice.ensures (values_front work a.row a.n max_variables s.requires.2) in
+    let row-costs : take a.p costs.row_costs.result ≡ costs_in a.p work a.row =
+    rw costs.row_costs.ensures (costs_front work a.row a.p max_objectives s.requires.3) in
+    let row-values : take a.n values.row_choice.result ≡ values_in a.n work a.row =
+    rw values.row_choice.ensures (values_front work a.row a.n max_variables s.requires.2) in
     let four = costs_long work a.row max_objectives in
     let all = values_long work a.row max_variables in
     let padded-costs =
-    front_over_zeros max_objectives a.p costs.row-costs.result s.requires.3
-    (rw costs.row-costs.ensures (omega (arith, four))) _ costs-put.put-costs.ensures in
+    front_over_zeros max_objectives a.p costs.row_costs.result s.requires.3
+    (rw costs.row_costs.ensures (omega (arith, four))) _ costs-put.put_costs.ensures in
     let padded-choice =
-    front_over_zeros max_variables a.n values.row-choice.result s.requires.2
-    (rw values.row-choice.ensures (omega (arith, all))) _ c.before.put_choice.ensures in
+    front_over_zeros max_variables a.n values.row_choice.result s.requires.2
+    (rw values.row_choice.ensures (omega (arith, all))) _ c.put_choice.ensures in
     let costs_are = rw row-costs at padded-costs in
     let choice-is = rw row-values at padded-choice in
     λ i. record { costs = costs_are i; choice = choice-is i }
 
-pub point-at-spec : {M : Type 1} → statement M
-point-at-spec =
+pub point_at_spec : {M : Type 1} → statement M
+point_at_spec =
     tie.close
     (tie.spec
-    (λ c κs. search rules)  -- row-costs-requires
-    (λ c. search rules)  -- slice-aggregate-put-costs
+    (λ c κs. search rules)  -- row_costs-requires
+    (λ c. search rules)  -- slice_bounds-put_costs-end
     put-costs-requires
-    (λ c κs. search rules)  -- row-choice-requires
-    (λ c. search rules)  -- slice-aggregate-put-choice
-    (λ c κs. search rules)  -- put-choice-requires
+    (λ c κs. search rules)  -- row_choice-requires
+    (λ c. search rules)  -- slice_bounds-put_choice-end
+    (λ c κs. search rules)  -- put_choice-requires
     returns)

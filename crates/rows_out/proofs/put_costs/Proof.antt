@@ -12,44 +12,44 @@ use Rattle.rows.proofs.Arrays.{array_length}
 use Rattle.rows_out.proofs.put_costs.Statement.{statement}
 use Rattle.rows_out.proofs.put_costs.Tie as tie
 
-abbrev invariant-loop : tie.invariant-loop
+abbrev invariant-loop : tie.invariant-loop-i
 invariant-loop count costs₀ to row i₀ costs i = Copied costs₀ to row count costs i
 
-abbrev decreases-loop : tie.decreases-loop
+abbrev decreases-loop : tie.decreases-loop-i
 decreases-loop count costs₀ to row i₀ costs i = count - i
 
-long_row : (s : tie.Start invariant-loop decreases-loop) → max_objectives ≤ length s.args.t1
-long_row s = omega (arith, array_length w64 max_objectives s.args.t1 _ s.well-formed.0)
+long_row : (s : tie.Start invariant-loop decreases-loop) → max_objectives ≤ length s.args.row
+long_row s = omega (arith, array_length w64 max_objectives s.args.row _ s.well_formed.0)
 
-loop-holds : tie.Need-loop-init invariant-loop decreases-loop
+loop-holds : tie.Need-loop-i-init invariant-loop decreases-loop
 loop-holds c =
     let a = c.args in
-    copied_start a.costs.now a.to a.t1 a.count c.requires.1 (omega (arith, c.requires, long_row c))
+    copied_start a.costs.now a.to a.row a.count c.requires.1 (omega (arith, c.requires, long_row c))
 
-cast-costs : tie.Need-overflow-cast-costs invariant-loop decreases-loop
+cast-costs : tie.Need-overflow_cast-costs invariant-loop decreases-loop
 cast-costs c =
-    let s = c.before.before in
+    let s = c in
     omega (
       arith,
-      front_each Word 0 s.args.count s.args.t1 (omega (arith, s.requires.0, long_row s)) s.requires.2
-          c.before.loop.i (omega arith),
+      front_each Word 0 s.args.count s.args.row (omega (arith, s.requires.0, long_row s.before.before)) s.requires.2
+          c.loop-i.i (omega arith),
     )
 
-pub put-costs-spec : {M : Type 1} → statement M
-put-costs-spec =
+pub put_costs_spec : {M : Type 1} → statement M
+put_costs_spec =
     tie.close
     (tie.spec
     invariant-loop
     decreases-loop
     loop-holds
-    (λ c. omega arith)  -- mul-costs
-    (λ c. omega arith)  -- array-read-costs
+    (λ c. omega arith)  -- offset_bounds-row-i
+    (λ c. omega arith)  -- bounds-row-i
     cast-costs
-    (λ c. omega arith)  -- add-costs
-    (λ c. omega (arith, copied_length c.before.loop.invariant))  -- mul-costs-2
-    (λ c. omega (arith, copied_length c.before.loop.invariant))  -- slice-write-costs
-    (λ c. omega arith)  -- add-i
-    (λ c. omega arith)  -- loop-less
-    (λ c. copied_next c.before.loop.invariant (omega arith) _ refl)  -- loop-again
-    (λ c. copied_length c.before.loop.invariant)  -- same-length
-    (λ c. copied_end c.before.loop.invariant (omega arith)))  -- returns
+    (λ c. omega arith)  -- overflow_add-costs
+    (λ c. omega (arith, copied_length c.loop-i.invariant))  -- offset_bounds-costs-to
+    (λ c. omega (arith, copied_length c.loop-i.invariant))  -- bounds-costs-to
+    (λ c. omega arith)  -- overflow_add-i
+    (λ c. omega arith)  -- loop-i-smaller
+    (λ c. copied_next c.loop-i.invariant (omega arith) _ refl)  -- loop-i-preserved
+    (λ c. copied_length c.loop-i.invariant)  -- shape_of-costs
+    (λ c. copied_end c.before.loop-i.invariant (omega arith)))  -- returns  -- returns

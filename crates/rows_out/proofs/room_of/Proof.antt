@@ -15,16 +15,16 @@ divided_is a (suc b) h = refl
 
 returns : tie.Need-returns
 returns c =
-    let s = c.before.before in
+    let s = c in
     rw (divided_is s.args.costs s.args.p s.requires.0, divided_is s.args.choices s.args.n s.requires.1)
-    (c.lesser2.ensures ∙ ap (min _) c.before.lesser.ensures)
+    (c.lesser-2.ensures ∙ ap (min _) c.lesser.ensures)
 
-pub room-of-spec : {M : Type 1} → statement M
-room-of-spec =
+pub room_of_spec : {M : Type 1} → statement M
+room_of_spec =
     tie.close
     (tie.spec
-    (λ c. search rules)  -- div-lesser
-    (λ c. search rules)  -- div-lesser-2
+    (λ c. search rules)  -- nonzero_div-costs
+    (λ c. search rules)  -- nonzero_div-choices
     (λ c κs. search rules)  -- lesser-requires
     (λ c κs. search rules)  -- lesser-requires-2
     returns)
