@@ -7,26 +7,26 @@ use Rattle.text_lines.proofs.Digits.{decimal_length}
 use Rattle.text_lines.proofs.digit_count.Statement.{statement}
 use Rattle.text_lines.proofs.digit_count.Tie as tie
 
-abbrev invariant-loop : tie.invariant-loop
+abbrev invariant-loop : tie.invariant-loop-left
 invariant-loop x count₀ left₀ count left =
     (1 ≤ count) × (count ≤ 10) × (left < tens (10 - count))
     × (count + more_digits (10 - count) left ≡ suc (more_digits 9 (x / 10)))
 
-abbrev decreases-loop : tie.decreases-loop
+abbrev decreases-loop : tie.decreases-loop-left
 decreases-loop x count₀ left₀ count left = left
 
-loop-holds : tie.Need-loop-init invariant-loop decreases-loop
+loop-holds : tie.Need-loop-left-init invariant-loop decreases-loop
 loop-holds c = (omega arith, omega arith, omega arith, omega arith)
 
-add-count : tie.Need-overflow-add-count invariant-loop decreases-loop
+add-count : tie.Need-overflow_add-count invariant-loop decreases-loop
 add-count c = omega arith
 
-loop-less : tie.Need-loop-smaller invariant-loop decreases-loop
+loop-less : tie.Need-loop-left-smaller invariant-loop decreases-loop
 loop-less c = omega arith
 
-loop-again : tie.Need-loop-preserved invariant-loop decreases-loop
+loop-again : tie.Need-loop-left-preserved invariant-loop decreases-loop
 loop-again c =
-    let w = c.before.loop in
+    let w = c.before.loop-left in
     let some = some_digit (10 - w.count) w.left (omega arith) w.invariant.2 in
     let more : 10 - w.count ≡ suc (10 - (w.count + 1)) = omega arith in
     let small : w.left < tens (suc (10 - (w.count + 1))) = rw more at w.invariant.2 in
@@ -41,10 +41,17 @@ loop-again c =
 
 returns : tie.Need-returns invariant-loop decreases-loop
 returns c =
-    let w = c.before.loop in
+    let w = c.before.loop-left in
     let none : w.left ≡ 0 = omega arith in
     omega (arith, rw (none, more_none) at w.invariant.3, decimal_length c.before.before.args.x)
 
-pub digit-count-spec : {M : Type 1} → statement M
-digit-count-spec =
-    tie.close (tie.spec invariant-loop decreases-loop loop-holds add-count loop-less loop-again returns)
+pub digit_count_spec : {M : Type 1} → statement M
+digit_count_spec =
+    tie.close (tie.spec
+    invariant-loop
+    decreases-loop
+    loop-holds
+    add-count
+    loop-less
+    loop-again
+    returns)

@@ -10,7 +10,7 @@ use Rattle.text_lines.proofs.Digits.{last_digits, last_next, last_none, decimal_
 use Rattle.text_lines.proofs.put_digits.Statement.{statement}
 use Rattle.text_lines.proofs.put_digits.Tie as tie
 
-abbrev invariant-loop : tie.invariant-loop
+abbrev invariant-loop : tie.invariant-loop-k
 invariant-loop x at end out₀ k₀ left₀ out k left =
     (at ≤ k)
     × (k ≤ end)
@@ -18,33 +18,33 @@ invariant-loop x at end out₀ k₀ left₀ out k left =
     × (take k out ≡ take k out₀)
     × (last_digits (k - at) left (drop k out) ≡ decimal x ++ drop end out₀)
 
-abbrev decreases-loop : tie.decreases-loop
+abbrev decreases-loop : tie.decreases-loop-k
 decreases-loop x at end out₀ k₀ left₀ out k left = k
 
-loop-holds : tie.Need-loop-init invariant-loop decreases-loop
+loop-holds : tie.Need-loop-k-init invariant-loop decreases-loop
 loop-holds c =
     let a = c.args in
     let count : a.end - a.at ≡ length (decimal a.x) = omega (arith, c.requires.0) in
     (omega (arith, c.requires.0), omega arith, refl, refl, rw count (decimal_last a.x (drop a.end a.out.now)))
 
-sub-k : tie.Need-overflow-sub-k invariant-loop decreases-loop
+sub-k : tie.Need-overflow_sub-k invariant-loop decreases-loop
 sub-k c = omega arith
 
-add-out : tie.Need-overflow-add-out invariant-loop decreases-loop
+add-out : tie.Need-overflow_add-out invariant-loop decreases-loop
 add-out c = omega arith
 
-cast-out : tie.Need-overflow-cast-out invariant-loop decreases-loop
+cast-out : tie.Need-overflow_cast-out invariant-loop decreases-loop
 cast-out c = omega arith
 
-slice-write-out : tie.Need-slice-write-out invariant-loop decreases-loop
+slice-write-out : tie.Need-bounds-out-k invariant-loop decreases-loop
 slice-write-out c = omega arith
 
-loop-less : tie.Need-loop-smaller invariant-loop decreases-loop
+loop-less : tie.Need-loop-k-smaller invariant-loop decreases-loop
 loop-less c = omega arith
 
-loop-again : tie.Need-loop-preserved invariant-loop decreases-loop
+loop-again : tie.Need-loop-k-preserved invariant-loop decreases-loop
 loop-again c =
-    let w = c.before.loop in
+    let w = c.before.loop-k in
     let a = c.before.before.args in
     let k : ℕ = w.k - 1 in
     let d : ℕ = 48 + w.left % 10 in
@@ -60,12 +60,12 @@ loop-again c =
       rw put said,
     )
 
-same_length : tie.Need-same-length invariant-loop decreases-loop
-same_length c = c.before.loop.invariant.2
+same_length : tie.Need-shape_of-out invariant-loop decreases-loop
+same_length c = c.before.loop-k.invariant.2
 
 returns : tie.Need-returns invariant-loop decreases-loop
 returns c =
-    let w = c.before.loop in
+    let w = c.before.loop-k in
     let a = c.before.before.args in
     let last : w.k ≡ a.at = omega arith in
     let none : w.k - a.at ≡ 0 = omega arith in
@@ -73,8 +73,8 @@ returns c =
     let digits = rw (none, last_none, last) at w.invariant.4 in
     sym (take-append-drop a.at w.out) ∙ rw (front, digits) refl
 
-pub put-digits-spec : {M : Type 1} → statement M
-put-digits-spec =
+pub put_digits_spec : {M : Type 1} → statement M
+put_digits_spec =
     tie.close
     (tie.spec
     invariant-loop
