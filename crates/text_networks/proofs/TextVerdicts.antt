@@ -8,7 +8,7 @@ use lib.Dec.{ltb}
 use lib.ListN.{length}
 use borrow.Author.Tests.{lt-ltb, le-ltb, ne_eqb}
 use Rattle.model.specs.Limits.{max_bytes}
-use Rattle.model.specs.Refusals.{Verdict, verdict, accepted, refused_at}
+use Rattle.model.specs.Refusals.{verdict, accepted, refused_at}
 use Rattle.model.specs.Encoding.{encode}
 use Rattle.text_words.specs.Texts.{words_of}
 use Rattle.text_networks.specs.Findings.{Finding, fine, dialect, stop, fault, and_then, find_if}
