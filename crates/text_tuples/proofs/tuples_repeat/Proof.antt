@@ -12,15 +12,15 @@ use Rattle.text_tuples.proofs.Tuples.{unmet_less}
 use Rattle.text_tuples.proofs.tuples_repeat.Statement.{statement}
 use Rattle.text_tuples.proofs.tuples_repeat.Tie as tie
 
-abbrev invariant-loop : tie.invariant-loop
+abbrev invariant-loop : tie.invariant-loop-k
 invariant-loop s at count arity sizes met₀ next₀ k₀ met next k =
     (k ≤ count) × Unmet s arity (take arity sizes) met (count - k) next
     (repeated_tuple (tuples_of count arity (words_at s at)))
 
-abbrev decreases-loop : tie.decreases-loop
+abbrev decreases-loop : tie.decreases-loop-k
 decreases-loop s at count arity sizes met₀ next₀ k₀ met next k = count - k
 
-loop-holds : tie.Need-loop-init invariant-loop decreases-loop
+loop-holds : tie.Need-loop-k-init invariant-loop decreases-loop
 loop-holds c =
     let start = c.before in
     let a = start.args in
@@ -33,53 +33,53 @@ loop-holds c =
     )
 
 -- in the loop: the tuple that is due
-ahead : (c : tie.In-loop invariant-loop decreases-loop)
+ahead : (c : tie.In-loop-k invariant-loop decreases-loop)
     → let a = c.before.before.before.args in
-    let w = c.before.loop in
+    let w = c.before.loop-k in
     Unmet a.s.now a.arity (take a.arity a.sizes) w.met (suc (a.count - (w.k + 1))) w.next
     (repeated_tuple (tuples_of a.count a.arity (words_at a.s.now a.at)))
 ahead c =
-    let w = c.before.loop in
+    let w = c.before.loop-k in
     unmet_due c.before.before.before.args.count w.k (omega arith) w.invariant.1
 
-tuple-index-requires : tie.Need-tuple-index-requires invariant-loop decreases-loop
+tuple-index-requires : tie.Need-tuple_index-entry-requires invariant-loop decreases-loop
 tuple-index-requires c κs =
     let p = c.before.before.before.requires in
-    record { within = c.before.loop.invariant.1.within; few = p.1; small = p.2; right = tuple_right (ahead c) }
+    record { within = c.before.loop-k.invariant.1.within; few = p.1; small = p.2; right = tuple_right (ahead c) }
 
-returns : tie.Need-returns invariant-loop decreases-loop
+returns : tie.Need-returns-then-met-index invariant-loop decreases-loop
 returns c =
-    let entry = c.before.tuple-index in
+    let entry = c.before.tuple_index-entry in
     met_twice (ahead c.before.before) entry.result.index entry.result.end entry.ensures.index
-    c.if1.true
+    c.if-met-index.true
 
-loop-again : tie.Need-loop-preserved invariant-loop decreases-loop
+loop-again : tie.Need-loop-k-preserved invariant-loop decreases-loop
 loop-again c =
     let fresh = c.before in
-    let entry = fresh.before.tuple-index in (
+    let entry = fresh.before.tuple_index-entry in (
       omega arith,
       unmet_less (ahead fresh.before.before) entry.result.index entry.result.end entry.ensures.index
-          fresh.if1.false entry.ensures.rest c.read_number.result c.read_number.ensures,
+          fresh.if-met-index.false entry.ensures.rest c.read_number-cost.result c.read_number-cost.ensures,
     )
 
-returns-2 : tie.Need-returns-2 invariant-loop decreases-loop
+returns-2 : tie.Need-returns invariant-loop decreases-loop
 returns-2 c =
-    let w = c.before.loop in
+    let w = c.before.loop-k in
     unmet_none c.before.before.before.args.count w.k (omega arith) w.invariant.1
 
-pub tuples-repeat-spec : {M : Type 1} → statement M
-tuples-repeat-spec =
+pub tuples_repeat_spec : {M : Type 1} → statement M
+tuples_repeat_spec =
     tie.close
     (tie.spec
     invariant-loop
     decreases-loop
     loop-holds
     tuple-index-requires
-    (λ c. c.tuple-index.ensures.below)  -- array-read-if1
+    (λ c. c.tuple_index-entry.ensures.below)  -- bounds-met-index
     returns
-    (λ c. c.before.tuple-index.ensures.below)  -- array-write-met
-    (λ c κs. c.before.tuple-index.ensures.within)  -- read-number-requires
-    (λ c. omega arith)  -- add-k
-    (λ c. omega arith)  -- loop-less
+    (λ c. c.before.tuple_index-entry.ensures.below)  -- bounds-met-index-in-loop-k
+    (λ c κs. c.before.tuple_index-entry.ensures.within)  -- read_number-cost-requires
+    (λ c. omega arith)  -- overflow_add-k
+    (λ c. omega arith)  -- loop-k-smaller
     loop-again
     returns-2)
