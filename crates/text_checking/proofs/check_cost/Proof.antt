@@ -7,17 +7,17 @@ use Rattle.text_checking.proofs.check_cost.Tie as tie
 
 returns : tie.Need-returns
 returns c =
-    let says = c.before.read_number.ensures in
+    let says = c.before.read_number-x.ensures in
     record {
       finding = c.limited.ensures ∙ cost_code says;
       within = says.within;
       words = λ _. says.rest;
     }
 
-pub check-cost-spec : {M : Type 1} → statement M
-check-cost-spec =
+pub check_cost_spec : {M : Type 1} → statement M
+check_cost_spec =
     tie.close
     (tie.spec
-    (λ c κs. search rules)  -- read-number-requires
+    (λ c κs. search rules)  -- read_number-x-requires
     (λ c κs. search rules)  -- limited-requires
     returns)

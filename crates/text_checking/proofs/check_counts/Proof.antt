@@ -20,10 +20,10 @@ use Rattle.text_checking.proofs.check_counts.Tie as tie
 returns : tie.Need-returns
 returns c =
     let read = c.before.before in
-    let cost = read.before.check-cost in
+    let cost = read.before.check_cost-cost in
     let a = read.before.before.before.args in
     let ws = words_at a.s.now a.at in
-    let says = read.read_number.ensures in
+    let says = read.read_number-x.ensures in
     let second = get_d_first [] 1 ws in
     let light : c.and_then.result < 2 → cost.result.finding < 2 =
     λ l. both_first _ _ (rw c.and_then.ensures at l) in
@@ -42,12 +42,12 @@ returns c =
           ∙ ap (λ w. min (value_of (term_of w)) cap_end) second;
     }
 
-pub check-counts-spec : {M : Type 1} → statement M
-check-counts-spec =
+pub check_counts_spec : {M : Type 1} → statement M
+check_counts_spec =
     tie.close
     (tie.spec
-    (λ c κs. search rules)  -- check-cost-requires
-    (λ c κs. search rules)  -- read-number-requires
-    (λ c κs. search rules)  -- count-code-requires
-    (λ c κs. search rules)  -- and-then-requires
+    (λ c κs. search rules)  -- check_cost-cost-requires
+    (λ c κs. search rules)  -- read_number-x-requires
+    (λ c κs. search rules)  -- count_code-requires
+    (λ c κs. search rules)  -- and_then-requires
     returns)

@@ -15,33 +15,33 @@ returns c =
     let largest = sizes.before in
     let variables = largest.before in
     let read = variables.before in
-    let fourth = read.read-number4 in
-    let third = read.before.read-number3 in
-    let second = read.before.before.read-number2 in
-    let first = read.before.before.before.read_number in
+    let fourth = read.read_number-bound in
+    let third = read.before.read_number-functions in
+    let second = read.before.before.read_number-largest in
+    let first = read.before.before.before.read_number-variables in
     let a = read.before.before.before.before.before.args in
     head_says a.s.now a.at first.result second.result third.result fourth.result first.ensures
-    second.ensures third.ensures fourth.ensures variables.limited.result largest.limited2.result
-    functions.limited3.result bound.limited4.result
+    second.ensures third.ensures fourth.ensures variables.limited.result largest.limited-2.result
+    functions.limited-3.result bound.limited-4.result
     (variables.limited.ensures ∙ variables_code first.ensures)
-    (largest.limited2.ensures ∙ largest_code second.ensures)
-    (functions.limited3.ensures ∙ functions_code third.ensures)
-    (bound.limited4.ensures ∙ bound_code fourth.ensures) c.and-then3.result
-    (rw (sizes.and_then.ensures, costs.and-then2.ensures) at c.and-then3.ensures)
+    (largest.limited-2.ensures ∙ largest_code second.ensures)
+    (functions.limited-3.ensures ∙ functions_code third.ensures)
+    (bound.limited-4.ensures ∙ bound_code fourth.ensures) c.and_then.result
+    (rw (sizes.and_then-sizes.ensures, costs.and_then-costs.ensures) at c.and_then.ensures)
 
-pub check-head-spec : {M : Type 1} → statement M
-check-head-spec =
+pub check_head_spec : {M : Type 1} → statement M
+check_head_spec =
     tie.close
     (tie.spec
-    (λ c κs. search rules)  -- read-number-requires
-    (λ c κs. search rules)  -- read-number-requires-2
-    (λ c κs. search rules)  -- read-number-requires-3
-    (λ c κs. search rules)  -- read-number-requires-4
+    (λ c κs. search rules)  -- read_number-variables-requires
+    (λ c κs. search rules)  -- read_number-largest-requires
+    (λ c κs. search rules)  -- read_number-functions-requires
+    (λ c κs. search rules)  -- read_number-bound-requires
     (λ c κs. search rules)  -- limited-requires
     (λ c κs. search rules)  -- limited-requires-2
-    (λ c κs. search rules)  -- and-then-requires
+    (λ c κs. search rules)  -- and_then-sizes-requires
     (λ c κs. search rules)  -- limited-requires-3
     (λ c κs. search rules)  -- limited-requires-4
-    (λ c κs. search rules)  -- and-then-requires-2
-    (λ c κs. search rules)  -- and-then-requires-3
+    (λ c κs. search rules)  -- and_then-costs-requires
+    (λ c κs. search rules)  -- and_then-requires
     returns)

@@ -16,39 +16,39 @@ use Rattle.text_checking.proofs.Codes.{number_code_lem, number_none}
 use Rattle.text_checking.proofs.check_network.Statement.{statement}
 use Rattle.text_checking.proofs.check_network.Tie as tie
 
-returns : tie.Need-returns
+returns : tie.Need-returns-then-name
 unfolding network_finding number_of
 returns c =
-    let none = c.before.before.next_word.ensures.none c.if1.true in
+    let none = c.before.before.next_word-name.ensures.none c.if-name.true in
     record { number = sym (ap (λ (ws : Words). number_of (network_finding ws)) none); bytes = λ z. absurd (omega arith) }
 
-returns-2 : tie.Need-returns-2
+returns-2 : tie.Need-returns
 returns-2 c =
     let rest = c.before in
-    let word = rest.before.before.before.next_word in
+    let word = rest.before.before.before.next_word-name in
     let s = rest.before.before.before.before.before.args.s.now in
     let name : List ℕ = part s word.result.start word.result.end in
     let some : word.result.start < word.result.end =
-    omega (arith, word.ensures.ordered, rest.before.if1.false) in
+    omega (arith, word.ensures.ordered, rest.before.if-name.false) in
     let words : words_of s ≡ name ∷ words_at s word.result.end = word.ensures.some some in
-    let body = rest.check-rest.ensures in
+    let body = rest.check_rest-body.ensures in
     record {
       number =
-          c.number_of_lem.ensures
+          c.number_of.ensures
           ∙ ap number_code (body.finding name)
           ∙ number_code_lem (network_finding (name ∷ words_at s word.result.end))
           ∙ ap (λ (ws : Words). number_of (network_finding ws)) (sym words);
       bytes = λ z.
-          body.bytes (number_none _ (sym c.number_of_lem.ensures ∙ z)) name
+          body.bytes (number_none _ (sym c.number_of.ensures ∙ z)) name
           ∙ ap (λ (ws : Words). length (encode (network_problem ws))) (sym words);
     }
 
-pub check-network-spec : {M : Type 1} → statement M
-check-network-spec =
+pub check_network_spec : {M : Type 1} → statement M
+check_network_spec =
     tie.close
     (tie.spec
-    (λ c κs. search rules)  -- next-word-requires
+    (λ c κs. search rules)  -- next_word-name-requires
     returns
-    (λ c κs. search rules)  -- check-rest-requires
-    (λ c κs. search rules)  -- number-of-requires
+    (λ c κs. search rules)  -- check_rest-body-requires
+    (λ c κs. search rules)  -- number_of-requires
     returns-2)

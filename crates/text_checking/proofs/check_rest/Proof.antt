@@ -4,14 +4,14 @@ use Rattle.text_checking.proofs.Bodies.{head_decides}
 use Rattle.text_checking.proofs.check_rest.Statement.{statement}
 use Rattle.text_checking.proofs.check_rest.Tie as tie
 
-pub check-rest-spec : {M : Type 1} → statement M
-check-rest-spec =
+pub check_rest_spec : {M : Type 1} → statement M
+check_rest_spec =
     tie.close
     (tie.spec
-    (λ c κs. search rules)  -- check-head-requires
-    (λ c. head_decides c.before.before.check-head.ensures c.if1.true)  -- returns
-    (λ c κs. search rules)  -- check-many-requires
-    (λ c. search rules)  -- returns-2
-    (λ c. search rules)  -- slice-aggregate-check-body
-    (λ c κs. search rules)  -- check-body-requires
-    (λ c. search rules))  -- returns-3
+    (λ c κs. search rules)  -- check_head-head-requires
+    (λ c. head_decides c.before.before.check_head-head.ensures c.if-head-ge2.true)  -- returns-then-head-ge2
+    (λ c κs. search rules)  -- check_many-requires
+    (λ c. search rules)  -- returns-then-head-gt24
+    (λ c. search rules)  -- slice_bounds-check_body-end
+    (λ c κs. search rules)  -- check_body-requires
+    (λ c. search rules))  -- returns  -- returns-3

@@ -18,18 +18,18 @@ use Rattle.text_checking.proofs.check_size.Tie as tie
 most : tie.Start → ℕ
 most c = value_from 0 (numeral c.args.s.now c.args.most)
 
-returns : tie.Need-returns
+returns : tie.Need-returns-then-x-ne0
 unfolding most
 returns c =
     let limited = c.before.before in
     let read = limited.before in
     let start : tie.Start = read.before.before in
-    let says = read.read_number.ensures in
-    let (code, heavy) = size_none says (most start) c.if1.true in
-    let decides : 2 ≤ limited.limited.result = rw limited.limited.ensures heavy in
+    let says = read.read_number-x.ensures in
+    let (code, heavy) = size_none says (most start) c.if-x-ne0.true in
+    let decides : 2 ≤ limited.limited-finding.result = rw limited.limited-finding.ensures heavy in
     record {
       step = record {
-        finding = limited.limited.ensures ∙ code;
+        finding = limited.limited-finding.ensures ∙ code;
         within = says.within;
         words = λ l. absurd (omega arith);
       };
@@ -38,29 +38,29 @@ returns c =
       entry = λ l. absurd (omega arith);
     }
 
-is-less-requires : tie.Need-is-less-requires
+is-less-requires : tie.Need-is_less-requires
 is-less-requires c κs =
     let read = c.before.before.before in
-    (read.before.before.requires.1, read.read_number.ensures.digits c.if1.false)
+    (read.before.before.requires.1, read.read_number-x.ensures.digits c.if-x-ne0.false)
 
-is-less-requires-2 : tie.Need-is-less-requires-2
+is-less-requires-2 : tie.Need-is_less-met-requires
 is-less-requires-2 c κs =
     let number = c.before.before in
     let read = number.before.before.before in
-    (read.read_number.ensures.digits number.if1.false, read.before.before.requires.1)
+    (read.read_number-x.ensures.digits number.if-x-ne0.false, read.before.before.requires.1)
 
-returns-2 : tie.Need-returns-2
+returns-2 : tie.Need-returns-then-is_less
 unfolding most
 returns-2 c =
     let number = c.before.before in
     let read = number.before.before.before in
     let start : tie.Start = read.before.before in
-    let says = read.read_number.ensures in
+    let says = read.read_number-x.ensures in
     let above : ltb (most start) (value_at 0 (words_at start.args.s.now start.args.at)) ≡ true =
-    ap (ltb (most start)) (sym (says.exact number.if1.false)) ∙ sym c.before.is-less.ensures ∙ c.if2.true in
+    ap (ltb (most start)) (sym (says.exact number.if-x-ne0.false)) ∙ sym c.before.is_less.ensures ∙ c.if-is_less.true in
     record {
       step = record {
-        finding = sym (size_above says (most start) number.if1.false above);
+        finding = sym (size_above says (most start) number.if-x-ne0.false above);
         within = says.within;
         words = λ l. absurd (omega arith);
       };
@@ -69,7 +69,7 @@ returns-2 c =
       entry = λ l. absurd (omega arith);
     }
 
-returns-3 : tie.Need-returns-3
+returns-3 : tie.Need-returns
 unfolding most
 returns-3 c =
     let less = c.before in
@@ -79,32 +79,32 @@ returns-3 c =
     let read = limited.before in
     let start : tie.Start = read.before.before in
     let s = start.args.s.now in
-    let says = read.read_number.ensures in
-    let exact = says.exact number.if1.false in
+    let says = read.read_number-x.ensures in
+    let exact = says.exact number.if-x-ne0.false in
     let x : ℕ = value_at 0 (words_at s start.args.at) in
     let under : ltb (most start) x ≡ false =
-    ap (ltb (most start)) (sym exact) ∙ sym left.before.is-less.ensures ∙ left.if2.false in
+    ap (ltb (most start)) (sym exact) ∙ sym left.before.is_less.ensures ∙ left.if-is_less.false in
     record {
       step = record {
-        finding = limited.limited.ensures ∙ size_below says (most start) number.if1.false under;
+        finding = limited.limited-finding.ensures ∙ size_below says (most start) number.if-x-ne0.false under;
         within = says.within;
         words = λ _. says.rest;
       };
-      met = λ _. ap not (less.is-less2.ensures ∙ ap (λ (n : ℕ). ltb n (most start)) exact);
+      met = λ _. ap not (less.is_less-met.ensures ∙ ap (λ (n : ℕ). ltb n (most start)) exact);
       below = λ _. ltb-false (most start) x under;
       entry = λ _.
-          ap (size_held s) c.entry_of.ensures ∙ entry_held s start.args.at read.read_number.result says;
+          ap (size_held s) c.entry_of.ensures ∙ entry_held s start.args.at read.read_number-x.result says;
     }
 
-pub check-size-spec : {M : Type 1} → statement M
-check-size-spec =
+pub check_size_spec : {M : Type 1} → statement M
+check_size_spec =
     tie.close
     (tie.spec
-    (λ c κs. search rules)  -- read-number-requires
-    (λ c κs. search rules)  -- limited-requires
+    (λ c κs. search rules)  -- read_number-x-requires
+    (λ c κs. search rules)  -- limited-finding-requires
     returns
     is-less-requires
     returns-2
     is-less-requires-2
-    (λ c κs. search rules)  -- entry-of-requires
+    (λ c κs. search rules)  -- entry_of-requires
     returns-3)

@@ -5,18 +5,18 @@ use Rattle.text_checking.specs.Sizes.{entry_of}
 use Rattle.text_checking.proofs.entry_of.Statement.{statement}
 use Rattle.text_checking.proofs.entry_of.Tie as tie
 
-returns : tie.Need-returns
+returns : tie.Need-returns-then-value-lt-HALF
 unfolding entry_of
-returns c = rw (lt-ltb _ _ c.if1.true)
+returns c = rw (lt-ltb _ _ c.if-value-lt-HALF.true)
 
-returns-2 : tie.Need-returns-2
+returns-2 : tie.Need-returns
 unfolding entry_of
-returns-2 c = rw (le-ltb _ _ c.if1.false)
+returns-2 c = rw (le-ltb _ _ c.if-value-lt-HALF.false)
 
-pub entry-of-spec : {M : Type 1} → statement M
-entry-of-spec =
+pub entry_of_spec : {M : Type 1} → statement M
+entry_of_spec =
     tie.close
     (tie.spec
     returns
-    (λ c. search rules)  -- add-result
+    (λ c. search rules)  -- overflow_add-result
     returns-2)

@@ -14,40 +14,40 @@ use Rattle.text_checking.proofs.Filling.{values_at, values_none}
 use Rattle.text_checking.proofs.size_entry.Statement.{statement}
 use Rattle.text_checking.proofs.size_entry.Tie as tie
 
-returns : tie.Need-returns
+returns : tie.Need-returns-then-declared-v
 returns c =
     let a = c.before.before.before.before.args in
     held_small a.s.now 0 (omega arith)
-    ∙ sym (values_none a.declared.variables (words_at a.s.now a.declared.sizes) a.v c.if1.true)
+    ∙ sym (values_none a.declared.variables (words_at a.s.now a.declared.sizes) a.v c.if-declared-v.true)
 
-returns-2 : tie.Need-returns-2
+returns-2 : tie.Need-returns-then-i-index
 returns-2 c =
     let start = c.before.before.before.before.before.before in
-    start.requires.held start.args.v (omega arith) c.before.if2.true
+    start.requires.held start.args.v (omega arith) c.before.if-i-index.true
 
-returns-3 : tie.Need-returns-3
+returns-3 : tie.Need-returns
 returns-3 c =
     let start = c.before.before.before.before.before.before.before.before in
     let a = start.args in
     let s = a.s.now in
     let ws = words_at s a.declared.sizes in
-    let skipped = c.before.before.skip-words in
-    let read = c.before.read_number in
+    let skipped = c.before.before.skip_words-place in
+    let read = c.before.read_number-x in
     ap (size_held s) c.entry_of.ensures
     ∙ entry_held s skipped.result read.result read.ensures
     ∙ ap (λ (us : Words). value_of (term_of (get_or us 0 []))) skipped.ensures.words
     ∙ ap (λ w. value_of (term_of w)) (get_d_first [] a.v ws)
     ∙ sym (values_at a.declared.variables ws a.v (omega arith))
 
-pub size-entry-spec : {M : Type 1} → statement M
-size-entry-spec =
+pub size_entry_spec : {M : Type 1} → statement M
+size_entry_spec =
     tie.close
     (tie.spec
     returns
-    (λ c. search rules)  -- mul-result
-    (λ c. search rules)  -- shared-slice-read-result
+    (λ c. search rules)  -- offset_bounds-index-i
+    (λ c. search rules)  -- bounds-index-i
     returns-2
-    (λ c κs. search rules)  -- skip-words-requires
-    (λ c κs. search rules)  -- read-number-requires
-    (λ c κs. search rules)  -- entry-of-requires
+    (λ c κs. search rules)  -- skip_words-place-requires
+    (λ c κs. search rules)  -- read_number-x-requires
+    (λ c κs. search rules)  -- entry_of-requires
     returns-3)

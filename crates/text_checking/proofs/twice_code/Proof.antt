@@ -5,19 +5,19 @@ use Rattle.text_checking.specs.Codes.{code_of}
 use Rattle.text_checking.proofs.twice_code.Statement.{statement}
 use Rattle.text_checking.proofs.twice_code.Tie as tie
 
-returns-2 : tie.Need-returns-2
+returns-2 : tie.Need-returns-then-repeats
 unfolding code_of
-returns-2 c = (omega arith, λ _. rw (← c.before.repeats.ensures, c.if2.true))
+returns-2 c = (omega arith, λ _. rw (← c.before.repeats.ensures, c.if-repeats.true))
 
-returns-3 : tie.Need-returns-3
+returns-3 : tie.Need-returns
 unfolding code_of
-returns-3 c = (omega arith, λ _. rw (← c.before.repeats.ensures, c.if2.false))
+returns-3 c = (omega arith, λ _. rw (← c.before.repeats.ensures, c.if-repeats.false))
 
-pub twice-code-spec : {M : Type 1} → statement M
-twice-code-spec =
+pub twice_code_spec : {M : Type 1} → statement M
+twice_code_spec =
     tie.close
     (tie.spec
-    (λ c. search rules)  -- returns
+    (λ c. search rules)  -- returns-then-arity-gt3
     (λ c κs. search rules)  -- repeats-requires
     returns-2
     returns-3)
