@@ -17,87 +17,87 @@ use Rattle.text_reading.proofs.from_text.Tie as tie
 
 -- ## the places: checked, and nothing refused
 
-abbrev text_in : tie.After-check-network → List ℕ
+abbrev text_in : tie.After-check_network-network → List ℕ
 text_in c = c.before.before.before.args.text.now
 
-abbrev buffer : tie.After-check-network → List ℕ
+abbrev buffer : tie.After-check_network-network → List ℕ
 buffer c = c.before.before.before.args.problem.now
 
-abbrev form : tie.After-check-network → List ℕ
+abbrev form : tie.After-check_network-network → List ℕ
 form c = encode (network_problem (words_of (text_in c)))
 
-abbrev checked : tie.Else1 → tie.After-check-network
+abbrev checked : tie.Else-network-ne0 → tie.After-check_network-network
 checked c = c.before.before
 
-right : (c : tie.Else1) → network_finding (words_of (text_in (checked c))) ≡ fine
+right : (c : tie.Else-network-ne0) → network_finding (words_of (text_in (checked c))) ≡ fine
 right c =
-    let network = (checked c).check-network in
+    let network = (checked c).check_network-network in
     number_none _ (sym network.ensures.number ∙ not_refused c)
   where
-    not_refused : (c : tie.Else1) → (checked c).check-network.result.number ≡ 0
-    not_refused c = omega (arith, c.if1.false)
+    not_refused : (c : tie.Else-network-ne0) → (checked c).check_network-network.result.number ≡ 0
+    not_refused c = omega (arith, c.if-network-ne0.false)
 
-long : (c : tie.Else1) → (checked c).check-network.result.bytes ≡ length (form (checked c))
-long c = (checked c).check-network.ensures.bytes (omega (arith, c.if1.false))
+long : (c : tie.Else-network-ne0) → (checked c).check_network-network.result.bytes ≡ length (form (checked c))
+long c = (checked c).check_network-network.ensures.bytes (omega (arith, c.if-network-ne0.false))
 
-few : (c : tie.Else2) → length (form (checked c.before)) ≤ max_bytes
-few c = omega (arith, long c.before, c.if2.false)
+few : (c : tie.Else-bytes-gt60000) → length (form (checked c.before)) ≤ max_bytes
+few c = omega (arith, long c.before, c.if-bytes-gt60000.false)
 
-fits : (c : tie.Else3) → length (form (checked c.before.before)) ≤ length (buffer (checked c.before.before))
-fits c = omega (arith, long c.before.before, c.if3.false)
+fits : (c : tie.Else-problem-bytes) → length (form (checked c.before.before)) ≤ length (buffer (checked c.before.before))
+fits c = omega (arith, long c.before.before, c.if-problem-bytes.false)
 
 -- ## the answers
 
-returns : tie.Need-returns
+returns : tie.Need-returns-then-network-ne0
 returns c =
-    let read : tie.After-check-network = c.before.before.before in
-    let network = read.check-network in
+    let read : tie.After-check_network-network = c.before.before.before in
+    let network = read.check_network-network in
     rw c.refused.ensures
     (refused_answer (text_in read) (buffer read) network.result.number network.ensures.number
-    c.before.if1.true)
+    c.before.if-network-ne0.true)
 
-returns-2 : tie.Need-returns-2
+returns-2 : tie.Need-returns-then-bytes-gt60000
 returns-2 c =
-    let known : tie.Else1 = c.before.before in
+    let known : tie.Else-network-ne0 = c.before.before in
     let read = checked known in
-    rw c.refused2.ensures
-    (long_answer (text_in read) (buffer read) (right known) (omega (arith, long known, c.before.if2.true)))
+    rw c.refused-then-bytes-gt60000.ensures
+    (long_answer (text_in read) (buffer read) (right known) (omega (arith, long known, c.before.if-bytes-gt60000.true)))
 
-returns-3 : tie.Need-returns-3
+returns-3 : tie.Need-returns-then-problem-bytes
 returns-3 c =
-    let short : tie.Else2 = c.before.before in
-    let known : tie.Else1 = short.before in
+    let short : tie.Else-bytes-gt60000 = c.before.before in
+    let known : tie.Else-network-ne0 = short.before in
     let read = checked known in
-    rw c.refused3.ensures
+    rw c.refused-then-problem-bytes.ensures
     (short_answer (text_in read) (buffer read) (right known) (few short)
-    (omega (arith, long known, c.before.if3.true)))
+    (omega (arith, long known, c.before.if-problem-bytes.true)))
 
-put-records-requires : tie.Need-put-records-requires
+put-records-requires : tie.Need-put_records-requires
 put-records-requires c κs =
-    let room : tie.Else3 = c.before in
+    let room : tie.Else-problem-bytes = c.before in
     (right room.before.before, fits room, few room.before)
 
-returns-4 : tie.Need-returns-4
+returns-4 : tie.Need-returns
 returns-4 c =
-    let put : tie.After-put-records = c.before.before in
-    let room : tie.Else3 = put.before.before in
-    let known : tie.Else1 = room.before.before in
+    let put : tie.After-put_records = c.before.before in
+    let room : tie.Else-problem-bytes = put.before.before in
+    let known : tie.Else-network-ne0 = room.before.before in
     let read = checked known in
     records_answer (text_in read) (buffer read) (right known) (few room.before) (fits room) (long known)
-    put.put-records.ensures
+    put.put_records.ensures
 
-pub from-text-spec : {M : Type 1} → statement M
-from-text-spec =
+pub from_text_spec : {M : Type 1} → statement M
+from_text_spec =
     tie.close
     (tie.spec
-    (λ c κs. search rules)  -- check-network-requires
+    (λ c κs. search rules)  -- check_network-network-requires
     (λ c κs. search rules)  -- refused-requires
     returns
-    (λ c κs. search rules)  -- refused-requires-2
+    (λ c κs. search rules)  -- refused-requires-then-bytes-gt60000
     returns-2
-    (λ c κs. search rules)  -- refused-requires-3
+    (λ c κs. search rules)  -- refused-requires-then-problem-bytes
     returns-3
     put-records-requires
-    (λ c. search rules)  -- cast-t10
-    (λ c. search rules)  -- same-length
+    (λ c. search rules)  -- overflow_cast-result
+    (λ c. search rules)  -- shape_of-problem
     returns-4)

@@ -13,14 +13,14 @@ use Rattle.text_reading.proofs.Forms.{domain_next, domains_end}
 use Rattle.text_reading.proofs.put_domains.Statement.{statement}
 use Rattle.text_reading.proofs.put_domains.Tie as tie
 
-abbrev invariant-loop : tie.invariant-loop
+abbrev invariant-loop : tie.invariant-loop-i
 invariant-loop at out₀ count sizes next₀ i₀ out next i =
     (i ≤ count) × Underway at (domain_bytes (take count sizes)) out₀ (domain_bytes (drop i (take count sizes))) out next
 
-abbrev decreases-loop : tie.decreases-loop
+abbrev decreases-loop : tie.decreases-loop-i
 decreases-loop at out₀ count sizes next₀ i₀ out next i = count - i
 
-loop-holds : tie.Need-loop-init invariant-loop decreases-loop
+loop-holds : tie.Need-loop-i-init invariant-loop decreases-loop
 loop-holds c =
     let start : tie.Start invariant-loop decreases-loop = c.before.before in
     (omega arith, begin start.args.out.now start.requires.1)
@@ -31,50 +31,50 @@ long s =
     omega (arith, s.requires.0)
 
 -- in the loop: the record that is due
-ahead : (c : tie.In-loop invariant-loop decreases-loop)
+ahead : (c : tie.In-loop-i invariant-loop decreases-loop)
     → let d = c.before.before.before.before.args.d in
-    let i = c.before.loop.i in
+    let i = c.before.loop-i.i in
     let ds = take d.count d.sizes in
     Split (domain_bytes (drop i ds)) (letter_d ∷ letter_o ∷ get_or d.sizes i 0 ∷ []) (domain_bytes (drop (suc i) ds))
 ahead c =
     let start : tie.Start invariant-loop decreases-loop = c.before.before.before.before in
-    domain_next start.args.d.count start.args.d.sizes (long start) c.before.loop.i (omega arith)
+    domain_next start.args.d.count start.args.d.sizes (long start) c.before.loop-i.i (omega arith)
 
-room : (c : tie.In-loop invariant-loop decreases-loop) → c.before.loop.next + 3 ≤ word_end
-room c = due (ahead c) c.before.loop.invariant.1
+room : (c : tie.In-loop-i invariant-loop decreases-loop) → c.before.loop-i.next + 3 ≤ word_end
+room c = due (ahead c) c.before.loop-i.invariant.1
 
-put-byte-requires : tie.Need-put-byte-requires invariant-loop decreases-loop
+put-byte-requires : tie.Need-put_byte-next-requires invariant-loop decreases-loop
 put-byte-requires c κs =
-    let mark : tie.After-put-pair invariant-loop decreases-loop = c.before.before.before in
-    omega (arith, room mark.before.before, mark.put-pair.ensures.next)
+    let mark : tie.After-put_pair-size invariant-loop decreases-loop = c.before.before.before in
+    omega (arith, room mark.before.before, mark.put_pair-size.ensures.next)
 
-loop-again : tie.Need-loop-preserved invariant-loop decreases-loop
+loop-again : tie.Need-loop-i-preserved invariant-loop decreases-loop
 loop-again c =
-    let size : tie.After-put-byte invariant-loop decreases-loop = c.before.before in
-    let mark : tie.After-put-pair invariant-loop decreases-loop = size.before.before.before.before in
-    let inside : tie.In-loop invariant-loop decreases-loop = mark.before.before in
-    let put = written_then mark.put-pair.ensures size.put_byte.ensures in
-    (omega arith, rw add-one (go_on (ahead inside) inside.before.loop.invariant.1 put))
+    let size : tie.After-put_byte-next invariant-loop decreases-loop = c.before.before in
+    let mark : tie.After-put_pair-size invariant-loop decreases-loop = size.before.before.before.before in
+    let inside : tie.In-loop-i invariant-loop decreases-loop = mark.before.before in
+    let put = written_then mark.put_pair-size.ensures size.put_byte-next.ensures in
+    (omega arith, rw add-one (go_on (ahead inside) inside.before.loop-i.invariant.1 put))
 
 returns : tie.Need-returns invariant-loop decreases-loop
 returns c =
-    let w = c.before.loop in
+    let w = c.before.loop-i in
     let start : tie.Start invariant-loop decreases-loop = c.before.before.before.before in
     let d = start.args.d in
     done (rw (domains_end d.count d.sizes (long start) w.i (omega arith)) at w.invariant.1)
 
-pub put-domains-spec : {M : Type 1} → statement M
-put-domains-spec =
+pub put_domains_spec : {M : Type 1} → statement M
+put_domains_spec =
     tie.close
     (tie.spec
     invariant-loop
     decreases-loop
     loop-holds
-    (λ c κs. omega (arith, room c.before))  -- put-pair-requires
-    (λ c. search rules)  -- array-read-put-byte
+    (λ c κs. omega (arith, room c.before))  -- put_pair-size-requires
+    (λ c. search rules)  -- bounds-sizes-i
     put-byte-requires
-    (λ c. search rules)  -- add-i
-    (λ c. omega arith)  -- loop-less
+    (λ c. search rules)  -- overflow_add-i
+    (λ c. omega arith)  -- loop-i-smaller
     loop-again
-    (λ c. c.before.loop.invariant.1.kept)  -- same-length
+    (λ c. c.before.loop-i.invariant.1.kept)  -- shape_of-out
     returns)

@@ -44,42 +44,42 @@ module _ (at a b c d : ℕ) (out : List ℕ) (h : at + 4 ≤ length out) where
       (byte_to (at + 2) (at + 3) c two (omega arith) (omega (arith, long_two))))
       (byte_to (at + 3) (at + 4) d three (omega arith) (omega (arith, long_three)))
 
-returns : tie.Need-returns
+returns : tie.Need-returns-then-out-next
 unfolding four_bytes two_bytes
 returns c = unwritten c.before.args.out.now refl (omega arith)
 
-slice-write-out-2 : tie.Need-slice-write-out-2
+slice-write-out-2 : tie.Need-bounds-out-at-2
 slice-write-out-2 c = simp length-set (omega arith)
 
-slice-write-out-3 : tie.Need-slice-write-out-3
+slice-write-out-3 : tie.Need-bounds-out-at-3
 slice-write-out-3 c = simp length-set (omega arith)
 
-slice-write-out-4 : tie.Need-slice-write-out-4
+slice-write-out-4 : tie.Need-bounds-out-at-4
 slice-write-out-4 c = simp length-set (omega arith)
 
-returns-2 : tie.Need-returns-2
+returns-2 : tie.Need-returns
 unfolding four_bytes two_bytes
 returns-2 c =
     let a = c.before.args in
     four_written a.at (a.x % 65536 % 256) (a.x % 65536 / 256) (a.x / 65536 % 256) (a.x / 65536 / 256)
     a.out.now (omega arith)
 
-pub put-four-spec : {M : Type 1} → statement M
-put-four-spec =
+pub put_four_spec : {M : Type 1} → statement M
+put_four_spec =
     tie.close
     (tie.spec
-    (λ c. search rules)  -- add-next
+    (λ c. search rules)  -- overflow_add-next
     returns
-    (λ c. search rules)  -- cast-out
-    (λ c. search rules)  -- slice-write-out
-    (λ c. search rules)  -- cast-out-2
-    (λ c. search rules)  -- add-out
+    (λ c. search rules)  -- overflow_cast-out
+    (λ c. search rules)  -- bounds-out-at
+    (λ c. search rules)  -- overflow_cast-out-2
+    (λ c. search rules)  -- overflow_add-out
     slice-write-out-2
-    (λ c. search rules)  -- cast-out-3
-    (λ c. search rules)  -- add-out-2
+    (λ c. search rules)  -- overflow_cast-out-3
+    (λ c. search rules)  -- overflow_add-out-2
     slice-write-out-3
-    (λ c. search rules)  -- cast-out-4
-    (λ c. search rules)  -- add-out-3
+    (λ c. search rules)  -- overflow_cast-out-4
+    (λ c. search rules)  -- overflow_add-out-3
     slice-write-out-4
-    (λ c. search rules)  -- same-length
+    (λ c. search rules)  -- shape_of-out
     returns-2)

@@ -6,15 +6,15 @@ use Rattle.text_reading.proofs.put_pair.Tie as tie
 
 returns : tie.Need-returns
 returns c =
-    let second : tie.After-put-byte2 = c.before.before in
-    let first : tie.After-put-byte = second.before.before.before.before in
-    written_then first.put_byte.ensures second.put-byte2.ensures
+    let second : tie.After-put_byte = c.before.before in
+    let first : tie.After-put_byte-next = second.before.before.before.before in
+    written_then first.put_byte-next.ensures second.put_byte.ensures
 
-pub put-pair-spec : {M : Type 1} → statement M
-put-pair-spec =
+pub put_pair_spec : {M : Type 1} → statement M
+put_pair_spec =
     tie.close
     (tie.spec
-    (λ c κs. search rules)  -- put-byte-requires
-    (λ c κs. search rules)  -- put-byte-requires-2
-    (λ c. search rules)  -- same-length
+    (λ c κs. search rules)  -- put_byte-next-requires
+    (λ c κs. search rules)  -- put_byte-requires
+    (λ c. search rules)  -- shape_of-out
     returns)

@@ -14,11 +14,11 @@ use Rattle.text_reading.proofs.Forms.{byte_next, bytes_end}
 use Rattle.text_reading.proofs.put_table_head.Statement.{statement}
 use Rattle.text_reading.proofs.put_table_head.Tie as tie
 
-abbrev invariant-loop : tie.invariant-loop
+abbrev invariant-loop : tie.invariant-loop-i
 invariant-loop at out₀ arity variables mark next₀ i₀ out next i =
     (i ≤ arity) × Underway next₀ (take arity variables) out₀ (drop i (take arity variables)) out next
 
-abbrev decreases-loop : tie.decreases-loop
+abbrev decreases-loop : tie.decreases-loop-i
 decreases-loop at out₀ arity variables mark next₀ i₀ out next i = arity - i
 
 long : (s : tie.Start invariant-loop decreases-loop) → s.args.scope.arity ≤ length s.args.scope.variables
@@ -27,70 +27,70 @@ long s =
     omega (arith, s.requires.0)
 
 -- the mark and the counts
-counts : (c : tie.After-put-pair2 invariant-loop decreases-loop)
-    → let mark : tie.After-put-pair invariant-loop decreases-loop = c.before.before.before.before in
+counts : (c : tie.After-put_pair-next invariant-loop decreases-loop)
+    → let mark : tie.After-put_pair-mark invariant-loop decreases-loop = c.before.before.before.before in
     let start : tie.Start invariant-loop decreases-loop = mark.before.before.before.before in
     let scope = start.args.scope in
     Written start.args.at (letter_c ∷ letter_f ∷ 0 ∷ scope.arity ∷ []) start.args.out.now
-    c.put-pair2.new.1.1.1.0 c.put-pair2.result
+    c.put_pair-next.new.out c.put_pair-next.result
 counts c =
-    let mark : tie.After-put-pair invariant-loop decreases-loop = c.before.before.before.before in
-    written_then mark.put-pair.ensures c.put-pair2.ensures
+    let mark : tie.After-put_pair-mark invariant-loop decreases-loop = c.before.before.before.before in
+    written_then mark.put_pair-mark.ensures c.put_pair-next.ensures
 
-loop-holds : tie.Need-loop-init invariant-loop decreases-loop
+loop-holds : tie.Need-loop-i-init invariant-loop decreases-loop
 loop-holds c =
-    let second : tie.After-put-pair2 invariant-loop decreases-loop = c.before.before in
+    let second : tie.After-put_pair-next invariant-loop decreases-loop = c.before.before in
     let start : tie.Start invariant-loop decreases-loop = second.before.before.before.before.before.before.before.before in
     let scope = start.args.scope in
     let some = length-take-le scope.arity scope.variables (long start) in
     (omega arith, begin _ (omega (arith, some, start.requires.1, (counts second).next)))
 
 -- in the loop: the variable that is due
-ahead : (c : tie.In-loop invariant-loop decreases-loop)
-    → let second : tie.After-put-pair2 invariant-loop decreases-loop = c.before.before.before.before in
+ahead : (c : tie.In-loop-i invariant-loop decreases-loop)
+    → let second : tie.After-put_pair-next invariant-loop decreases-loop = c.before.before.before.before in
     let start : tie.Start invariant-loop decreases-loop = second.before.before.before.before.before.before.before.before in
     let scope = start.args.scope in
     let vs = take scope.arity scope.variables in
-    let i = c.before.loop.i in
+    let i = c.before.loop-i.i in
     Split (drop i vs) (get_or scope.variables i 0 ∷ []) (drop (suc i) vs)
 ahead c =
-    let second : tie.After-put-pair2 invariant-loop decreases-loop = c.before.before.before.before in
+    let second : tie.After-put_pair-next invariant-loop decreases-loop = c.before.before.before.before in
     let start : tie.Start invariant-loop decreases-loop = second.before.before.before.before.before.before.before.before in
     let scope = start.args.scope in
-    byte_next scope.arity scope.variables (long start) c.before.loop.i (omega arith)
+    byte_next scope.arity scope.variables (long start) c.before.loop-i.i (omega arith)
 
-loop-again : tie.Need-loop-preserved invariant-loop decreases-loop
+loop-again : tie.Need-loop-i-preserved invariant-loop decreases-loop
 loop-again c =
-    let put : tie.After-put-byte invariant-loop decreases-loop = c.before.before in
-    let inside : tie.In-loop invariant-loop decreases-loop = put.before.before in
-    (omega arith, rw add-one (go_on (ahead inside) inside.before.loop.invariant.1 put.put_byte.ensures))
+    let put : tie.After-put_byte-next invariant-loop decreases-loop = c.before.before in
+    let inside : tie.In-loop-i invariant-loop decreases-loop = put.before.before in
+    (omega arith, rw add-one (go_on (ahead inside) inside.before.loop-i.invariant.1 put.put_byte-next.ensures))
 
 returns : tie.Need-returns invariant-loop decreases-loop
 returns c =
-    let w = c.before.loop in
-    let second : tie.After-put-pair2 invariant-loop decreases-loop = c.before.before.before.before in
+    let w = c.before.loop-i in
+    let second : tie.After-put_pair-next invariant-loop decreases-loop = c.before.before.before.before in
     let start : tie.Start invariant-loop decreases-loop = second.before.before.before.before.before.before.before.before in
     let scope = start.args.scope in
     let all = bytes_end scope.arity scope.variables (long start) w.i (omega arith) in
     written_then (counts second) (done (rw all at w.invariant.1))
 
-same_length : tie.Need-same-length invariant-loop decreases-loop
-same_length c = c.before.loop.invariant.1.kept ∙ (counts c.before.before.before.before).kept
+same_length : tie.Need-shape_of-out invariant-loop decreases-loop
+same_length c = c.before.loop-i.invariant.1.kept ∙ (counts c.before.before.before.before).kept
 
-pub put-table-head-spec : {M : Type 1} → statement M
-put-table-head-spec =
+pub put_table_head_spec : {M : Type 1} → statement M
+put_table_head_spec =
     tie.close
     (tie.spec
     invariant-loop
     decreases-loop
-    (λ c κs. search rules)  -- put-pair-requires
-    (λ c. search rules)  -- cast-put-pair
-    (λ c κs. search rules)  -- put-pair-requires-2
+    (λ c κs. search rules)  -- put_pair-mark-requires
+    (λ c. search rules)  -- overflow_cast-arity
+    (λ c κs. search rules)  -- put_pair-next-requires
     loop-holds
-    (λ c. search rules)  -- array-read-put-byte
-    (λ c κs. due (ahead c.before) c.before.before.loop.invariant.1)  -- put-byte-requires
-    (λ c. search rules)  -- add-i
-    (λ c. omega arith)  -- loop-less
+    (λ c. search rules)  -- bounds-variables-i
+    (λ c κs. due (ahead c.before) c.before.before.loop-i.invariant.1)  -- put_byte-next-requires
+    (λ c. search rules)  -- overflow_add-i
+    (λ c. omega arith)  -- loop-i-smaller
     loop-again
     same_length
     returns)

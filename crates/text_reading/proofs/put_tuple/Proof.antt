@@ -9,7 +9,7 @@ use Rattle.text_reading.proofs.Tuples.{entry_inside, cost_fits, tuple_put}
 use Rattle.text_reading.proofs.put_tuple.Statement.{statement}
 use Rattle.text_reading.proofs.put_tuple.Tie as tie
 
-tuple-index-requires : tie.Need-tuple-index-requires
+tuple-index-requires : tie.Need-tuple_index-entry-requires
 tuple-index-requires c κs =
     let p = c.before.before.before.requires in
     record { within = p.within; few = p.table.few; small = p.table.small; right = p.right }
@@ -18,45 +18,45 @@ three : (s : tie.Start) → length s.args.scope.sizes ≡ 3
 three s = search rules
 
 -- the entry has its place
-room : (c : tie.After-tuple-index)
+room : (c : tie.After-tuple_index-entry)
     → let start : tie.Start = c.before.before.before.before in
-    start.args.to + 4 * c.tuple-index.result.index + 4 ≤ word_end
+    start.args.to + 4 * c.tuple_index-entry.result.index + 4 ≤ word_end
 room c =
     let start : tie.Start = c.before.before.before.before in
     omega (
       arith,
-      entry_inside (three start) start.requires c.tuple-index.result c.tuple-index.ensures,
+      entry_inside (three start) start.requires c.tuple_index-entry.result c.tuple_index-entry.ensures,
       start.requires.table.room,
     )
 
-cast-put-four : tie.Need-overflow-cast-put-four
+cast-put-four : tie.Need-overflow_cast-cost
 cast-put-four c =
-    let read : tie.After-read-number = c.before in
-    let entry : tie.After-tuple-index = read.before in
+    let read : tie.After-read_number-cost = c.before in
+    let entry : tie.After-tuple_index-entry = read.before in
     let start : tie.Start = entry.before.before.before.before in
     record {
-      fits = cost_fits (three start) start.requires entry.tuple-index.result entry.tuple-index.ensures
-          read.read_number.result read.read_number.ensures;
+      fits = cost_fits (three start) start.requires entry.tuple_index-entry.result entry.tuple_index-entry.ensures
+          read.read_number-cost.result read.read_number-cost.ensures;
     }
 
 returns : tie.Need-returns
 returns c =
-    let put : tie.After-put-four = c.before.before in
-    let read : tie.After-read-number = put.before.before.before.before in
-    let entry : tie.After-tuple-index = read.before in
+    let put : tie.After-put_four = c.before.before in
+    let read : tie.After-read_number-cost = put.before.before.before.before in
+    let entry : tie.After-tuple_index-entry = read.before in
     let start : tie.Start = entry.before.before.before.before in
-    tuple_put (three start) start.requires entry.tuple-index.result entry.tuple-index.ensures
-    read.read_number.result read.read_number.ensures put.put_four.ensures
+    tuple_put (three start) start.requires entry.tuple_index-entry.result entry.tuple_index-entry.ensures
+    read.read_number-cost.result read.read_number-cost.ensures put.put_four.ensures
 
-pub put-tuple-spec : {M : Type 1} → statement M
-put-tuple-spec =
+pub put_tuple_spec : {M : Type 1} → statement M
+put_tuple_spec =
     tie.close
     (tie.spec
     tuple-index-requires
-    (λ c κs. c.tuple-index.ensures.within)  -- read-number-requires
+    (λ c κs. c.tuple_index-entry.ensures.within)  -- read_number-cost-requires
     cast-put-four
-    (λ c. record { fits = omega (arith, room c.before.before.before) })  -- mul-put-four
-    (λ c. record { fits = omega (arith, room c.before.before.before) })  -- add-put-four
-    (λ c κs. room c.before.before.before.before)  -- put-four-requires
-    (λ c. search rules)  -- same-length
+    (λ c. record { fits = omega (arith, room c.before.before.before) })  -- overflow_mul-entry
+    (λ c. record { fits = omega (arith, room c.before.before.before) })  -- overflow_add-to
+    (λ c κs. room c.before.before.before.before)  -- put_four-requires
+    (λ c. search rules)  -- shape_of-out
     returns)

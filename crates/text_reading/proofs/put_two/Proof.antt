@@ -6,14 +6,14 @@ use Rattle.text_reading.proofs.put_two.Tie as tie
 
 returns : tie.Need-returns
 unfolding two_bytes
-returns c = c.before.before.put-pair.ensures
+returns c = c.before.before.put_pair.ensures
 
-pub put-two-spec : {M : Type 1} → statement M
-put-two-spec =
+pub put_two_spec : {M : Type 1} → statement M
+put_two_spec =
     tie.close
     (tie.spec
-    (λ c. search rules)  -- cast-put-pair
-    (λ c. search rules)  -- cast-put-pair-2
-    (λ c κs. search rules)  -- put-pair-requires
-    (λ c. search rules)  -- same-length
+    (λ c. search rules)  -- overflow_cast-x
+    (λ c. search rules)  -- overflow_cast-x-2
+    (λ c κs. search rules)  -- put_pair-requires
+    (λ c. search rules)  -- shape_of-out
     returns)

@@ -6,14 +6,14 @@ use Rattle.text_reading.proofs.Functions.{Placed, arity_few, scope_range, defaul
 use Rattle.text_reading.proofs.read_function.Statement.{statement}
 use Rattle.text_reading.proofs.read_function.Tie as tie
 
-placed : (c : tie.After-shared-slice-known)
+placed : (c : tie.After-shared_slice_known-1)
     → let a = c.before.args in
     Placed a.s.now a.at (domain_list a.d)
 placed c = record { within = c.before.requires.within; short = omega arith; right = c.before.requires.right }
 
-read-scope-requires : tie.Need-read-scope-requires
+read-scope-requires : tie.Need-read_scope-scope-requires
 read-scope-requires c κs =
-    let read = c.read_number.ensures in
+    let read = c.read_number-arity.ensures in
     record {
       domains = c.before.before.requires.domains;
       within = read.within;
@@ -21,32 +21,32 @@ read-scope-requires c κs =
       range = scope_range (placed c.before) read;
     }
 
-cast-t9 : tie.Need-overflow-cast-t9
+cast-t9 : tie.Need-overflow_cast-result
 cast-t9 c =
-    let default : tie.After-read-number2 = c.before.before in
-    let scope : tie.After-read-scope = default.before in
-    let arity : tie.After-read-number = scope.before in
+    let default : tie.After-read_number-default = c.before.before in
+    let scope : tie.After-read_scope-scope = default.before in
+    let arity : tie.After-read_number-arity = scope.before in
     record {
-      fits = default_fits (placed arity.before) arity.read_number.ensures scope.read-scope.ensures
-          default.read-number2.ensures;
+      fits = default_fits (placed arity.before) arity.read_number-arity.ensures scope.read_scope-scope.ensures
+          default.read_number-default.ensures;
     }
 
 returns : tie.Need-returns
 returns c =
-    let count : tie.After-read-number3 = c.before in
-    let default : tie.After-read-number2 = count.before in
-    let scope : tie.After-read-scope = default.before in
-    let arity : tie.After-read-number = scope.before in
-    function_says (placed arity.before) arity.read_number.ensures scope.read-scope.ensures
-    default.read-number2.ensures count.read-number3.ensures
+    let count : tie.After-read_number-count = c.before in
+    let default : tie.After-read_number-default = count.before in
+    let scope : tie.After-read_scope-scope = default.before in
+    let arity : tie.After-read_number-arity = scope.before in
+    function_says (placed arity.before) arity.read_number-arity.ensures scope.read_scope-scope.ensures
+    default.read_number-default.ensures count.read_number-count.ensures
 
-pub read-function-spec : {M : Type 1} → statement M
-read-function-spec =
+pub read_function_spec : {M : Type 1} → statement M
+read_function_spec =
     tie.close
     (tie.spec
-    (λ c κs. c.before.requires.within)  -- read-number-requires
+    (λ c κs. c.before.requires.within)  -- read_number-arity-requires
     read-scope-requires
-    (λ c κs. search rules)  -- read-number-requires-2
-    (λ c κs. search rules)  -- read-number-requires-3
+    (λ c κs. search rules)  -- read_number-default-requires
+    (λ c κs. search rules)  -- read_number-count-requires
     cast-t9
     returns)
