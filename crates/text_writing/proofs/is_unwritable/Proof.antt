@@ -19,20 +19,20 @@ unbounded c = go (ltb 4294967294 c) refl
     go true e = sym (lt-ltb max_bound (upper_bound_for c) (omega (arith, ltb-true 4294967294 c e)))
     go false e = sym (le-ltb max_bound (upper_bound_for c) (omega (arith, ltb-false 4294967294 c e)))
 
-returns : tie.Need-returns
-returns c = rw (lt-ltb 1 _ c.if1.true) refl
+returns : tie.Need-returns-then-head-gt1
+returns c = rw (lt-ltb 1 _ c.if-head-gt1.true) refl
 
-returns-2 : tie.Need-returns-2
+returns-2 : tie.Need-returns
 returns-2 c =
-    let tested : tie.Else1 = c.before in
-    let objectives = tested.before.args.t1.objectives in
-    let few : ltb 1 objectives ≡ false = le-ltb 1 objectives (omega (arith, tested.if1.false)) in
-    rw few (unbounded (get_or tested.before.args.t1.ceilings 0 0))
+    let tested : tie.Else-head-gt1 = c.before in
+    let objectives = tested.before.args.head.objectives in
+    let few : ltb 1 objectives ≡ false = le-ltb 1 objectives (omega (arith, tested.if-head-gt1.false)) in
+    rw few (unbounded (get_or tested.before.args.head.ceilings 0 0))
 
-pub is-unwritable-spec : {M : Type 1} → statement M
-is-unwritable-spec =
+pub is_unwritable_spec : {M : Type 1} → statement M
+is_unwritable_spec =
     tie.close
     (tie.spec
     returns
-    (λ c. search rules)  -- element-copy-out-result
+    (λ c. search rules)  -- bounds-head-0
     returns-2)

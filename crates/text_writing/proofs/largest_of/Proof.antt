@@ -9,10 +9,10 @@ use Rattle.text_networks.specs.Networks.{largest_of}
 use Rattle.text_writing.proofs.largest_of.Statement.{statement}
 use Rattle.text_writing.proofs.largest_of.Tie as tie
 
-abbrev invariant-loop : tie.invariant-loop
+abbrev invariant-loop : tie.invariant-loop-i
 invariant-loop sizes largest₀ i₀ largest i = (i ≤ length sizes) × (largest ≡ largest_of (drop i sizes))
 
-abbrev decreases-loop : tie.decreases-loop
+abbrev decreases-loop : tie.decreases-loop-i
 decreases-loop sizes largest₀ i₀ largest i = i
 
 -- one size more
@@ -26,44 +26,44 @@ none : largest_of [] ≡ 0
 unfolding largest_of
 none = refl
 
-loop-holds : tie.Need-loop-init invariant-loop decreases-loop
+loop-holds : tie.Need-loop-i-init invariant-loop decreases-loop
 loop-holds c =
     let ds = c.args.sizes.now in
     (omega arith, sym (ap largest_of (drop-length ds) ∙ none))
 
-loop-again : tie.Need-loop-preserved invariant-loop decreases-loop
+loop-again : tie.Need-loop-i-preserved-then-largest-sizes invariant-loop decreases-loop
 loop-again c =
-    let turn : tie.At-loop invariant-loop decreases-loop = c.before.before.before.before in
-    let w = turn.loop in
+    let turn : tie.At-loop-i invariant-loop decreases-loop = c.before.before.before.before in
+    let w = turn.loop-i in
     let ds = turn.before.args.sizes.now in
     let more = next ds (w.i - 1) w.i (omega arith) (omega arith) in
-    (omega arith, omega (arith, more, w.invariant.1, c.before.if1.true))
+    (omega arith, omega (arith, more, w.invariant.1, c.before.if-largest-sizes.true))
 
-loop-again-2 : tie.Need-loop-preserved-2 invariant-loop decreases-loop
+loop-again-2 : tie.Need-loop-i-preserved invariant-loop decreases-loop
 loop-again-2 c =
-    let w = c.before.before.before.loop in
+    let w = c.before.before.before.loop-i in
     let ds = c.before.before.before.before.args.sizes.now in
     let more = next ds (w.i - 1) w.i (omega arith) (omega arith) in
-    (omega arith, omega (arith, more, w.invariant.1, c.if1.false))
+    (omega arith, omega (arith, more, w.invariant.1, c.if-largest-sizes.false))
 
 returns : tie.Need-returns invariant-loop decreases-loop
 returns c =
-    let w = c.before.loop in
+    let w = c.before.loop-i in
     let first : w.i ≡ 0 = omega arith in
     rw first at w.invariant.1
 
-pub largest-of-spec : {M : Type 1} → statement M
-largest-of-spec =
+pub largest_of_spec : {M : Type 1} → statement M
+largest_of_spec =
     tie.close
     (tie.spec
     invariant-loop
     decreases-loop
     loop-holds
-    (λ c. omega arith)  -- sub-i
-    (λ c. omega arith)  -- shared-slice-read-if1
-    (λ c. omega arith)  -- shared-slice-read-largest
-    (λ c. omega arith)  -- loop-less
+    (λ c. omega arith)  -- overflow_sub-i
+    (λ c. omega arith)  -- bounds-sizes-i
+    (λ c. omega arith)  -- bounds-sizes-i-then-largest-sizes
+    (λ c. omega arith)  -- loop-i-smaller-then-largest-sizes
     loop-again
-    (λ c. omega arith)  -- loop-less-2
+    (λ c. omega arith)  -- loop-i-smaller
     loop-again-2
     returns)

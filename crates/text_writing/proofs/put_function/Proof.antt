@@ -17,7 +17,7 @@ use Rattle.text_writing.proofs.Functions.{constant_line, head_first}
 use Rattle.text_writing.proofs.put_function.Statement.{statement}
 use Rattle.text_writing.proofs.put_function.Tie as tie
 
-abbrev start_of : tie.After-arity-at → tie.Start
+abbrev start_of : tie.After-arity_at → tie.Start
 start_of c = c.before.before.before.before
 
 inside : (c : tie.Start) → Headed c.args.s.now c.args.at
@@ -26,106 +26,106 @@ inside c =
     whole_inside a.sizes.now a.s.now a.at c.requires.0
 
 -- the arity is the number of variables
-variables : (c : tie.After-arity-at)
+variables : (c : tie.After-arity_at)
     → let a = (start_of c).args in
-    c.arity-at.result ≡ length (table_scope (drop a.at a.s.now))
+    c.arity_at.result ≡ length (table_scope (drop a.at a.s.now))
 variables c =
     let start : tie.Start = start_of c in
     let a = start.args in
-    c.arity-at.ensures ∙ sym (scope_many a.s.now a.at (inside start))
+    c.arity_at.ensures ∙ sym (scope_many a.s.now a.at (inside start))
 
 -- ## without variables
 
-number-at-requires : tie.Need-number-at-requires
+number-at-requires : tie.Need-number_at-requires
 number-at-requires c κs =
     let start : tie.Start = start_of c.before in
     let a = start.args in
-    (start.pre.0, entries_some a.sizes.now a.s.now a.at start.pre.0 start.pre.1)
+    (start.requires.0, entries_some a.sizes.now a.s.now a.at start.requires.0 start.requires.1)
 
-constant : (c : tie.After-written-cost)
+constant : (c : tie.After-written_cost-entry)
     → let a = (start_of c.before.before.before).args in
-    head_line a.s.now a.at c.written_cost_lem.result 0
+    head_line a.s.now a.at c.written_cost-entry.result 0
     ≡ function_text a.sizes.now (written_at a.bound a.sizes.now a.s.now a.at)
 constant c =
-    let read : tie.After-number-at = c.before in
-    let tested : tie.Then1 = read.before in
-    let counted : tie.After-arity-at = tested.before in
+    let read : tie.After-number_at = c.before in
+    let tested : tie.Then-arity_at-eq0 = read.before in
+    let counted : tie.After-arity_at = tested.before in
     let a = (start_of counted).args in
     constant_line a.bound a.sizes.now a.s.now a.at _
-    (c.written_cost_lem.ensures ∙ ap (written_cost a.bound) read.number_at.ensures)
-    (sym (variables counted) ∙ tested.if1.true)
+    (c.written_cost-entry.ensures ∙ ap (written_cost a.bound) read.number_at.ensures)
+    (sym (variables counted) ∙ tested.if-arity_at-eq0.true)
 
-put-head-requires : tie.Need-put-head-requires
+put-head-requires : tie.Need-put_head-requires
 put-head-requires c κs =
-    let read : tie.After-written-cost = c.before in
+    let read : tie.After-written_cost-entry = c.before in
     let start : tie.Start = start_of read.before.before.before in
     let a = start.args in (
       inside start,
-      scope_few a.sizes.now a.s.now a.at start.pre.0,
-      subst (λ (l : List ℕ). a.to + length l ≤ word_end) (sym (constant read)) start.pre.3,
+      scope_few a.sizes.now a.s.now a.at start.requires.0,
+      subst (λ (l : List ℕ). a.to + length l ≤ word_end) (sym (constant read)) start.requires.3,
     )
 
-returns : tie.Need-returns
+returns : tie.Need-returns-then-arity_at-eq0
 returns c =
-    let put : tie.After-put-head = c.before.before in
-    written_as (constant put.before.before) put.put-head.ensures
+    let put : tie.After-put_head = c.before.before in
+    written_as (constant put.before.before) put.put_head.ensures
 
 -- ## with variables
 
-parts : (c : tie.After-count-nonzero)
+parts : (c : tie.After-count_nonzero-count)
     → let a = (start_of c.before.before).args in
     Split (function_text a.sizes.now (written_at a.bound a.sizes.now a.s.now a.at))
-    (head_line a.s.now a.at 0 c.count-nonzero.result)
+    (head_line a.s.now a.at 0 c.count_nonzero-count.result)
     (table_lines a.bound a.sizes.now a.s.now a.at)
 parts c =
-    let tested : tie.Else1 = c.before in
-    let counted : tie.After-arity-at = tested.before in
+    let tested : tie.Else-arity_at-eq0 = c.before in
+    let counted : tie.After-arity_at = tested.before in
     let start : tie.Start = start_of counted in
     let a = start.args in
-    head_first a.bound a.sizes.now a.s.now a.at start.pre.2 _ c.count-nonzero.ensures
-    (λ e. tested.if1.false (variables counted ∙ e))
+    head_first a.bound a.sizes.now a.s.now a.at start.requires.2 _ c.count_nonzero-count.ensures
+    (λ e. tested.if-arity_at-eq0.false (variables counted ∙ e))
 
-put-head-requires-2 : tie.Need-put-head-requires-2
+put-head-requires-2 : tie.Need-put_head-behind_head-requires
 put-head-requires-2 c κs =
-    let counted : tie.After-count-nonzero = c.before in
+    let counted : tie.After-count_nonzero-count = c.before in
     let start : tie.Start = start_of counted.before.before in
     let a = start.args in (
       inside start,
-      scope_few a.sizes.now a.s.now a.at start.pre.0,
-      due (parts counted) (begin a.out.now start.pre.3),
+      scope_few a.sizes.now a.s.now a.at start.requires.0,
+      due (parts counted) (begin a.out.now start.requires.3),
     )
 
-put-tuples-requires : tie.Need-put-tuples-requires
+put-tuples-requires : tie.Need-put_tuples-requires
 put-tuples-requires c κs =
-    let first : tie.After-put-head2 = c.before.before.before in
-    let counted : tie.After-count-nonzero = first.before.before in
+    let first : tie.After-put_head-behind_head = c.before.before.before in
+    let counted : tie.After-count_nonzero-count = first.before.before in
     let start : tie.Start = start_of counted.before.before in (
-      start.pre.0,
-      start.pre.1,
-      (go_on (parts counted) (begin start.args.out.now start.pre.3) first.put-head2.ensures).placed,
+      start.requires.0,
+      start.requires.1,
+      (go_on (parts counted) (begin start.args.out.now start.requires.3) first.put_head-behind_head.ensures).placed,
     )
 
-returns-2 : tie.Need-returns-2
+returns-2 : tie.Need-returns
 returns-2 c =
-    let second : tie.After-put-tuples = c.before.before in
-    let first : tie.After-put-head2 = second.before.before.before.before in
-    let counted : tie.After-count-nonzero = first.before.before in
+    let second : tie.After-put_tuples = c.before.before in
+    let first : tie.After-put_head-behind_head = second.before.before.before.before in
+    let counted : tie.After-count_nonzero-count = first.before.before in
     let start : tie.Start = start_of counted.before.before in
-    last (go_on (parts counted) (begin start.args.out.now start.pre.3) first.put-head2.ensures)
-    second.put-tuples.ensures
+    last (go_on (parts counted) (begin start.args.out.now start.requires.3) first.put_head-behind_head.ensures)
+    second.put_tuples.ensures
 
-pub put-function-spec : {M : Type 1} → statement M
-put-function-spec =
+pub put_function_spec : {M : Type 1} → statement M
+put_function_spec =
     tie.close
     (tie.spec
-    (λ c κs. inside c.before.before.before)  -- arity-at-requires
+    (λ c κs. inside c.before.before.before)  -- arity_at-requires
     number-at-requires
-    (λ c κs. search rules)  -- written-cost-requires
+    (λ c κs. search rules)  -- written_cost-entry-requires
     put-head-requires
-    (λ c. search rules)  -- same-length
+    (λ c. search rules)  -- shape_of-out-then-arity_at-eq0
     returns
-    (λ c κs. search rules)  -- count-nonzero-requires
+    (λ c κs. search rules)  -- count_nonzero-count-requires
     put-head-requires-2
     put-tuples-requires
-    (λ c. search rules)  -- same-length-2
+    (λ c. search rules)  -- shape_of-out
     returns-2)

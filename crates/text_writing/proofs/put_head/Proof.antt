@@ -13,78 +13,78 @@ use Rattle.text_writing.proofs.put_head.Statement.{statement}
 use Rattle.text_writing.proofs.put_head.Tie as tie
 
 -- the scope, and as it was lent
-abbrev scope : tie.After-scope-of → List ℕ
+abbrev scope : tie.After-scope_of-scope → List ℕ
 scope c = table_scope (drop c.before.before.before.args.at c.before.before.before.args.s.now)
 
-abbrev told : tie.After-scope-of → List ℕ
-told c = c.scope_of.result.now
+abbrev told : tie.After-scope_of-scope → List ℕ
+told c = c.scope_of-scope.result.now
 
-cast-put-number : tie.Need-overflow-cast-put-number
-cast-put-number c = omega (arith, ap length c.scope_of.ensures, c.before.before.before.requires.1)
+cast-put-number : tie.Need-overflow_cast-scope
+cast-put-number c = omega (arith, ap length c.scope_of-scope.ensures, c.before.before.before.requires.1)
 
-put-number-requires : tie.Need-put-number-requires
+put-number-requires : tie.Need-put_number-behind_arity-requires
 put-number-requires c κs =
-    let read : tie.After-scope-of = c.before in
+    let read : tie.After-scope_of-scope = c.before in
     let start : tie.Start = read.before.before.before in
     let a = start.args in
-    arity_due (scope read) (told read) read.scope_of.ensures a.default a.count a.to a.out.now
+    arity_due (scope read) (told read) read.scope_of-scope.ensures a.default a.count a.to a.out.now
     start.requires.2
 
-put-spaced-requires : tie.Need-put-spaced-requires
+put-spaced-requires : tie.Need-put_spaced-behind_scope-requires
 put-spaced-requires c κs =
-    let first : tie.After-put-number = c.before.before.before in
-    let read : tie.After-scope-of = first.before.before in
+    let first : tie.After-put_number-behind_arity = c.before.before.before in
+    let read : tie.After-scope_of-scope = first.before.before in
     let start : tie.Start = read.before.before.before in
     let a = start.args in
     due (split_in (spaced (told read)) (head_end a.default a.count))
-    (scope_due (scope read) (told read) read.scope_of.ensures a.default a.count a.to a.out.now
-    start.requires.2 first.put-number.ensures)
+    (scope_due (scope read) (told read) read.scope_of-scope.ensures a.default a.count a.to a.out.now
+    start.requires.2 first.put_number-behind_arity.ensures)
 
-put-number-requires-2 : tie.Need-put-number-requires-2
+put-number-requires-2 : tie.Need-put_number-behind_default-requires
 put-number-requires-2 c κs =
-    let second : tie.After-put-spaced = c.before.before.before in
-    let first : tie.After-put-number = second.before.before.before.before in
-    let read : tie.After-scope-of = first.before.before in
+    let second : tie.After-put_spaced-behind_scope = c.before.before.before in
+    let first : tie.After-put_number-behind_arity = second.before.before.before.before in
+    let read : tie.After-scope_of-scope = first.before.before in
     let start : tie.Start = read.before.before.before in
     let a = start.args in
     due (split_in (decimal a.default ++ (space ∷ [])) (decimal a.count ++ (line_feed ∷ [])))
-    (default_due (scope read) (told read) read.scope_of.ensures a.default a.count a.to a.out.now
-    start.requires.2 first.put-number.ensures second.put-spaced.ensures)
+    (default_due (scope read) (told read) read.scope_of-scope.ensures a.default a.count a.to a.out.now
+    start.requires.2 first.put_number-behind_arity.ensures second.put_spaced-behind_scope.ensures)
 
-put-number-requires-3 : tie.Need-put-number-requires-3
+put-number-requires-3 : tie.Need-put_number-requires
 put-number-requires-3 c κs =
-    let third : tie.After-put-number2 = c.before.before.before in
-    let second : tie.After-put-spaced = third.before.before.before.before in
-    let first : tie.After-put-number = second.before.before.before.before in
-    let read : tie.After-scope-of = first.before.before in
+    let third : tie.After-put_number-behind_default = c.before.before.before in
+    let second : tie.After-put_spaced-behind_scope = third.before.before.before.before in
+    let first : tie.After-put_number-behind_arity = second.before.before.before.before in
+    let read : tie.After-scope_of-scope = first.before.before in
     let start : tie.Start = read.before.before.before in
     let a = start.args in
-    (count_due (scope read) (told read) read.scope_of.ensures a.default a.count a.to a.out.now
-    start.requires.2 first.put-number.ensures second.put-spaced.ensures third.put-number2.ensures).placed
+    (count_due (scope read) (told read) read.scope_of-scope.ensures a.default a.count a.to a.out.now
+    start.requires.2 first.put_number-behind_arity.ensures second.put_spaced-behind_scope.ensures third.put_number-behind_default.ensures).placed
 
 returns : tie.Need-returns
 returns c =
-    let fourth : tie.After-put-number3 = c.before.before in
-    let third : tie.After-put-number2 = fourth.before.before.before.before in
-    let second : tie.After-put-spaced = third.before.before.before.before in
-    let first : tie.After-put-number = second.before.before.before.before in
-    let read : tie.After-scope-of = first.before.before in
+    let fourth : tie.After-put_number = c.before.before in
+    let third : tie.After-put_number-behind_default = fourth.before.before.before.before in
+    let second : tie.After-put_spaced-behind_scope = third.before.before.before.before in
+    let first : tie.After-put_number-behind_arity = second.before.before.before.before in
+    let read : tie.After-scope_of-scope = first.before.before in
     let start : tie.Start = read.before.before.before in
     let a = start.args in
     last
-    (count_due (scope read) (told read) read.scope_of.ensures a.default a.count a.to a.out.now
-    start.requires.2 first.put-number.ensures second.put-spaced.ensures third.put-number2.ensures)
-    fourth.put-number3.ensures
+    (count_due (scope read) (told read) read.scope_of-scope.ensures a.default a.count a.to a.out.now
+    start.requires.2 first.put_number-behind_arity.ensures second.put_spaced-behind_scope.ensures third.put_number-behind_default.ensures)
+    fourth.put_number.ensures
 
-pub put-head-spec : {M : Type 1} → statement M
-put-head-spec =
+pub put_head_spec : {M : Type 1} → statement M
+put_head_spec =
     tie.close
     (tie.spec
-    (λ c κs. search rules)  -- scope-of-requires
+    (λ c κs. search rules)  -- scope_of-scope-requires
     cast-put-number
     put-number-requires
     put-spaced-requires
     put-number-requires-2
     put-number-requires-3
-    (λ c. search rules)  -- same-length
+    (λ c. search rules)  -- shape_of-out
     returns)

@@ -5,11 +5,13 @@ use Rattle.model.specs.Costs.{forbidden}
 use Rattle.text_writing.proofs.written_cost.Statement.{statement}
 use Rattle.text_writing.proofs.written_cost.Tie as tie
 
-returns : tie.Need-returns
-returns c = rw (eq-eqb c.before.args.cost forbidden c.if1.true) refl
+returns : tie.Need-returns-then-cost-eq4294967295
+returns c = rw (eq-eqb c.before.args.cost forbidden c.if-cost-eq4294967295.true) refl
 
-returns-2 : tie.Need-returns-2
-returns-2 c = rw (ne_eqb c.before.args.cost forbidden c.if1.false) refl
+returns-2 : tie.Need-returns
+returns-2 c = rw (ne_eqb c.before.args.cost forbidden c.if-cost-eq4294967295.false) refl
 
-pub written-cost-spec : {M : Type 1} → statement M
-written-cost-spec = tie.close (tie.spec returns returns-2)
+pub written_cost_spec : {M : Type 1} → statement M
+written_cost_spec = tie.close (tie.spec
+    returns
+    returns-2)
