@@ -17,7 +17,8 @@ use Rattle.model.proofs.DomainRecords.{length_domain_bytes}
 use Rattle.text_words.specs.Reads.{words_at, cap_end}
 use Rattle.text_networks.specs.Findings.{Words, Finding, fine, dialect, stop, fault, and_then, find_if, term_at}
 use Rattle.text_networks.specs.Findings.{value_at, values_in, runs}
-use Rattle.text_networks.specs.Networks.{variables_finding, largest_finding, functions_number, bound_finding, size_finding}
+use Rattle.text_networks.specs.Networks.{variables_finding, largest_finding, functions_number, bound_finding}
+use Rattle.text_networks.specs.Networks.{size_finding}
 use Rattle.text_networks.specs.Networks.{largest_of, functions_in, functions_finding, function_tables}
 use Rattle.text_networks.specs.Networks.{network_finding, ceiling_for, network_problem}
 use Rattle.text_networks.proofs.FineWords.{both_fine, test_fine, field_fine, inside_fine}

@@ -192,7 +192,8 @@ module _ {s : List ℕ} {at : ℕ} {r : DN.Number} (says : NumberSays s at r) wh
       go negative h l = absurd (omega arith)
       go other h l = absurd (omega arith)
 
-  pub declared_above : (n : ℕ) → ltb (value_of (term_at s at)) n ≡ false → code_of (declared_finding n (term_at s at)) ≡ 3
+  pub declared_above : (n : ℕ) → ltb (value_of (term_at s at)) n ≡ false
+      → code_of (declared_finding n (term_at s at)) ≡ 3
   unfolding kind_of field value_of code_of
   declared_above n e = go (term_at s at) e
     where

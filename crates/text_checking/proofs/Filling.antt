@@ -31,7 +31,8 @@ module _ (i : ℕ) (l : List ℕ) (x : ℕ) where
       ⊎_elim (λ (e : k ≡ i). rw (e, get_or-set_same l i x 0 inside) here)
       (λ (n : k ≡ i → ⊥). rw (get_or-set_other l i k x 0 n) (h k (omega (arith, n)))) (equal_or k i)
 
-  pub kept_more : (g : ℕ → ℕ) → ((k : ℕ) → i ≤ k → get_or l k 0 ≡ g k) → (k : ℕ) → i + 1 ≤ k → get_or (set l i x) k 0 ≡ g k
+  pub kept_more : (g : ℕ → ℕ) → ((k : ℕ) → i ≤ k → get_or l k 0 ≡ g k) → (k : ℕ) → i + 1 ≤ k
+      → get_or (set l i x) k 0 ≡ g k
   kept_more g h k few = get_or-set_other l i k x 0 (λ e. omega arith) ∙ h k (omega arith)
 
 -- ## numbers in words

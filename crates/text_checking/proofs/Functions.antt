@@ -13,11 +13,13 @@ use Rattle.model.specs.Encoding.{table_bytes, word_bytes}
 use Rattle.model.proofs.Words.{length_word_bytes}
 use Rattle.text_words.specs.Reads.{words_at, cap_end, NumberSays}
 use Rattle.text_words.specs.declared.Number as DN
-use Rattle.text_networks.specs.Findings.{Words, Finding, fine, dialect, stop, fault, and_then, find_if, term_at, value_at}
+use Rattle.text_networks.specs.Findings.{Words, Finding, fine, dialect, stop, fault, and_then, find_if, term_at}
+use Rattle.text_networks.specs.Findings.{value_at}
 use Rattle.text_networks.specs.Findings.{values_in, runs}
 use Rattle.text_networks.specs.Networks.{repeated, repeated_tuple, arity_finding, declared_finding, cost_finding}
 use Rattle.text_networks.specs.Networks.{count_finding}
-use Rattle.text_networks.specs.Networks.{arity_in, scope_in, default_in, count_in, tuples_in, function_width, sizes_over}
+use Rattle.text_networks.specs.Networks.{arity_in, scope_in, default_in, count_in, tuples_in, function_width}
+use Rattle.text_networks.specs.Networks.{sizes_over}
 use Rattle.text_networks.specs.Networks.{tuple_finding, tuples_of, function_finding, with_tuples, function_table}
 use Rattle.text_networks.proofs.FineTables.{costs_count}
 use Rattle.text_networks.proofs.Entries.{product, size_product}

@@ -29,7 +29,8 @@ repeats_none (suc zero) [] h = refl
 repeats_none (suc zero) (a ∷ l) h = refl
 repeats_none (suc (suc n)) l h = absurd (omega arith)
 
-pub repeats_first : (n : ℕ) (l : List ℕ) → 2 ≤ n → n ≤ length l → get_or l 1 0 ≡ get_or l 0 0 → repeated (take n l) ≡ true
+pub repeats_first : (n : ℕ) (l : List ℕ) → 2 ≤ n → n ≤ length l → get_or l 1 0 ≡ get_or l 0 0
+    → repeated (take n l) ≡ true
 unfolding repeated has_variable
 repeats_first zero l h k e = absurd (omega arith)
 repeats_first (suc zero) l h k e = absurd (omega arith)

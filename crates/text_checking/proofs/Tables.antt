@@ -69,7 +69,8 @@ plain_sizes {s} {start} {entries} {far} d p =
 
 pub tuples_code : (es : List ℕ) (a k : ℕ) (ws : Words)
     → code_of (tuples_finding es a k ws)
-    ≡ both (code_of (runs k (tuple_finding es) (suc a) ws)) (code_of (find_if (repeated_tuple (tuples_of k a ws)) dialect))
+    ≡ both (code_of (runs k (tuple_finding es) (suc a) ws))
+    (code_of (find_if (repeated_tuple (tuples_of k a ws)) dialect))
 unfolding tuples_finding
 tuples_code es a k ws =
     code_both (runs k (tuple_finding es) (suc a) ws) (find_if (repeated_tuple (tuples_of k a ws)) dialect)
@@ -133,7 +134,8 @@ module _ (s : List ℕ) (start : DC.Counted) (entries : List ℕ) (far : DF.Far)
           → TableSays s start es (record { finding = pick twice 1 0; next = tuples.next; bytes = n })
       table_fine twice t p n e few =
           let same = plain_sizes d p in
-          let last : code_of (find_if (repeated_tuple (tuples_of start.count (length es) ws)) dialect) ≡ pick twice 1 0 =
+          let last : code_of (find_if (repeated_tuple (tuples_of start.count (length es) ws)) dialect)
+          ≡ pick twice 1 0 =
           rw (same, ← t) (test_code twice) in
           record {
             finding =

@@ -21,7 +21,8 @@ unfolding values_finding
 values_cons d ds ws = code_both (declared_finding d (term_at 0 ws)) (values_finding ds (drop 1 ws))
 
 -- nothing or a fault
-pub values_plain : (ds : List ℕ) (ws : Words) → (code_of (values_finding ds ws) ≡ 0) ⊎ (code_of (values_finding ds ws) ≡ 3)
+pub values_plain : (ds : List ℕ) (ws : Words)
+    → (code_of (values_finding ds ws) ≡ 0) ⊎ (code_of (values_finding ds ws) ≡ 3)
 unfolding values_finding code_of
 values_plain [] ws = inl refl
 values_plain (d ∷ ds) ws =
@@ -49,7 +50,8 @@ values_append (x ∷ xs) ys ws =
     ∙ rw (← values_cons x xs ws, ← drop_one (length xs) ws)
 
 pub tuple_code : (xs ys : List ℕ) (ws us vs : Words) → us ≡ drop (length xs) ws → vs ≡ drop (length ys) us
-    → both (code_of (values_finding xs ws)) (both (code_of (values_finding ys us)) (code_of (cost_finding (term_at 0 vs))))
+    → both (code_of (values_finding xs ws))
+    (both (code_of (values_finding ys us)) (code_of (cost_finding (term_at 0 vs))))
     ≡ code_of (tuple_finding (xs ++ ys) ws)
 tuple_code xs ys ws us vs e d =
     let last : get_or vs 0 [] ≡ get_or ws (length (xs ++ ys)) [] =
@@ -59,7 +61,8 @@ tuple_code xs ys ws us vs e d =
     let x : ℕ = code_of (values_finding xs ws) in
     let y : ℕ = code_of (values_finding ys (drop (length xs) ws)) in
     let z : ℕ = code_of (cost_finding (term_at (length (xs ++ ys)) ws)) in
-    let parts : both x (both (code_of (values_finding ys us)) (code_of (cost_finding (term_at 0 vs)))) ≡ both x (both y z) =
+    let parts : both x (both (code_of (values_finding ys us)) (code_of (cost_finding (term_at 0 vs))))
+    ≡ both x (both y z) =
     rw (last, e) in
     let whole : both (both x y) z ≡ code_of (tuple_finding (xs ++ ys) ws) =
     rw (← values_append xs ys ws)

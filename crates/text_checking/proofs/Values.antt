@@ -37,7 +37,8 @@ declared_some n t k e h =
 -- the first of the values that are left
 pub values_next : (es : List ℕ) (i : ℕ) (ws : Words) → i < length es
     → code_of (values_finding (drop i es) ws)
-    ≡ both (code_of (declared_finding (get_or es i 0) (term_at 0 ws))) (code_of (values_finding (drop (i + 1) es) (drop 1 ws)))
+    ≡ both (code_of (declared_finding (get_or es i 0) (term_at 0 ws)))
+    (code_of (values_finding (drop (i + 1) es) (drop 1 ws)))
 unfolding values_finding
 values_next es i ws h =
     rw (add-one, drop-cons es i 0)
@@ -67,7 +68,8 @@ module _ (s es : List ℕ) (at : ℕ) where
 
   module _ (i next : ℕ) (h : i < length es) (r : ValuesRead s es at i next) (step : DS.Step)
       (one : Checked s (code_of (declared_finding (get_or es i 0) (term_at 0 (words_at s next)))) 1 next step) where
-    pub values_stop : (step.finding ≡ 0 → ⊥) → Checked s (code_of (values_finding es (words_at s at))) (length es) at step
+    pub values_stop : (step.finding ≡ 0 → ⊥)
+        → Checked s (code_of (values_finding es (words_at s at))) (length es) at step
     values_stop n =
         let three : step.finding ≡ 3 = declared_some _ _ step.finding one.finding n in
         record {

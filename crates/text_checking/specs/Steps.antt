@@ -6,10 +6,12 @@ use Rattle.model.specs.Encoding.{table_bytes, tables_bytes, encode}
 use Rattle.text_words.specs.Texts.{value_from, words_of}
 use Rattle.text_words.specs.Reads.{words_at, cap_end, numeral, DigitsAt}
 use Rattle.text_networks.specs.Findings.{Words, Finding, dialect, and_then, find_if, term_at, value_at, values_in, runs}
-use Rattle.text_networks.specs.Networks.{variables_finding, largest_finding, functions_number, bound_finding, cost_finding}
+use Rattle.text_networks.specs.Networks.{variables_finding, largest_finding, functions_number, bound_finding}
+use Rattle.text_networks.specs.Networks.{cost_finding}
 use Rattle.text_networks.specs.Networks.{size_finding, declared_finding, count_finding, tuple_finding, function_finding}
 use Rattle.text_networks.specs.Networks.{functions_finding, repeated, repeated_tuple, tuples_of, sizes_over, largest_of}
-use Rattle.text_networks.specs.Networks.{function_width, function_table, function_tables, network_finding, network_problem}
+use Rattle.text_networks.specs.Networks.{function_width, function_table, function_tables, network_finding}
+use Rattle.text_networks.specs.Networks.{network_problem}
 use Rattle.text_networks.specs.Conversions.{number_of}
 use Rattle.text_networks.proofs.Entries.{product}
 use Rattle.text_checking.specs.Codes.{code_of, both}
@@ -42,7 +44,8 @@ Holds g n l = (k : ℕ) → k < n → k < length l → g k (get_or l k 0)
 
 -- the variables of a scope are read, the first ones into a list
 pub record ScopeSays (s : List ℕ) (at arity variables : ℕ) (scope : List ℕ) (r : DS.Step) : Type 0 where
-  pub step : Checked s (code_of (runs arity (λ us. declared_finding variables (term_at 0 us)) 1 (words_at s at))) arity at r
+  pub step : Checked s
+      (code_of (runs arity (λ us. declared_finding variables (term_at 0 us)) 1 (words_at s at))) arity at r
   pub filled : r.finding < 2 → Holds (λ k v. v ≡ value_at k (words_at s at)) arity scope
 
 -- ## a function

@@ -1,7 +1,8 @@
 // What is refused of a WCSP text, and how long its records are.
 #![tactic(auto)]
 
-ghost use Rattle.std.specs.Prelude.{◌≡◌, ◌||◌, [], ℕ, suc, ◌+◌, ◌-◌, ◌*◌, ◌≤◌, ◌<◌, min, ltb, length, get_or, take, set};
+ghost use Rattle.std.specs.Prelude.{◌≡◌, ◌||◌, [], ℕ, suc, ◌+◌, ◌-◌, ◌*◌, ◌≤◌, ◌<◌, min, ltb, length, get_or, take};
+ghost use Rattle.std.specs.Prelude.{set};
 ghost use Rattle.model.specs.Basics.{All};
 ghost use Rattle.model.specs.Limits.{max_domain};
 ghost use Rattle.model.specs.Problems.{DomainSize};

@@ -8,7 +8,8 @@ use Rattle.model.specs.Basics.{All}
 use Rattle.model.specs.Problems.{Word, TableRules, size_of}
 use Rattle.model.proofs.Elements.{all_set}
 use Rattle.text_networks.specs.Findings.{Words, fine, values_in, runs}
-use Rattle.text_networks.specs.Networks.{arity_in, scope_in, default_in, count_in, tuples_in, function_width, sizes_over}
+use Rattle.text_networks.specs.Networks.{arity_in, scope_in, default_in, count_in, tuples_in, function_width}
+use Rattle.text_networks.specs.Networks.{sizes_over}
 use Rattle.text_networks.specs.Networks.{tuple_finding, functions_finding, with_tuples, function_table}
 use Rattle.text_networks.specs.Networks.{function_tables}
 use Rattle.text_networks.proofs.FineWords.{FineFunction, both_fine, tuple_fine, scope_ruled, function_fine}
@@ -29,7 +30,8 @@ tables_count (suc r) ds ws = ap suc (tables_count r ds (drop (function_width ws)
 
 -- ## one table
 
-pub costs_count : (k : ℕ) (ds : List ℕ) (ws : Words) (costs : List ℕ) → length (with_tuples k ds ws costs) ≡ length costs
+pub costs_count : (k : ℕ) (ds : List ℕ) (ws : Words) (costs : List ℕ)
+    → length (with_tuples k ds ws costs) ≡ length costs
 unfolding with_tuples
 costs_count zero ds ws costs = refl
 costs_count (suc k) ds ws costs = costs_count k ds _ _ ∙ length-set costs _ _

@@ -114,7 +114,8 @@ pub record FineFunction (ds : List ℕ) (ws : Words) : Type 0 where
   pub scope : InRange (length ds) (scope_in ws)
   pub once : repeated (scope_in ws) ≡ false
   pub default : Word (default_in ws)
-  pub tuples : runs (count_in ws) (tuple_finding (sizes_over ds (scope_in ws))) (suc (arity_in ws)) (tuples_in ws) ≡ fine
+  pub tuples : runs (count_in ws) (tuple_finding (sizes_over ds (scope_in ws))) (suc (arity_in ws)) (tuples_in ws)
+      ≡ fine
   pub fresh : repeated_tuple (tuples_of (count_in ws) (arity_in ws) (tuples_in ws)) ≡ false
 
 pub function_fine : (ds : List ℕ) (ws : Words) → function_finding ds ws ≡ fine → FineFunction ds ws

@@ -15,7 +15,8 @@ use Rattle.text_networks.specs.Networks.{max_bound, sizes_over, largest_of}
 use Rattle.text_networks.specs.NetworkTexts.{upper_bound_of, nonzero, entry_values}
 use Rattle.text_networks.proofs.TextNumbers.{tuple_numbers, start_numbers, function_numbers, functions_numbers}
 use Rattle.text_networks.proofs.TextNumbers.{text_numbers}
-use Rattle.text_networks.proofs.Entries.{product, Values, entry_values_lem, sizes_over_lem, sizes_positive, size_product}
+use Rattle.text_networks.proofs.Entries.{product, Values, entry_values_lem, sizes_over_lem, sizes_positive}
+use Rattle.text_networks.proofs.Entries.{size_product}
 use Rattle.text_networks.proofs.FunctionWords.{scope_range}
 
 -- ## of a table

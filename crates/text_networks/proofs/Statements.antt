@@ -49,7 +49,8 @@ accepted_both stop long h = absurd (omega arith)
 accepted_both fault long h = absurd (omega arith)
 
 module _ (s : List ℕ) (h : text_verdict s ≡ accepted) where
-  both : (network_finding (words_of s) ≡ fine) × (ltb max_bytes (length (encode (network_problem (words_of s)))) ≡ false)
+  both : (network_finding (words_of s) ≡ fine)
+      × (ltb max_bytes (length (encode (network_problem (words_of s)))) ≡ false)
   unfolding text_verdict
   both =
       let ws = words_of s in

@@ -139,7 +139,8 @@ module _ (ds : List ℕ) (sizes : All DomainSize ds) (p : ℕ) (few : length ds 
         let tuples = tuple_lines (sizes_over ds vs) 0 t.costs in
         let arity : length (sizes_over ds vs) ≤ max_arity = rw length-map r.arity in
         let entries = tuples_short (sizes_over ds vs) (scope_sizes_lem ds sizes p t r) arity 0 t.costs r.words in
-        pick_both (λ s. 4 * length s ≤ 17 * length (table_bytes t)) (eqb (length vs) 0) {a = whole} {b = start ++ tuples}
+        pick_both (λ s. 4 * length s ≤ 17 * length (table_bytes t)) (eqb (length vs) 0) {a = whole}
+        {b = start ++ tuples}
         (omega (arith, constant_short, table_long t))
         (omega (arith, length-append start tuples, start_short, entries, table_long t))
 

@@ -23,8 +23,9 @@ use Rattle.text_networks.proofs.FineWords.{Found}
 
 -- one name that opens every definition
 unfoldable opened : Unit {0}
-unfolding computing joined words_of all_digits value_from unsigned negated term_of value_of digits_of line and_then field
-    values_in runs repeated is_given repeated_tuple values_finding tuples_of function_finding functions_finding largest_of
+unfolding computing joined words_of all_digits value_from unsigned negated term_of value_of digits_of line and_then
+    field values_in runs repeated is_given repeated_tuple values_finding tuples_of function_finding functions_finding
+    largest_of
     network_finding index_from with_tuples function_table function_tables network_problem nonzero values_from reversed
     tuple_lines function_text functions_text head_text written text_of number_of text_verdict to_text_verdict
 opened = tt

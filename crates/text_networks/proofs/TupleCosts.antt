@@ -29,7 +29,8 @@ other_same xs ys h = not_true_false (same ys xs) (λ t. true_false (same_eq (sym
 
 module _ (es ys : List ℕ) (v : Values es ys) where
   -- values without a tuple have the default
-  default_cost : (k : ℕ) (ws : Words) (c : ℕ) → is_given ys (tuples_of k (length es) ws) ≡ false → tuple_cost k ys ws c ≡ c
+  default_cost : (k : ℕ) (ws : Words) (c : ℕ) → is_given ys (tuples_of k (length es) ws) ≡ false
+      → tuple_cost k ys ws c ≡ c
   unfolding is_given tuples_of tuple_cost
   default_cost zero ws c h = refl
   default_cost (suc k) ws c h =
@@ -39,7 +40,8 @@ module _ (es ys : List ℕ) (v : Values es ys) where
 
   tuples_cost : (k : ℕ) (ws : Words) (costs : List ℕ) → length costs ≡ product es
       → runs k (tuple_finding es) (suc (length es)) ws ≡ fine → repeated_tuple (tuples_of k (length es) ws) ≡ false
-      → get_or (with_tuples k es ws costs) (index_from 0 es ys) 0 ≡ tuple_cost k ys ws (get_or costs (index_from 0 es ys) 0)
+      → get_or (with_tuples k es ws costs) (index_from 0 es ys) 0
+      ≡ tuple_cost k ys ws (get_or costs (index_from 0 es ys) 0)
   unfolding with_tuples tuple_cost runs repeated_tuple tuples_of
   tuples_cost zero ws costs long h once = refl
   tuples_cost (suc k) ws costs long h once =
@@ -63,7 +65,8 @@ module _ (es ys : List ℕ) (v : Values es ys) where
 
 -- ## of a function
 
-entry_from_lem : (i : ℕ) (ds vs xs : List ℕ) → entry_from i ds vs xs ≡ index_from i (sizes_over ds vs) (sizes_over xs vs)
+entry_from_lem : (i : ℕ) (ds vs xs : List ℕ)
+    → entry_from i ds vs xs ≡ index_from i (sizes_over ds vs) (sizes_over xs vs)
 unfolding entry_from index_from
 entry_from_lem i ds [] xs = refl
 entry_from_lem i ds (v ∷ vs) xs = entry_from_lem (i * get_or ds v 0 + get_or xs v 0) ds vs xs

@@ -71,7 +71,8 @@ module _ (ds : List ℕ) (positive : Positive ds) where
     cost_term = rw entry_length at (reads_next (entry_values ds i) c [] ws h)
 
     tuple_values : values_in (length ds) ws ≡ entry_values ds i
-    tuple_values = rw entry_length at (reads_values (entry_values ds i) ws (reads_left (entry_values ds i) (c ∷ []) ws h))
+    tuple_values =
+        rw entry_length at (reads_values (entry_values ds i) ws (reads_left (entry_values ds i) (c ∷ []) ws h))
 
     tuple_found : Word c → tuple_finding ds ws ≡ fine
     unfolding field and_then

@@ -120,7 +120,8 @@ module _ (more : Words) where
   tuples_found : (ds : List ℕ) (ws : Words) →
       let es = sizes_over ds (scope_in ws) in
       (us : Words) → Kept (suc (arity_in ws) ≤ length us) (tuple_finding es us) (tuple_finding es (us ++ more))
-  tuples_found ds ws us = kept_room (λ r. omega (arith, sizes_count ds ws)) (tuple_kept (sizes_over ds (scope_in ws)) us)
+  tuples_found ds ws us =
+      kept_room (λ r. omega (arith, sizes_count ds ws)) (tuple_kept (sizes_over ds (scope_in ws)) us)
 
   function_kept : (ds : List ℕ) (ws : Words)
       → Kept (function_width ws ≤ length ws) (function_finding ds ws) (function_finding ds (ws ++ more))

@@ -43,14 +43,16 @@ module _ (bound : ℕ) where
 
   -- ## written entries
 
-  pub entry_written : (cs : List ℕ) (i : ℕ) → get_or (map (written_cost bound) cs) i 0 ≡ written_cost bound (get_or cs i 0)
+  pub entry_written : (cs : List ℕ) (i : ℕ)
+      → get_or (map (written_cost bound) cs) i 0 ≡ written_cost bound (get_or cs i 0)
   entry_written [] i = refl
   entry_written (c ∷ cs) zero = refl
   entry_written (c ∷ cs) (suc i) = entry_written cs i
 
   module _ (ds xs : List ℕ) where
     total_written : (ts : List Table)
-        → total 0 (cost_of ds xs) (map (written_table bound) ts) ≡ total 0 (λ t. written_cost bound (cost_of ds xs t)) ts
+        → total 0 (cost_of ds xs) (map (written_table bound) ts)
+        ≡ total 0 (λ t. written_cost bound (cost_of ds xs t)) ts
     unfolding total cost_of
     total_written [] = refl
     total_written (t ∷ ts) =

@@ -1,5 +1,6 @@
 -- The WCSP text format: what is refused of a text, and the problem that it holds.
-use Rattle.std.specs.Prelude.{Bool, false, not, ◌&&◌, ◌||◌, List, [], ◌∷◌, map, ℕ, zero, suc, ◌+◌, ◌-◌, ◌*◌, max, eqb, ltb, length, get_or, drop, set, replicate}
+use Rattle.std.specs.Prelude.{Bool, false, not, ◌&&◌, ◌||◌, List, [], ◌∷◌, map, ℕ, zero, suc, ◌+◌, ◌-◌, ◌*◌, max, eqb}
+use Rattle.std.specs.Prelude.{ltb, length, get_or, drop, set, replicate}
 use Rattle.model.specs.Limits.{max_variables, max_tables, max_domain, max_arity, word_end}
 use Rattle.model.specs.Problems.{Table, Problem, size_of, has_variable}
 use Rattle.model.specs.Reading.{outside}
@@ -111,7 +112,8 @@ function_finding ds ws =
 unfoldable pub functions_finding : ℕ → List ℕ → Words → Finding
 functions_finding zero ds [] = fine
 functions_finding zero ds (w ∷ ws) = fault
-functions_finding (suc r) ds ws = and_then (function_finding ds ws) (functions_finding r ds (drop (function_width ws) ws))
+functions_finding (suc r) ds ws =
+    and_then (function_finding ds ws) (functions_finding r ds (drop (function_width ws) ws))
 
 -- The whole: name, number of variables, largest domain size, number of functions, upper bound; the domain sizes; the
 -- functions.

@@ -55,7 +55,8 @@ pub record TextLaws : Type 0 where
   pub same_allowed : (s : List ℕ) (q : Problem) (xs : List ℕ) → Read s q → is_choice q.domains xs ≡ true
       → network_allows (words_of (network_text q)) xs ≡ network_allows (words_of s) xs
   pub same_costs : (s : List ℕ) (q : Problem) (xs : List ℕ) → Read s q → is_choice q.domains xs ≡ true
-      → network_allows (words_of s) xs ≡ true → network_cost (words_of (network_text q)) xs ≡ network_cost (words_of s) xs
+      → network_allows (words_of s) xs ≡ true
+      → network_cost (words_of (network_text q)) xs ≡ network_cost (words_of s) xs
   -- back and there: the written problem has the same consistent choices, which cost the same, and the same frontier
   pub same_consistent : (q : Problem) → Writable q → (xs : List ℕ) → consistent (written q) xs ≡ consistent q xs
   pub same_vectors : (q : Problem) → Writable q → (xs : List ℕ) → consistent q xs ≡ true

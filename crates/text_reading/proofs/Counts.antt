@@ -13,7 +13,8 @@ use Rattle.model.proofs.Bits.{test, pick_both}
 use Rattle.text_words.specs.Texts.{is_space, joined, words_of, term_of}
 use Rattle.text_words.specs.Reads.{cap_end}
 use Rattle.text_networks.specs.Findings.{Words, fine, stop, fault, field, term_at, runs}
-use Rattle.text_networks.specs.Networks.{cost_finding, tuple_finding, arity_in, scope_in, count_in, tuples_in, sizes_over}
+use Rattle.text_networks.specs.Networks.{cost_finding, tuple_finding, arity_in, scope_in, count_in, tuples_in}
+use Rattle.text_networks.specs.Networks.{sizes_over}
 use Rattle.text_networks.specs.Networks.{function_finding}
 use Rattle.text_networks.proofs.FineWords.{found_fine, both_fine, test_fine, field_fine, function_fine}
 use Rattle.text_networks.proofs.FineTables.{sizes_count, tuples_fine}

@@ -43,7 +43,8 @@ module _ (P : ℕ → Type 0) (n : ℕ) (ws : Words) (h : All P (values_in n ws)
   pub value_has : (i : ℕ) → i < n → P (value_at i ws)
   value_has i l = rw (value_in n ws i l) at (all_below P (values_in n ws) h i 0 (omega (arith, values_count n ws)))
 
-pub first_have : (P : ℕ → Type 0) (n : ℕ) (ws : Words) → All P (values_in n ws) → (i : ℕ) → i ≤ n → All P (values_in i ws)
+pub first_have : (P : ℕ → Type 0) (n : ℕ) (ws : Words) → All P (values_in n ws) → (i : ℕ) → i ≤ n
+    → All P (values_in i ws)
 unfolding values_in
 first_have P n ws h zero l = tt
 first_have P zero ws h (suc i) l = absurd (omega arith)

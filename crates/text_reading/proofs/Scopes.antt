@@ -22,7 +22,8 @@ size_more : (ds vs : List ℕ) (v : ℕ) → size_of ds (vs ++ (v ∷ [])) ≡ s
 unfolding size_of
 size_more ds [] v = omega (arith, mul-one (get_or ds v 0))
 size_more ds (u ∷ vs) v =
-    ap (λ (n : ℕ). get_or ds u 0 * n) (size_more ds vs v) ∙ sym (mul_assoc (get_or ds u 0) (size_of ds vs) (get_or ds v 0))
+    ap (λ (n : ℕ). get_or ds u 0 * n) (size_more ds vs v)
+    ∙ sym (mul_assoc (get_or ds u 0) (size_of ds vs) (get_or ds v 0))
 
 -- ## the domain sizes of an array's front
 

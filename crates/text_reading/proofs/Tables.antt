@@ -14,7 +14,8 @@ use Rattle.text_words.specs.Reads.{words_at}
 use Rattle.text_lines.specs.Written.{Written}
 use Rattle.text_lines.proofs.Writing.{written_then}
 use Rattle.text_networks.specs.Findings.{Words, fine, values_in}
-use Rattle.text_networks.specs.Networks.{arity_in, scope_in, count_in, sizes_over, function_finding, index_from, with_tuples}
+use Rattle.text_networks.specs.Networks.{arity_in, scope_in, count_in, sizes_over, function_finding, index_from}
+use Rattle.text_networks.specs.Networks.{with_tuples}
 use Rattle.text_networks.specs.Networks.{function_table}
 use Rattle.text_networks.proofs.Entries.{product, index_below, sizes_over_lem, size_product}
 use Rattle.text_networks.proofs.FineWords.{tuple_fine, function_fine}

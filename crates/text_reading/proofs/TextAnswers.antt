@@ -31,7 +31,8 @@ module _ (s problem : List ℕ) where
       tells (by (verdict n 0) (verdict_told s n e h) ∙ convert_refused (verdict n 0) form problem h)
 
   module _ (e : network_finding (words_of s) ≡ fine) where
-    pub long_answer : max_bytes < length form → ConvertSays (from_text_outcome s problem) problem (answer bad_dialect 0 0)
+    pub long_answer : max_bytes < length form
+        → ConvertSays (from_text_outcome s problem) problem (answer bad_dialect 0 0)
     long_answer h =
         let v = verdict bad_dialect 0 in
         tells (by v (verdict_long s e h) ∙ convert_refused v form problem (λ z. omega arith))

@@ -7,7 +7,8 @@ use Rattle.model.specs.Encoding.{letter_c, letter_f, four_bytes, word_bytes, tab
 use Rattle.text_words.specs.Reads.{words_at}
 use Rattle.text_lines.specs.Written.{Written}
 use Rattle.text_networks.specs.Findings.{Words, fine, value_at, values_in, runs}
-use Rattle.text_networks.specs.Networks.{arity_in, scope_in, default_in, count_in, tuples_in, function_width, sizes_over}
+use Rattle.text_networks.specs.Networks.{arity_in, scope_in, default_in, count_in, tuples_in, function_width}
+use Rattle.text_networks.specs.Networks.{sizes_over}
 use Rattle.text_networks.specs.Networks.{tuple_finding, function_finding, functions_finding, index_from, with_tuples}
 use Rattle.text_networks.specs.Networks.{function_table, function_tables}
 use Rattle.text_reading.specs.Heads.{domain_list}

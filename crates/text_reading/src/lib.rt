@@ -5,7 +5,8 @@ ghost use Rattle.std.specs.Prelude.{◌≡◌, [], ◌∷◌, ◌+◌, ◌≤◌
 ghost use Rattle.model.specs.Basics.{All};
 ghost use Rattle.model.specs.Limits.{max_variables, max_tables, max_arity, max_bytes, short_end, word_end};
 ghost use Rattle.model.specs.Problems.{DomainSize};
-ghost use Rattle.model.specs.Encoding.{two_bytes, four_bytes, word_bytes, domain_bytes, table_bytes, tables_bytes, encode};
+ghost use Rattle.model.specs.Encoding.{two_bytes, four_bytes, word_bytes, domain_bytes, table_bytes, tables_bytes};
+ghost use Rattle.model.specs.Encoding.{encode};
 ghost use Rattle.model.specs.Calls.{over};
 ghost use Rattle.text_words.specs.Texts.{words_of};
 ghost use Rattle.text_words.specs.Reads.{words_at};

@@ -27,7 +27,8 @@ Below : List Bool → List ℕ → Type 0
 Below met is = All (λ i. i < length met) is
 
 -- a mark more is found by those that are the same
-mark_at : (met : List Bool) (i j : ℕ) → i < length met → get_or (set met i true) j false ≡ (eqb j i || get_or met j false)
+mark_at : (met : List Bool) (i j : ℕ) → i < length met
+    → get_or (set met i true) j false ≡ (eqb j i || get_or met j false)
 mark_at met i j h =
     ⊎_elim
     (λ (t : eqb j i ≡ true).

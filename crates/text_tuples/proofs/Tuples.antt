@@ -32,7 +32,8 @@ indexes_of (suc k) a ds ws = index_from 0 ds (values_in a ws) ∷ indexes_of k a
 -- ## other values have another entry
 
 module _ (ds : List ℕ) where
-  same_entry : (xs ys : List ℕ) → Values ds xs → Values ds ys → eqb (index_from 0 ds ys) (index_from 0 ds xs) ≡ same xs ys
+  same_entry : (xs ys : List ℕ) → Values ds xs → Values ds ys
+      → eqb (index_from 0 ds ys) (index_from 0 ds xs) ≡ same xs ys
   same_entry xs ys h k =
       ⊎_elim
       (λ (t : same xs ys ≡ true). eq-eqb _ _ (ap (index_from 0 ds) (sym (same_true xs ys t))) ∙ sym t)

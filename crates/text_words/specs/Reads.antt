@@ -1,5 +1,6 @@
 -- A text that is read from a place on: what each function of the source finds there.
-use Rattle.std.specs.Prelude.{◌≡◌, Bool, true, false, ◌&&◌, not, List, [], ◌∷◌, ℕ, ◌-◌, ◌≤◌, ◌<◌, min, eqb, length, get_or, take, drop}
+use Rattle.std.specs.Prelude.{◌≡◌, Bool, true, false, ◌&&◌, not, List, [], ◌∷◌, ℕ, ◌-◌, ◌≤◌, ◌<◌, min, eqb, length}
+use Rattle.std.specs.Prelude.{get_or, take, drop}
 use Rattle.model.specs.Basics.{pick}
 use Rattle.text_words.specs.Texts.{is_space, is_digit, words_of, all_digits, value_from}
 use Rattle.text_words.specs.Texts.{Term, number, negative, other, term_of, value_of}

@@ -19,7 +19,8 @@ module _ (bound : ℕ) (ds s : List ℕ) (at i cost : ℕ) (told : cost ≡ writ
   entry_none e = rw (← told, eq-eqb cost 0 e) refl
 
   module _ (arity : ℕ) (values : List ℕ) (inside : Headed s at) (many : arity ≡ table_arity (drop at s))
-      (found : take (length (table_scope (drop at s))) values ≡ entry_values (sizes_over ds (table_scope (drop at s))) i)
+      (found : take (length (table_scope (drop at s))) values
+      ≡ entry_values (sizes_over ds (table_scope (drop at s))) i)
     where
       -- the values are as many as the arity says
       values_told : take arity values ≡ entry_values (sizes_over ds (table_scope (drop at s))) i

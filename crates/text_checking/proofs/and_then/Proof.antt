@@ -5,17 +5,10 @@ use Rattle.text_checking.proofs.Codes.{both_light, both_heavy}
 use Rattle.text_checking.proofs.and_then.Statement.{statement}
 use Rattle.text_checking.proofs.and_then.Tie as tie
 
-returns : tie.Need-returns-then-a-b
-returns c = sym (both_light _ _ c.before.if-a-lt2.true ∙ omega arith)
-
-returns-2 : tie.Need-returns-else-a-b
-returns-2 c = sym (both_light _ _ c.before.if-a-lt2.true ∙ omega arith)
-
-returns-3 : tie.Need-returns-else-a-lt2
-returns-3 c = sym (both_heavy _ _ c.if-a-lt2.false)
-
 pub and_then_spec : {M : Type 1} → statement M
-and_then_spec = tie.close (tie.spec
-    returns
-    returns-2
-    returns-3)
+and_then_spec =
+    tie.close
+    (tie.spec
+    (λ c. sym (both_light _ _ (omega arith) ∙ omega arith))  -- b is the larger
+    (λ c. sym (both_light _ _ (omega arith) ∙ omega arith))  -- a is the larger
+    (λ c. sym (both_heavy _ _ (omega arith))))  -- a decides

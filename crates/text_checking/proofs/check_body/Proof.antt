@@ -53,7 +53,8 @@ check-functions-requires c κs =
       index_says says start.requires.1 short index _ same sized.check_sizes-sizes.result sized.check_sizes-sizes.ensures
           sum.and_then-finding.result sum.and_then-finding.ensures light.if-finding-ge2.false,
       light.if-finding-ge2.false,
-      plain_limits says start.requires.1 short index _ same sized.check_sizes-sizes.result sized.check_sizes-sizes.ensures
+      plain_limits says start.requires.1 short index _ same sized.check_sizes-sizes.result
+          sized.check_sizes-sizes.ensures
           sum.and_then-finding.result sum.and_then-finding.ensures light.if-finding-ge2.false front.front_bytes.result
           front.front_bytes.ensures,
     )

@@ -20,7 +20,10 @@ returns : tie.Need-returns-then-name
 unfolding network_finding number_of
 returns c =
     let none = c.before.before.next_word-name.ensures.none c.if-name.true in
-    record { number = sym (ap (λ (ws : Words). number_of (network_finding ws)) none); bytes = λ z. absurd (omega arith) }
+    record {
+      number = sym (ap (λ (ws : Words). number_of (network_finding ws)) none);
+      bytes = λ z. absurd (omega arith);
+    }
 
 returns-2 : tie.Need-returns
 returns-2 c =

@@ -98,7 +98,8 @@ returns-2 c =
     let start = front.before.before.before.before.before in
     let a = start.args in
     over_says a.s.now a.start a.arity a.declared front.check_front-counted.new.scope
-    front.check_front-counted.result front.check_front-counted.ensures (omega (arith, start.well_formed.0.0)) light.if-counted-ge2.false
+    front.check_front-counted.result front.check_front-counted.ensures (omega (arith, start.well_formed.0.0))
+    light.if-counted-ge2.false
     _ (sizes far) c.check_table.result c.check_table.ensures
 
 pub check_over_spec : {M : Type 1} → statement M

@@ -14,4 +14,4 @@ check_rest_spec =
     (λ c. search rules)  -- returns-then-head-gt24
     (λ c. search rules)  -- slice_bounds-check_body-end
     (λ c κs. search rules)  -- check_body-requires
-    (λ c. search rules))  -- returns  -- returns-3
+    (λ c. search rules))  -- returns

@@ -21,7 +21,8 @@ returns c =
     let read = c.before.before in
     let a = read.before.before.before.before.args in
     table_found a.s.now a.start a.entries.now a.far a.declared read.check_tuples-tuples.result
-    read.check_tuples-tuples.ensures c.before.and_then-finding.result c.before.and_then-finding.ensures c.if-finding-ne0.true
+    read.check_tuples-tuples.ensures c.before.and_then-finding.result c.before.and_then-finding.ensures
+    c.if-finding-ne0.true
 
 -- nothing is found
 none : (c : tie.Else-finding-ne0)

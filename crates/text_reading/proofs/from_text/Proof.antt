@@ -43,7 +43,8 @@ long c = (checked c).check_network-network.ensures.bytes (omega (arith, c.if-net
 few : (c : tie.Else-bytes-gt60000) → length (form (checked c.before)) ≤ max_bytes
 few c = omega (arith, long c.before, c.if-bytes-gt60000.false)
 
-fits : (c : tie.Else-problem-bytes) → length (form (checked c.before.before)) ≤ length (buffer (checked c.before.before))
+fits : (c : tie.Else-problem-bytes)
+    → length (form (checked c.before.before)) ≤ length (buffer (checked c.before.before))
 fits c = omega (arith, long c.before.before, c.if-problem-bytes.false)
 
 -- ## the answers

@@ -13,7 +13,8 @@ use Rattle.text_reading.proofs.put_functions.Tie as tie
 
 abbrev invariant-loop : tie.invariant-loop-k
 invariant-loop s at count d to out₀ next₀ k₀ out next k =
-    (k ≤ count) × Listing s (domain_list d) to (tables_bytes (function_tables count (domain_list d) (words_at s at))) out₀
+    (k ≤ count)
+    × Listing s (domain_list d) to (tables_bytes (function_tables count (domain_list d) (words_at s at))) out₀
     (count - k) next.at next.to out
 
 abbrev decreases-loop : tie.decreases-loop-k

@@ -18,7 +18,8 @@ returns c =
     let counts : tie.After-put_pair-counts = functions.before.before.before.before.before in
     let mark : tie.After-put_pair-mark = counts.before.before.before.before.before in
     written_then
-    (written_then (written_then mark.put_pair-mark.ensures counts.put_pair-counts.ensures) functions.put_two-ceiling.ensures)
+    (written_then (written_then mark.put_pair-mark.ensures counts.put_pair-counts.ensures)
+    functions.put_two-ceiling.ensures)
     bound.put_four.ensures
 
 pub put_head_spec : {M : Type 1} → statement M

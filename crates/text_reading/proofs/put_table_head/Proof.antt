@@ -40,7 +40,8 @@ counts c =
 loop-holds : tie.Need-loop-i-init invariant-loop decreases-loop
 loop-holds c =
     let second : tie.After-put_pair-next invariant-loop decreases-loop = c.before.before in
-    let start : tie.Start invariant-loop decreases-loop = second.before.before.before.before.before.before.before.before in
+    let start : tie.Start invariant-loop decreases-loop =
+    second.before.before.before.before.before.before.before.before in
     let scope = start.args.scope in
     let some = length-take-le scope.arity scope.variables (long start) in
     (omega arith, begin _ (omega (arith, some, start.requires.1, (counts second).next)))
@@ -48,14 +49,16 @@ loop-holds c =
 -- in the loop: the variable that is due
 ahead : (c : tie.In-loop-i invariant-loop decreases-loop)
     → let second : tie.After-put_pair-next invariant-loop decreases-loop = c.before.before.before.before in
-    let start : tie.Start invariant-loop decreases-loop = second.before.before.before.before.before.before.before.before in
+    let start : tie.Start invariant-loop decreases-loop =
+    second.before.before.before.before.before.before.before.before in
     let scope = start.args.scope in
     let vs = take scope.arity scope.variables in
     let i = c.before.loop-i.i in
     Split (drop i vs) (get_or scope.variables i 0 ∷ []) (drop (suc i) vs)
 ahead c =
     let second : tie.After-put_pair-next invariant-loop decreases-loop = c.before.before.before.before in
-    let start : tie.Start invariant-loop decreases-loop = second.before.before.before.before.before.before.before.before in
+    let start : tie.Start invariant-loop decreases-loop =
+    second.before.before.before.before.before.before.before.before in
     let scope = start.args.scope in
     byte_next scope.arity scope.variables (long start) c.before.loop-i.i (omega arith)
 
@@ -69,7 +72,8 @@ returns : tie.Need-returns invariant-loop decreases-loop
 returns c =
     let w = c.before.loop-i in
     let second : tie.After-put_pair-next invariant-loop decreases-loop = c.before.before.before.before in
-    let start : tie.Start invariant-loop decreases-loop = second.before.before.before.before.before.before.before.before in
+    let start : tie.Start invariant-loop decreases-loop =
+    second.before.before.before.before.before.before.before.before in
     let scope = start.args.scope in
     let all = bytes_end scope.arity scope.variables (long start) w.i (omega arith) in
     written_then (counts second) (done (rw all at w.invariant.1))

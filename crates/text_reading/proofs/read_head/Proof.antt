@@ -36,4 +36,4 @@ read_head_spec =
     (λ c κs. search rules)  -- read_number-bound-requires
     (λ c. bound_some (line c.before))  -- overflow_sub-result
     (λ c. record { fits = ceiling_fits (line c.before) })  -- overflow_cast-result
-    (λ c. head_says (line c.before)))  -- returns  -- returns
+    (λ c. head_says (line c.before)))  -- returns

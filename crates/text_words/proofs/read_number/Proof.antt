@@ -63,7 +63,8 @@ returns-3 c =
     let alone = c.before.before.before.before in
     let run = alone.before.before.before in
     rw c.no_digits-then-value-ne0.ensures
-    (negative_says (begun run) (some alone) (stops alone) c.before.before.if-s-start-eq45.true c.before.if-value-ne0.true)
+    (negative_says (begun run) (some alone) (stops alone) c.before.before.if-s-start-eq45.true
+    c.before.if-value-ne0.true)
 
 returns-4 : tie.Need-returns-else-value-ne0
 returns-4 c =

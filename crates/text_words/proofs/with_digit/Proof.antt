@@ -23,4 +23,4 @@ with_digit_spec =
     (λ c. search rules)  -- overflow_mul-result
     add-result
     returns
-    (λ c. search rules))  -- returns  -- returns-2
+    (λ c. search rules))  -- returns

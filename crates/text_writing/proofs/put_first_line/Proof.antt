@@ -36,7 +36,8 @@ put-number-requires-2 c κs =
     let start : tie.Start = name.before.before.before in
     let a = start.args in
     (bound_next a.variables a.largest a.tables a.bound a.out.now start.requires name.put_byte-behind_name.ensures
-    gap.put_byte-behind_space.ensures sizes.put_spaced-behind_sizes.ensures tables.put_number-behind_tables.ensures).placed
+    gap.put_byte-behind_space.ensures sizes.put_spaced-behind_sizes.ensures
+    tables.put_number-behind_tables.ensures).placed
 
 returns : tie.Need-returns
 returns c =

@@ -71,7 +71,8 @@ loop-again c =
     let put : tie.After-put_function-next invariant-loop decreases-loop = c.before.before.before in
     let turn : tie.In-loop-left invariant-loop decreases-loop = put.before.before in (
       rw c.place_after-here.ensures (whole turn).1,
-      rw c.place_after-here.ensures (go_on (ahead turn) turn.before.loop-left.invariant.1 put.put_function-next.ensures),
+      rw c.place_after-here.ensures
+          (go_on (ahead turn) turn.before.loop-left.invariant.1 put.put_function-next.ensures),
     )
 
 returns : tie.Need-returns invariant-loop decreases-loop

@@ -60,7 +60,8 @@ put-number-requires-3 c κs =
     let start : tie.Start = read.before.before.before in
     let a = start.args in
     (count_due (scope read) (told read) read.scope_of-scope.ensures a.default a.count a.to a.out.now
-    start.requires.2 first.put_number-behind_arity.ensures second.put_spaced-behind_scope.ensures third.put_number-behind_default.ensures).placed
+    start.requires.2 first.put_number-behind_arity.ensures second.put_spaced-behind_scope.ensures
+    third.put_number-behind_default.ensures).placed
 
 returns : tie.Need-returns
 returns c =
@@ -73,7 +74,8 @@ returns c =
     let a = start.args in
     last
     (count_due (scope read) (told read) read.scope_of-scope.ensures a.default a.count a.to a.out.now
-    start.requires.2 first.put_number-behind_arity.ensures second.put_spaced-behind_scope.ensures third.put_number-behind_default.ensures)
+    start.requires.2 first.put_number-behind_arity.ensures second.put_spaced-behind_scope.ensures
+    third.put_number-behind_default.ensures)
     fourth.put_number.ensures
 
 pub put_head_spec : {M : Type 1} → statement M

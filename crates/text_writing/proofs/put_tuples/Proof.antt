@@ -45,7 +45,8 @@ many c =
     let a = c.before.before.before.before.args in
     c.entries_of-entries.ensures ∙ sym (entries_many a.sizes.now a.s.now a.at)
 
-as_many : (c : tie.After-entries_of-entries invariant-loop decreases-loop) → c.entries_of-entries.result ≡ length (forms c)
+as_many : (c : tie.After-entries_of-entries invariant-loop decreases-loop)
+    → c.entries_of-entries.result ≡ length (forms c)
 as_many c = many c ∙ sym (length-map (costs c) (written_cost c.before.before.before.before.args.bound))
 
 loop-holds : tie.Need-loop-k-init invariant-loop decreases-loop

@@ -74,7 +74,8 @@ exists c =
     (scope_each a.s.now a.at (inside start) (λ v. v < length a.sizes.now) start.requires.0.range (w.k - 1)
     (omega (arith, w.invariant.1.some, (many read).0, read.arity_at-k.ensures)))
 
-sized : (c : tie.After-scope_at-v invariant-loop decreases-loop) → DomainSize (get_or (sizes_of_lem c) c.scope_at-v.result 0)
+sized : (c : tie.After-scope_at-v invariant-loop decreases-loop)
+    → DomainSize (get_or (sizes_of_lem c) c.scope_at-v.result 0)
 sized c =
     let read : tie.After-arity_at-k invariant-loop decreases-loop = c.before.before.before in
     domain_size_lem (sizes_of_lem c) read.before.before.before.requires.1 c.scope_at-v.result (exists c)
