@@ -10,7 +10,7 @@ use lib.ListN.{length}
 use borrow.Author.Tests.{eqb-true, ne_eqb, le-leb}
 use Rattle.model.specs.Basics.{pick}
 use Rattle.model.specs.Limits.{work_need}
-use Rattle.model.specs.Refusals.{work_short, Verdict, verdict, accepted}
+use Rattle.model.specs.Refusals.{work_short, Verdict, accepted}
 use Rattle.model.specs.Calls.{answers, work_verdict}
 use Rattle.model.proofs.Bits.{and_left, and_right, and_both, pick_both}
 use Rattle.model.proofs.Verdicts.{Placed, first_accepts, first_has, first_placed, test_placed, picked_accepts}
