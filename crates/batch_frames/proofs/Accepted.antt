@@ -58,7 +58,8 @@ module _ (s costs choices results work : List ℕ) where
   unfolding batch_outcome
   told = go (answers judged) refl
     where
-      go : (b : Bool) → answers judged ≡ b → (pick b turn (unchanged judged costs choices results work)).verdict ≡ judged
+      go : (b : Bool) → answers judged ≡ b
+          → (pick b turn (unchanged judged costs choices results work)).verdict ≡ judged
       go true e = turn_accepted (batch_of s) costs choices results work ∙ sym (judged_placed (eqb-true _ _ e))
       go false e = refl
 

@@ -41,7 +41,8 @@ looked f = rw (take_rest (batch_at (due f)) (due f).loop-at.at) at f.frame_of-fr
 
 next : (c : tie.Else-not-frame invariant-loop decreases-loop)
     → let f : tie.After-frame_of-frame invariant-loop decreases-loop = c.before.before in
-    Read (batch_at (due f)) ((due f).loop-at.at + (frame_head + f.frame_of-frame.result.size)) ((due f).loop-at.count + 1)
+    Read (batch_at (due f)) ((due f).loop-at.at + (frame_head + f.frame_of-frame.result.size))
+    ((due f).loop-at.count + 1)
 next c =
     let f : tie.After-frame_of-frame invariant-loop decreases-loop = c.before.before in
     let p = due f in

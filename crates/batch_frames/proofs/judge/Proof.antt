@@ -78,7 +78,8 @@ returns-2 c =
     let a : tie.After-areas_fit = c.before.before in
     let s = start a.before in
     let missing = fit_is a ∙ c.before.if-not-areas_fit.true in
-    unfit s c.refused-then-not-areas_fit.ensures (and-false (batch_ok (bytes s)) (roomy s (length (batch_of (bytes s)))) (inr missing))
+    unfit s c.refused-then-not-areas_fit.ensures
+    (and-false (batch_ok (bytes s)) (roomy s (length (batch_of (bytes s)))) (inr missing))
 
 returns-3 : tie.Need-returns-then-memory-lt-LEAST_WORK
 returns-3 c =

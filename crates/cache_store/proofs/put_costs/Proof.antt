@@ -32,7 +32,8 @@ loop-holds c =
     (omega arith, rw first (record { room = room start; rest = refl }))
 
 -- at the loop's test: the buffer is as long as it was
-long : (c : tie.At-loop-i invariant-loop decreases-loop) → length c.loop-i.out ≡ length c.before.before.before.args.out.now
+long : (c : tie.At-loop-i invariant-loop decreases-loop)
+    → length c.loop-i.out ≡ length c.before.before.before.args.out.now
 long c =
     let start : tie.Start invariant-loop decreases-loop = c.before.before.before in
     let a = start.args in
