@@ -10,7 +10,7 @@ use lib.ListN.{length}
 use borrow.Author.Tests.{eqb-true, ne_eqb, le-leb}
 use Rattle.model.specs.Basics.{pick}
 use Rattle.model.specs.Limits.{work_need}
-use Rattle.model.specs.Refusals.{work_short, Verdict, verdict, accepted}
+use Rattle.model.specs.Refusals.{work_short, Verdict, accepted}
 use Rattle.model.specs.Calls.{answers, work_verdict}
 use Rattle.model.proofs.Bits.{and_left, and_right, and_both, pick_both}
 use Rattle.model.proofs.Verdicts.{Placed, first_accepts, first_has, first_placed, test_placed, picked_accepts}
@@ -58,7 +58,8 @@ module _ (s costs choices results work : List ℕ) where
   unfolding batch_outcome
   told = go (answers judged) refl
     where
-      go : (b : Bool) → answers judged ≡ b → (pick b turn (unchanged judged costs choices results work)).verdict ≡ judged
+      go : (b : Bool) → answers judged ≡ b
+          → (pick b turn (unchanged judged costs choices results work)).verdict ≡ judged
       go true e = turn_accepted (batch_of s) costs choices results work ∙ sym (judged_placed (eqb-true _ _ e))
       go false e = refl
 

@@ -122,7 +122,8 @@ behind (s ∷ ss) costs choices results work t =
 
 pub each : (k : ℕ) (s costs choices results work : List ℕ) → Taken s costs choices results work
     → k < length (batch_of s)
-    → Stands k (solve_outcome (get_or (batch_of s) k []) (area_of cost_area k costs) (area_of choice_area k choices) work)
+    → Stands k
+    (solve_outcome (get_or (batch_of s) k []) (area_of cost_area k costs) (area_of choice_area k choices) work)
     (batch_outcome s costs choices results work)
 each k s costs choices results work t h =
     rw (in_turn_lem s costs choices results work t)

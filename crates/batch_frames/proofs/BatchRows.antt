@@ -27,7 +27,8 @@ pub data Row : Type 0 where
       → batch_verdict s (replicate costs 0) (replicate choices 0) (replicate results 0) (replicate work 0)
       ≡ verdict number 0 → Row
   -- what the result list holds after a batch, where it held `old`
-  answers : (s costs choices old new : List ℕ) → (batch_outcome s costs choices old (replicate work_need 0)).results ≡ new
+  answers : (s costs choices old new : List ℕ)
+      → (batch_outcome s costs choices old (replicate work_need 0)).results ≡ new
       → Row
 
 -- a frame, and several that are empty

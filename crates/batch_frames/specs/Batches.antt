@@ -1,5 +1,6 @@
 -- A batch of problems: each stands behind the mark `BP` and its length in four bytes, and nothing else stands there.
-use Rattle.std.specs.Prelude.{Bool, ◌&&◌, ◌||◌, List, [], ◌∷◌, ◌++◌, ℕ, zero, suc, ◌+◌, ◌-◌, eqb, leb, length, get_or, take, drop}
+use Rattle.std.specs.Prelude.{Bool, ◌&&◌, ◌||◌, ℕ, zero, suc, ◌+◌, ◌-◌, eqb, leb}
+use Rattle.std.specs.Prelude.{List, [], ◌∷◌, ◌++◌, length, get_or, take, drop}
 use Rattle.model.specs.Basics.{pick}
 use Rattle.model.specs.Encoding.{four_bytes}
 use Rattle.model.specs.Reading.{word4}

@@ -1,5 +1,6 @@
 -- The promises about batches as statements over the definitions. proofs/Statements.antt proves them.
-use Rattle.std.specs.Prelude.{◌≡◌, ◌⊎◌, Bool, true, false, ◌||◌, List, [], ◌∷◌, ℕ, ◌*◌, ◌≤◌, ◌<◌, length, get_or, take, drop, replicate}
+use Rattle.std.specs.Prelude.{◌≡◌, ◌⊎◌, Bool, true, false, ◌||◌, ℕ, ◌*◌, ◌≤◌, ◌<◌}
+use Rattle.std.specs.Prelude.{List, [], ◌∷◌, length, get_or, take, drop, replicate}
 use Rattle.model.specs.Basics.{All, pick}
 use Rattle.model.specs.Limits.{word_end, work_need, max_points}
 use Rattle.model.specs.Refusals.{work_short, accepted}

@@ -10,7 +10,8 @@ use lib.ListN.{length, length-append}
 use lib.Seq.{append_snoc}
 use borrow.Author.Tests.{lt-ltb, le-ltb}
 use Rattle.model.specs.Encoding.{four_bytes}
-use Rattle.cache_answers.specs.Stores.{slot_size, max_slots, next_at, slots_in, find_form, next_slot, slot_after, stored}
+use Rattle.cache_answers.specs.Stores.{slot_size, max_slots, next_at, slots_in}
+use Rattle.cache_answers.specs.Stores.{find_form, next_slot, slot_after, stored}
 use Rattle.cache_answers.specs.Runs.{is_among}
 use Rattle.cache_answers.proofs.Ring.{is_one_of, round, newest_among, Ring, ring_length, ring_next, ring_turns}
 use Rattle.cache_answers.proofs.Slots.{Stands, Fits, Holds}

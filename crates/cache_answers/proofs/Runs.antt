@@ -15,7 +15,8 @@ use Rattle.model.specs.Problems.{Problem}
 use Rattle.model.specs.Encoding.{Byte}
 use Rattle.model.specs.Reading.{verdict_of, problem_of}
 use Rattle.model.specs.Frontiers.{frontier}
-use Rattle.model.specs.Calls.{over, answers, room_of, work_verdict, work_after, room_verdict, solve_verdict, solve_outcome}
+use Rattle.model.specs.Calls.{over, answers, room_of, work_verdict, work_after, room_verdict}
+use Rattle.model.specs.Calls.{solve_verdict, solve_outcome}
 use Rattle.model.proofs.Verdicts.{first_accepts, first_assoc}
 use Rattle.form_canonical.specs.Canonical.{canonical_bytes}
 use Rattle.cache_answers.specs.Stores.{slot_size, slots_in, slot_at, find_form, Answer, solved, loaded, stored}
@@ -118,7 +119,8 @@ module _ (c : Call) where
         rw (le-ltb (length store) slot_size long)
         (ap (first (verdict_of c.problem)) (go (ltb (length c.work) work_need)))
       where
-        go : (b : Bool) → first (pick b (verdict work_short 0) accepted) accepted ≡ pick b (verdict work_short 0) accepted
+        go : (b : Bool)
+            → first (pick b (verdict work_short 0) accepted) accepted ≡ pick b (verdict work_short 0) accepted
         go true = refl
         go false = refl
 

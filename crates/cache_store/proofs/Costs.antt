@@ -41,7 +41,8 @@ four_stored x at out h =
     let one : at + 1 ≡ suc at = omega arith in
     let two : at + 2 ≡ suc (suc at) = omega arith in
     let three : at + 3 ≡ suc (suc (suc at)) = omega arith in
-    rw (one, two, three) (sets-eq (four_bytes x) out at h ∙ append_assoc (take at out) (four_bytes x) (drop (at + 4) out))
+    rw (one, two, three)
+    (sets-eq (four_bytes x) out at h ∙ append_assoc (take at out) (four_bytes x) (drop (at + 4) out))
 
 -- one more cost written behind those before it
 pub cost_written : (costs : List ℕ) (at i : ℕ) (out whole : List ℕ) → i < length costs

@@ -1,8 +1,7 @@
 // A store of solved problems in lent memory: which slot holds a form, loading its answer, and saving one.
 #![tactic(auto)]
 
-ghost use Rattle.std.specs.Prelude.{◌≡◌, length, take, drop};
-ghost use Prim.Native.Nat.{◌+◌, ◌*◌, ◌/◌, ◌≤◌, ◌<◌};
+ghost use Rattle.std.specs.Prelude.{◌≡◌, ◌+◌, ◌*◌, ◌/◌, ◌≤◌, ◌<◌, min, length, take, drop};
 ghost use Rattle.model.specs.Limits.{max_points};
 ghost use Rattle.model.specs.Encoding.{four_bytes, word_bytes};
 ghost use Rattle.model.specs.Reading.{word4, words_in};
@@ -31,14 +30,14 @@ const NEXT_AT: usize = 62568;
 const CHUNK: usize = 512;
 
 fn lesser(a: usize, b: usize) -> usize
-    ensures { result ≡ Prim.Native.Nat.min a b }
+    ensures { result ≡ min a b }
 {
     if a < b { a } else { b }
 }
 
 // How many slots a store of so many bytes has.
 pub fn slots_in(bytes: usize) -> usize
-    ensures { result ≡ Prim.Native.Nat.min (bytes / slot_size) max_slots }
+    ensures { result ≡ min (bytes / slot_size) max_slots }
 {
     lesser(bytes / SLOT_SIZE, MAX_SLOTS)
 }
@@ -91,7 +90,7 @@ pub fn find_form(store: &[u8], form: &[u8]) -> usize
 // How many points the answer in slot `k` has.
 pub fn count_in(store: &[u8], k: usize) -> usize
     requires { k < slots_in store.now }
-    ensures { result ≡ Prim.Native.Nat.min (word4 (drop count_at (slot_at store.now k))) max_points }
+    ensures { result ≡ min (word4 (drop count_at (slot_at store.now k))) max_points }
 {
     let at = SLOT_SIZE * k;
     let count = problem::four_at(&store[at..], COUNT_AT) as usize;

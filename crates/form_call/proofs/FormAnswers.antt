@@ -94,7 +94,8 @@ module _ (s buffer : List ℕ) where
     form_answer buffer' key room written told =
         let form = canonical_bytes s in
         let fits : length form ≤ length buffer = omega (arith, long) in
-        let fine-verdict : first (verdict_of s) (pick (ltb (length buffer) (length form)) (verdict form_short 0) accepted)
+        let fine-verdict :
+        first (verdict_of s) (pick (ltb (length buffer) (length form)) (verdict form_short 0) accepted)
         ≡ accepted =
         rw (accepted_place s fine, le-ltb (length buffer) (length form) fits) refl in
         let same : key ≡ key_of form = told ∙ ap key_of (form_taken buffer' written) in

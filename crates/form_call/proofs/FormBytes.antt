@@ -80,7 +80,8 @@ module _ (s : List ℕ) (head : DH.Header) (sizes : List ℕ) (o : Opened s head
       fronted = front ∙ ap (λ (l : List ℕ). over_at 0 l form) front_whole
 
       pub records_due : (n : ℕ) (turned : List ℕ) → head.tables ≡ n → length turned ≡ max_bytes
-          → Turnable n sizes s at × (length s ≤ length turned) × (at + length (form_records n sizes s at) ≤ length form')
+          → Turnable n sizes s at × (length s ≤ length turned)
+          × (at + length (form_records n sizes s at) ≤ length form')
       records_due n turned many long =
           let inside : 0 + length (take start s) ≤ length form = omega (arith, front_length, start_inside) in
           let kept = ap length fronted ∙ over_length 0 (take start s) form inside in

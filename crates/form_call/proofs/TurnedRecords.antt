@@ -23,7 +23,8 @@ use Rattle.form_canonical.proofs.Places.{over_length}
 use Rattle.form_order.specs.Parts.{part, part_start, part_end, part_bytes, parts_bytes, PartIn}
 use Rattle.form_call.specs.Opened.{Turnable, TurnedParts, form_records}
 use Rattle.form_turning.proofs.TurnedTables.{turned_length}
-use Rattle.form_order.proofs.Parts.{part_start_lem, part_end_lem, part_bytes_lem, part_kept, parts_joined, parts_ordered}
+use Rattle.form_order.proofs.Parts.{part_start_lem, part_end_lem, part_bytes_lem}
+use Rattle.form_order.proofs.Parts.{part_kept, parts_joined, parts_ordered}
 use Rattle.form_order.proofs.Parts.{parts_in_ordered}
 
 -- a part that ends at a place, or before it

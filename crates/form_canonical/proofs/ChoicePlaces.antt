@@ -96,7 +96,8 @@ choice_at (d ∷ ds) (x ∷ xs) h =
     ∙ rw digit (ap (◌∷◌ x) (choice_at ds xs rest)))
 
 -- in a table with an entry for each choice
-map_at : {A : Type 0} (f : A → ℕ) (xs : List A) (i : ℕ) (d : A) → i < length xs → get_or (map f xs) i 0 ≡ f (get_or xs i d)
+map_at : {A : Type 0} (f : A → ℕ) (xs : List A) (i : ℕ) (d : A) → i < length xs
+    → get_or (map f xs) i 0 ≡ f (get_or xs i d)
 map_at f [] i d l = absurd (omega arith)
 map_at f (x ∷ xs) zero d l = refl
 map_at f (x ∷ xs) (suc i) d l = map_at f xs i d (omega arith)

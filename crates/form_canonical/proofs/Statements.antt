@@ -30,7 +30,8 @@ form_tells s t bytes bytes' fine fine' same =
     sym (form_read (problem_of s) w) ∙ ap problem_of same ∙ form_read (problem_of t) w' in
     sym (form_frontier (problem_of s) w) ∙ ap frontier forms ∙ form_frontier (problem_of t) w'
 
-form_again : (s : List ℕ) → All Byte s → (verdict_of s).number ≡ 0 → canonical_bytes (canonical_bytes s) ≡ canonical_bytes s
+form_again : (s : List ℕ) → All Byte s → (verdict_of s).number ≡ 0
+    → canonical_bytes (canonical_bytes s) ≡ canonical_bytes s
 form_again s bytes fine =
     let q = problem_of s in
     let w = (accepted_encoded s bytes fine).0 in

@@ -40,6 +40,7 @@ pub entry_over : (table : List ℕ) (here to : ℕ) (out : List ℕ) → here + 
     ≡ over_at to (entry_bytes table here) out
 unfolding entry_bytes
 entry_over table here to out h room =
-    over_four to (get_or table here 0) (get_or table (here + 1) 0) (get_or table (here + 2) 0) (get_or table (here + 3) 0) out
+    over_four to (get_or table here 0) (get_or table (here + 1) 0) (get_or table (here + 2) 0)
+    (get_or table (here + 3) 0) out
     room
     ∙ ap (λ (l : List ℕ). over_at to l out) (four_read 0 table here h)

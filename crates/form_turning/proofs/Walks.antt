@@ -173,4 +173,5 @@ unfolding walk size_of
 walk_length ds scope f four [] i = four i
 walk_length ds scope f four (v ∷ vs) i =
     let inner : (j : ℕ) → length (walk ds scope 1 vs f j) ≡ size_of ds vs * 4 = λ j. walk_length ds scope f four vs j in
-    steps_each (walk ds scope 1 vs f) (size_of ds vs * 4) (get_or ds v 0) (1 * stride_of ds scope v) i inner ∙ omega arith
+    steps_each (walk ds scope 1 vs f) (size_of ds vs * 4) (get_or ds v 0) (1 * stride_of ds scope v) i inner
+    ∙ omega arith

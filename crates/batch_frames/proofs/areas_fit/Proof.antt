@@ -8,14 +8,14 @@ use Rattle.batch_frames.specs.Outcomes.{cost_area, choice_area, areas_ok}
 use Rattle.batch_frames.proofs.areas_fit.Statement.{statement}
 use Rattle.batch_frames.proofs.areas_fit.Tie as tie
 
-returns : tie.Need-returns
+returns : tie.Need-returns-then-costs-count
 unfolding areas_ok
 returns c =
     let a = c.before.args in
     let short : a.costs < cost_area * a.count = omega arith in
     rw (lt-leb (cost_area * a.count) a.costs short) refl
 
-returns-2 : tie.Need-returns-2
+returns-2 : tie.Need-returns-then-choices-count
 unfolding areas_ok
 returns-2 c =
     let a = c.before.before.args in
@@ -23,7 +23,7 @@ returns-2 c =
     let short : a.choices < choice_area * a.count = omega arith in
     rw (le-leb (cost_area * a.count) a.costs costs, lt-leb (choice_area * a.count) a.choices short) refl
 
-returns-3 : tie.Need-returns-3
+returns-3 : tie.Need-returns
 unfolding areas_ok
 returns-3 c =
     let a = c.before.before.args in
@@ -31,13 +31,13 @@ returns-3 c =
     let choices : choice_area * a.count ≤ a.choices = omega arith in
     rw (le-leb (cost_area * a.count) a.costs costs, le-leb (choice_area * a.count) a.choices choices) refl
 
-pub areas-fit-spec : {M : Type 1} → statement M
-areas-fit-spec =
+pub areas_fit_spec : {M : Type 1} → statement M
+areas_fit_spec =
     tie.close
     (tie.spec
-    (λ c. search rules)  -- mul-if1
+    (λ c. search rules)  -- overflow_mul-count
     returns
-    (λ c. search rules)  -- mul-if2
+    (λ c. search rules)  -- overflow_mul-count-2
     returns-2
-    (λ c. search rules)  -- mul-result
+    (λ c. search rules)  -- overflow_mul-result
     returns-3)

@@ -17,42 +17,42 @@ broken s n = record {
   size = λ h. absurd (true_false h (no_frame s n));
 }
 
-returns : tie.Need-returns
+returns : tie.Need-returns-then-s-lt-FRAME_HEAD
 returns c = broken c.before.before.args.s.now (λ f. omega arith)
 
-returns-2 : tie.Need-returns-2
-returns-2 c = broken c.before.before.before.before.args.s.now (λ f. c.if2.true f.mark_b)
+returns-2 : tie.Need-returns-then-s-ne66
+returns-2 c = broken c.before.before.before.before.args.s.now (λ f. c.if-s-ne66.true f.mark_b)
 
-returns-3 : tie.Need-returns-3
-returns-3 c = broken c.before.before.before.before.before.before.args.s.now (λ f. c.if3.true f.mark_p)
+returns-3 : tie.Need-returns-then-s-ne80
+returns-3 c = broken c.before.before.before.before.before.before.args.s.now (λ f. c.if-s-ne80.true f.mark_p)
 
-returns-4 : tie.Need-returns-4
+returns-4 : tie.Need-returns-then-s-size
 returns-4 c =
     broken c.before.before.before.before.before.before.before.before.args.s.now (λ f. omega arith)
 
-returns-5 : tie.Need-returns-5
+returns-5 : tie.Need-returns
 returns-5 c =
-    let marked : tie.Else3 = c.before.before in
+    let marked : tie.Else-s-ne80 = c.before.before in
     let s = marked.before.before.before.before.before.before.args.s.now in
     let f : Framed s = record {
       head = omega arith;
-      mark_b = marked.before.before.if2.false;
-      mark_p = marked.if3.false;
+      mark_b = marked.before.before.if-s-ne66.false;
+      mark_p = marked.if-s-ne80.false;
       fits = omega arith;
     } in
-    record { whole = sym (whole_frame s f); size = λ _. c.before.four-at.ensures }
+    record { whole = sym (whole_frame s f); size = λ _. c.before.four_at-size.ensures }
 
-pub frame-of-spec : {M : Type 1} → statement M
-frame-of-spec =
+pub frame_of_spec : {M : Type 1} → statement M
+frame_of_spec =
     tie.close
     (tie.spec
     returns
-    (λ c. search rules)  -- shared-slice-read-if2
+    (λ c. search rules)  -- bounds-s-0
     returns-2
-    (λ c. search rules)  -- shared-slice-read-if3
+    (λ c. search rules)  -- bounds-s-1
     returns-3
-    (λ c κs. search rules)  -- four-at-requires
-    (λ c. search rules)  -- cast-size
-    (λ c. search rules)  -- sub-if4
+    (λ c κs. search rules)  -- four_at-size-requires
+    (λ c. search rules)  -- overflow_cast-size
+    (λ c. search rules)  -- overflow_sub-s
     returns-4
     returns-5)

@@ -40,72 +40,73 @@ module _ (c : tie.Start) where
 
 -- ## the frames are whole, and each problem has its areas
 
-abbrev framed : tie.Else1 → tie.After-frames-of
+abbrev framed : tie.Else-not-frames → tie.After-frames_of-frames
 framed c = c.before.before
 
-abbrev start : tie.Else1 → tie.Start
+abbrev start : tie.Else-not-frames → tie.Start
 start c = (framed c).before.before
 
-whole : (c : tie.Else1) → batch_ok (bytes (start c)) ≡ true
+whole : (c : tie.Else-not-frames) → batch_ok (bytes (start c)) ≡ true
 whole c =
-    let f = (framed c).frames-of in
-    sym f.ensures.whole ∙ not-false f.result.whole c.if1.false
+    let f = (framed c).frames_of-frames in
+    sym f.ensures.whole ∙ not-false f.result.whole c.if-not-frames.false
 
-count_is : (c : tie.Else1) → (framed c).frames-of.result.count ≡ length (batch_of (bytes (start c)))
-count_is c = (framed c).frames-of.ensures.count (whole c)
+count_is : (c : tie.Else-not-frames) → (framed c).frames_of-frames.result.count ≡ length (batch_of (bytes (start c)))
+count_is c = (framed c).frames_of-frames.ensures.count (whole c)
 
-fit_is : (a : tie.After-areas-fit)
-    → roomy (start a.before) (length (batch_of (bytes (start a.before)))) ≡ a.areas-fit.result
-fit_is a = sym (a.areas-fit.ensures ∙ ap (roomy (start a.before)) (count_is a.before))
+fit_is : (a : tie.After-areas_fit)
+    → roomy (start a.before) (length (batch_of (bytes (start a.before)))) ≡ a.areas_fit.result
+fit_is a = sym (a.areas_fit.ensures ∙ ap (roomy (start a.before)) (count_is a.before))
 
-fits : (c : tie.Else2) → fit (start c.before.before) ≡ true
+fits : (c : tie.Else-not-areas_fit) → fit (start c.before.before) ≡ true
 fits c =
-    let a : tie.After-areas-fit = c.before in
-    and_both (whole a.before) (fit_is a ∙ not-false a.areas-fit.result c.if2.false)
+    let a : tie.After-areas_fit = c.before in
+    and_both (whole a.before) (fit_is a ∙ c.if-not-areas_fit.false)
 
 -- ## the answers
 
-returns : tie.Need-returns
+returns : tie.Need-returns-then-not-frames
 returns c =
-    let f : tie.After-frames-of = c.before.before.before in
+    let f : tie.After-frames_of-frames = c.before.before.before in
     let s : tie.Start = f.before.before in
-    let told = f.frames-of in
-    let broken = sym told.ensures.whole ∙ not-true told.result.whole c.before.if1.true in
+    let told = f.frames_of-frames in
+    let broken = sym told.ensures.whole ∙ not-true told.result.whole c.before.if-not-frames.true in
     unfit s c.refused.ensures (and-false (batch_ok (bytes s)) (roomy s (length (batch_of (bytes s)))) (inl broken))
 
-returns-2 : tie.Need-returns-2
+returns-2 : tie.Need-returns-then-not-areas_fit
 returns-2 c =
-    let a : tie.After-areas-fit = c.before.before in
+    let a : tie.After-areas_fit = c.before.before in
     let s = start a.before in
-    let missing = fit_is a ∙ not-true a.areas-fit.result c.before.if2.true in
-    unfit s c.refused2.ensures (and-false (batch_ok (bytes s)) (roomy s (length (batch_of (bytes s)))) (inr missing))
+    let missing = fit_is a ∙ c.before.if-not-areas_fit.true in
+    unfit s c.refused-then-not-areas_fit.ensures
+    (and-false (batch_ok (bytes s)) (roomy s (length (batch_of (bytes s)))) (inr missing))
 
-returns-3 : tie.Need-returns-3
+returns-3 : tie.Need-returns-then-memory-lt-LEAST_WORK
 returns-3 c =
-    let e : tie.Else2 = c.before.before in
+    let e : tie.Else-not-areas_fit = c.before.before in
     let s = start e.before.before in
-    subst (Says s) (sym c.refused3.ensures)
+    subst (Says s) (sym c.refused-then-memory-lt-LEAST_WORK.ensures)
     (judged_short (bytes s) s.args.costs s.args.choices s.args.results s.args.memory (fits e)
     (omega arith))
 
-returns-4 : tie.Need-returns-4
+returns-4 : tie.Need-returns
 returns-4 c =
-    let e : tie.Else2 = c.before in
+    let e : tie.Else-not-areas_fit = c.before in
     let s = start e.before.before in
     subst (λ (n : ℕ). Says s (record { number = 0; count = n })) (sym (count_is e.before.before))
     (judged_taken (bytes s) s.args.costs s.args.choices s.args.results s.args.memory (fits e)
     (omega arith))
 
-pub judge-spec : {M : Type 1} → statement M
-judge-spec =
+pub judge_spec : {M : Type 1} → statement M
+judge_spec =
     tie.close
     (tie.spec
-    (λ c κs. search rules)  -- frames-of-requires
+    (λ c κs. search rules)  -- frames_of-frames-requires
     (λ c κs. search rules)  -- refused-requires
     returns
-    (λ c κs. omega (arith, count_is c, frames_few max_batch (bytes (start c))))  -- areas-fit-requires
-    (λ c κs. search rules)  -- refused-requires-2
+    (λ c κs. omega (arith, count_is c, frames_few max_batch (bytes (start c))))  -- areas_fit-requires
+    (λ c κs. search rules)  -- refused-requires-then-not-areas_fit
     returns-2
-    (λ c κs. search rules)  -- refused-requires-3
+    (λ c κs. search rules)  -- refused-requires-then-memory-lt-LEAST_WORK
     returns-3
     returns-4)

@@ -27,19 +27,19 @@ returns c =
     let a = c.before.before.args in
     rw c.wide.ensures (three_stored a.k a.number a.place a.count a.results.now (omega arith))
 
-pub put-result-spec : {M : Type 1} → statement M
-put-result-spec =
+pub put_result_spec : {M : Type 1} → statement M
+put_result_spec =
     tie.close
     (tie.spec
-    (λ c. search rules)  -- mul-at
+    (λ c. search rules)  -- overflow_mul-at
     (λ c κs. search rules)  -- wide-requires
-    (λ c. search rules)  -- mul-results
-    (λ c. search rules)  -- slice-write-results
-    (λ c. search rules)  -- add-results
-    (λ c. search rules)  -- mul-results-2
-    (λ c. simp length-set (omega arith))  -- slice-write-results-2
-    (λ c. search rules)  -- add-results-2
-    (λ c. search rules)  -- mul-results-3
-    (λ c. simp length-set (omega arith))  -- slice-write-results-3
-    (λ c. search rules)  -- same-length
+    (λ c. search rules)  -- offset_bounds-results-at
+    (λ c. search rules)  -- bounds-results-at
+    (λ c. search rules)  -- overflow_add-results
+    (λ c. search rules)  -- offset_bounds-results-at-2
+    (λ c. simp length-set (omega arith))  -- bounds-results-at-2
+    (λ c. search rules)  -- overflow_add-results-2
+    (λ c. search rules)  -- offset_bounds-results-at-3
+    (λ c. simp length-set (omega arith))  -- bounds-results-at-3
+    (λ c. search rules)  -- shape_of-results
     returns)

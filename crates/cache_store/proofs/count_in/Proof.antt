@@ -14,7 +14,7 @@ use Rattle.cache_store.proofs.count_in.Tie as tie
 inside : (c : tie.Start) → slot_size * c.args.k + slot_size ≤ length c.args.store.now
 inside c = slot_inside c.args.store.now c.args.k c.requires
 
-four-at-requires : tie.Need-four-at-requires
+four-at-requires : tie.Need-four_at-count-requires
 four-at-requires c κs =
     let start : tie.Start = c.before.before in
     let store = start.args.store.now in
@@ -27,17 +27,17 @@ returns c =
     let store = start.args.store.now in
     let at = slot_size * start.args.k in
     c.lesser.ensures
-    ∙ ap (λ (n : ℕ). Prim.Native.Nat.min n max_points) (rw (take_rest store at) at c.before.four-at.ensures)
+    ∙ ap (λ (n : ℕ). Prim.Native.Nat.min n max_points) (rw (take_rest store at) at c.before.four_at-count.ensures)
 
-pub count-in-spec : {M : Type 1} → statement M
-count-in-spec =
+pub count_in_spec : {M : Type 1} → statement M
+count_in_spec =
     tie.close
     (tie.spec
-    (λ c. omega (arith, inside c.before))  -- mul-at
-    (λ c. omega (arith, inside c.before))  -- sub-four-at
-    (λ c. omega (arith, inside c.before))  -- part-four-at-start
-    (λ c. search rules)  -- part-four-at-end
+    (λ c. omega (arith, inside c.before))  -- overflow_mul-at
+    (λ c. omega (arith, inside c.before))  -- slice_bounds-four_at-count
+    (λ c. omega (arith, inside c.before))  -- slice_bounds-four_at-start
+    (λ c. search rules)  -- slice_bounds-four_at-end
     four-at-requires
-    (λ c. search rules)  -- cast-count
+    (λ c. search rules)  -- overflow_cast-count
     (λ c κs. search rules)  -- lesser-requires
     returns)

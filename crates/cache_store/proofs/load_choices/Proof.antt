@@ -15,7 +15,7 @@ use Rattle.cache_store.proofs.load_choices.Tie as tie
 inside : (c : tie.Start) → slot_size * c.args.k + slot_size ≤ length c.args.store.now
 inside c = slot_inside c.args.store.now c.args.k c.requires.0
 
-copy-bytes-requires : tie.Need-copy-bytes-requires
+copy-bytes-requires : tie.Need-copy_bytes-requires
 copy-bytes-requires c κs =
     let start : tie.Start = c.before.before.before in
     (omega arith, omega (arith, inside start), omega arith)
@@ -27,16 +27,16 @@ returns c =
     let a = start.args in
     let at = slot_size * a.k in
     let many : at + choices_at + a.count - (at + choices_at) ≡ a.count = omega arith in
-    c.before.before.copy-bytes.ensures
+    c.before.before.copy_bytes.ensures
     ∙ rw (zero-add, many, drop-drop choices_at at a.store.now) refl
 
-pub load-choices-spec : {M : Type 1} → statement M
-load-choices-spec =
+pub load_choices_spec : {M : Type 1} → statement M
+load_choices_spec =
     tie.close
     (tie.spec
-    (λ c. omega (arith, inside c.before.before))  -- mul-at
-    (λ c. omega (arith, inside c.before.before))  -- add-at
-    (λ c. omega (arith, inside c.before.before))  -- add-copy-bytes
+    (λ c. omega (arith, inside c.before.before))  -- overflow_mul-at
+    (λ c. omega (arith, inside c.before.before))  -- overflow_add-at
+    (λ c. omega (arith, inside c.before.before))  -- overflow_add-at-2
     copy-bytes-requires
-    (λ c. search rules)  -- same-length
+    (λ c. search rules)  -- shape_of-choices
     returns)

@@ -6,20 +6,20 @@ use Rattle.cache_store.proofs.Costs.{four_stored}
 use Rattle.cache_store.proofs.put_four.Statement.{statement}
 use Rattle.cache_store.proofs.put_four.Tie as tie
 
-pub put-four-spec : {M : Type 1} → statement M
-put-four-spec =
+pub put_four_spec : {M : Type 1} → statement M
+put_four_spec =
     tie.close
     (tie.spec
-    (λ c. search rules)  -- cast-out
-    (λ c. search rules)  -- slice-write-out
-    (λ c. search rules)  -- cast-out-2
-    (λ c. search rules)  -- add-out
-    (λ c. simp length-set (omega arith))  -- slice-write-out-2
-    (λ c. search rules)  -- cast-out-3
-    (λ c. search rules)  -- add-out-2
-    (λ c. simp length-set (omega arith))  -- slice-write-out-3
-    (λ c. search rules)  -- cast-out-4
-    (λ c. search rules)  -- add-out-3
-    (λ c. simp length-set (omega arith))  -- slice-write-out-4
-    (λ c. search rules)  -- same-length
-    (λ c. four_stored c.args.x c.args.at c.args.out.now c.requires))  -- returns
+    (λ c. search rules)  -- overflow_cast-out
+    (λ c. search rules)  -- bounds-out-at
+    (λ c. search rules)  -- overflow_cast-out-2
+    (λ c. search rules)  -- overflow_add-out
+    (λ c. simp length-set (omega arith))  -- bounds-out-at-2
+    (λ c. search rules)  -- overflow_cast-out-3
+    (λ c. search rules)  -- overflow_add-out-2
+    (λ c. simp length-set (omega arith))  -- bounds-out-at-3
+    (λ c. search rules)  -- overflow_cast-out-4
+    (λ c. search rules)  -- overflow_add-out-3
+    (λ c. simp length-set (omega arith))  -- bounds-out-at-4
+    (λ c. search rules)  -- shape_of-out
+    (λ c. four_stored c.args.x c.args.at c.args.out.now c.requires))  -- returns  -- returns
