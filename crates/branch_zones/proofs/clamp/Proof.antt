@@ -9,6 +9,6 @@ pub clamp_spec : {M : Type 1} → statement M
 clamp_spec =
     tie.close
     (tie.spec
-    (λ c. search rules)  -- cast-result
-    (λ c. sym (clamped_small c.before.args.x c.if1.true))  -- returns
-    (λ c. sym (clamped_large c.before.args.x c.if1.false)))  -- returns-2
+    (λ c. search rules)  -- overflow_cast-result
+    (λ c. sym (clamped_small c.args.x c.if-x-lt4294967296.true))  -- returns-then-x-lt4294967296
+    (λ c. sym (clamped_large c.before.args.x c.if-x-lt4294967296.false)))  -- returns  -- returns-2

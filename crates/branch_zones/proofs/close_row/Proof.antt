@@ -10,36 +10,36 @@ use Rattle.branch_zones.proofs.PartSteps.{closed_none, closed_moved}
 use Rattle.branch_zones.proofs.close_row.Statement.{statement}
 use Rattle.branch_zones.proofs.close_row.Tie as tie
 
-returns : tie.Need-returns
-returns c = let s = c.before.before in closed_none s.requires.1 c.if1.true
+returns : tie.Need-returns-then-free-count
+returns c = let s = c in closed_none s.requires.1 c.if-free-count.true
 
-put-zone-requires : tie.Need-put-zone-requires
+put-zone-requires : tie.Need-put_zone-requires
 put-zone-requires c κs =
-    let s = c.before.before.before.before.before in (
+    let s = c in (
       s.requires.0,
       s.requires.1.long,
       omega (arith, s.requires.1.few, s.requires.2),
-      all_take Word s.args.d.objectives _ c.before.corner-at.ensures.1,
+      all_take Word s.args.d.objectives _ c.corner_at-last.ensures.1,
     )
 
-returns-2 : tie.Need-returns-2
+returns-2 : tie.Need-returns
 returns-2 c =
-    let s = c.before.before.before.before.before.before.before.before in
+    let s = c in
     let a = s.args in
     let last = front_corner a.d.objectives a.zones.now (a.s.count - 1) _ s.requires.0.few
-    c.before.before.before.before.corner-at.ensures.0 in
+    c.corner_at-last.ensures.0 in
     closed_moved s.requires.0 s.requires.1
-    (omega (arith, s.requires.2, c.before.before.before.before.before.before.if1.false))
-    (written_as last c.before.before.put-zone.ensures)
+    (omega (arith, s.requires.2, c.if-free-count.false))
+    (written_as last c.put_zone.ensures)
 
-pub close-row-spec : {M : Type 1} → statement M
-close-row-spec =
+pub close_row_spec : {M : Type 1} → statement M
+close_row_spec =
     tie.close
     (tie.spec
     returns
-    (λ c. search rules)  -- sub-corner-at
-    (λ c κs. search rules)  -- corner-at-requires
+    (λ c. search rules)  -- overflow_sub-count
+    (λ c κs. search rules)  -- corner_at-last-requires
     put-zone-requires
-    (λ c. search rules)  -- sub-result
-    (λ c. search rules)  -- same-length
+    (λ c. search rules)  -- overflow_sub-result
+    (λ c. search rules)  -- shape_of-zones
     returns-2)

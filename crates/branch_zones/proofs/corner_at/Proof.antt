@@ -11,18 +11,18 @@ use Rattle.branch_zones.proofs.corner_at.Tie as tie
 
 returns : tie.Need-returns
 returns c =
-    let s = c.before.before in
-    let read = c.numbers-at.ensures in (
+    let s = c in
+    let read = c.numbers_at.ensures in (
       read,
       subst (All Word) (sym read)
           (corner_words max_objectives s.args.zones.now s.args.i
-          (λ k. omega (arith, c.before.shared-slice-known.given k))),
+          (λ k. omega (arith, c.shared_slice_known-1.given k))),
     )
 
-pub corner-at-spec : {M : Type 1} → statement M
-corner-at-spec =
+pub corner_at_spec : {M : Type 1} → statement M
+corner_at_spec =
     tie.close
     (tie.spec
-    (λ c. search rules)  -- mul-numbers-at
-    (λ c κs. search rules)  -- numbers-at-requires
+    (λ c. search rules)  -- overflow_mul-i
+    (λ c κs. search rules)  -- numbers_at-requires
     returns)

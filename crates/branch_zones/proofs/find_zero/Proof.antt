@@ -4,23 +4,23 @@ use native.Mathlib.Omega.{arith}
 use Rattle.branch_zones.proofs.find_zero.Statement.{statement}
 use Rattle.branch_zones.proofs.find_zero.Tie as tie
 
-abbrev invariant-loop : tie.invariant-loop
+abbrev invariant-loop : tie.invariant-loop-i
 invariant-loop p ceilings i₀ i = i ≤ p
 
-abbrev decreases-loop : tie.decreases-loop
+abbrev decreases-loop : tie.decreases-loop-i
 decreases-loop p ceilings i₀ i = p - i
 
-pub find-zero-spec : {M : Type 1} → statement M
-find-zero-spec =
+pub find_zero_spec : {M : Type 1} → statement M
+find_zero_spec =
     tie.close
     (tie.spec
     invariant-loop
     decreases-loop
-    (λ c. omega arith)  -- loop-holds
-    (λ c. omega arith)  -- mul-if1
-    (λ c. omega arith)  -- array-read-if1
-    (λ c l. c.if1.true)  -- returns
-    (λ c. omega arith)  -- add-i
-    (λ c. omega arith)  -- loop-less
-    (λ c. omega arith)  -- loop-again
-    (λ c l. absurd (omega arith)))  -- returns-2
+    (λ c. omega arith)  -- loop-i-init
+    (λ c. omega arith)  -- offset_bounds-ceilings-i
+    (λ c. omega arith)  -- bounds-ceilings-i
+    (λ c l. c.if-ceilings-i-eq0.true)  -- returns-then-ceilings-i-eq0
+    (λ c. omega arith)  -- overflow_add-i
+    (λ c. omega arith)  -- loop-i-smaller
+    (λ c. omega arith)  -- loop-i-preserved
+    (λ c l. absurd (omega arith)))  -- returns  -- returns-2

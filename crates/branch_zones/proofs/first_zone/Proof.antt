@@ -19,41 +19,41 @@ top : (s : tie.Start) (r : List ℕ) → r ≡ lowered s.args.ceilings
     → take s.args.d.objectives r ≡ lowered (take s.args.d.objectives s.args.ceilings)
 top s r e = ap (take s.args.d.objectives) e ∙ take_lowered s.args.d.objectives s.args.ceilings
 
-returns : tie.Need-returns
+returns : tie.Need-returns-then-find_zero-p
 returns c =
-    let s = c.before.before.before in (
+    let s = c in (
       measured_none s.args.d s.args.zones.now s.requires.2,
       refl,
-      inr (refl, (_, c.if1.true, c.before.find-zero.ensures c.if1.true)),
+      inr (refl, (_, c.if-find_zero-p.true, c.find_zero.ensures c.if-find_zero-p.true)),
     )
 
-put-zone-requires : tie.Need-put-zone-requires
+put-zone-requires : tie.Need-put_zone-requires
 put-zone-requires c κs =
-    let s = c.before.before.before.before.before in (
+    let s = c in (
       s.requires.0,
       s.requires.2,
       omega arith,
-      subst (All Word) (sym (top s _ c.before.lower.ensures))
+      subst (All Word) (sym (top s.before.before.before.before.before _ c.lower.ensures))
           (lowered_words (take s.args.d.objectives s.args.ceilings) s.requires.1),
     )
 
-returns-2 : tie.Need-returns-2
+returns-2 : tie.Need-returns
 returns-2 c =
-    let s = c.before.before.before.before.before.before.before.before in
-    let w = c.before.before.put-zone.ensures in (
+    let s = c in
+    let w = c.put_zone.ensures in (
       measured_written s.requires.0 w 0 (measured_none s.args.d s.args.zones.now s.requires.2) 1 (omega arith)
           (λ k l n. absurd (n (omega arith))),
       w.long,
-      inl (refl, w.corner ∙ top s _ c.before.before.before.before.lower.ensures),
+      inl (refl, w.corner ∙ top s.before.before.before.before.before.before.before.before _ c.lower.ensures),
     )
 
-pub first-zone-spec : {M : Type 1} → statement M
-first-zone-spec =
+pub first_zone_spec : {M : Type 1} → statement M
+first_zone_spec =
     tie.close
     (tie.spec
-    (λ c κs. search rules)  -- find-zero-requires
+    (λ c κs. search rules)  -- find_zero-requires
     returns
     (λ c κs. search rules)  -- lower-requires
     put-zone-requires
-    (λ c. search rules)  -- same-length
+    (λ c. search rules)  -- shape_of-zones
     returns-2)

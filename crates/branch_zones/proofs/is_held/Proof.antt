@@ -5,27 +5,27 @@ use mathlib.Core.Bool.{false≢true}
 use Rattle.branch_zones.proofs.is_held.Statement.{statement}
 use Rattle.branch_zones.proofs.is_held.Tie as tie
 
-abbrev invariant-loop : tie.invariant-loop
+abbrev invariant-loop : tie.invariant-loop-k
 invariant-loop t z free m p zones k₀ k = k ≤ m
 
-abbrev decreases-loop : tie.decreases-loop
+abbrev decreases-loop : tie.decreases-loop-k
 decreases-loop t z free m p zones k₀ k = m - k
 
-returns : tie.Need-returns invariant-loop decreases-loop
+returns : tie.Need-returns-then-is_part_of invariant-loop decreases-loop
 returns c =
-    let w = c.before.before.before.before.loop in
-    λ t. (w.k, omega arith, c.before.before.if1.true, c.before.is-part-of.ensures c.if2.true)
+    let w = c.loop-k in
+    λ t. (w.k, omega arith, c.if-k-free.true, c.is_part_of.ensures c.if-is_part_of.true)
 
-pub is-held-spec : {M : Type 1} → statement M
-is-held-spec =
+pub is_held_spec : {M : Type 1} → statement M
+is_held_spec =
     tie.close
     (tie.spec
     invariant-loop
     decreases-loop
-    (λ c. omega arith)  -- loop-holds
-    (λ c κs. omega arith)  -- is-part-of-requires
+    (λ c. omega arith)  -- loop-k-init
+    (λ c κs. omega arith)  -- is_part_of-requires
     returns
-    (λ c. omega arith)  -- add-k
-    (λ c. omega arith)  -- loop-less
-    (λ c. omega arith)  -- loop-again
-    (λ c f. absurd (false≢true f)))  -- returns-2
+    (λ c. omega arith)  -- overflow_add-k
+    (λ c. omega arith)  -- loop-k-smaller
+    (λ c. omega arith)  -- loop-k-preserved
+    (λ c f. absurd (false≢true f)))  -- returns  -- returns-2

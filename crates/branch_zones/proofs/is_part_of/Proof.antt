@@ -8,27 +8,27 @@ use Rattle.branch_zones.proofs.ZoneRows.{front_corner}
 use Rattle.branch_zones.proofs.is_part_of.Statement.{statement}
 use Rattle.branch_zones.proofs.is_part_of.Tie as tie
 
-returns-2 : tie.Need-returns-2
+returns-2 : tie.Need-returns
 returns-2 c =
-    let unmatched = c.before.before.before in
-    let read = unmatched.before.before.before.before in
-    let s = read.before.before in
+    let unmatched = c in
+    let read = unmatched in
+    let s = read in
     let a = s.args in
-    λ yes. ap (at_most (take a.p a.t1))
-    (sym (front_corner a.p a.zones.now a.k _ s.requires.2 read.corner-at.ensures.0))
-    ∙ sym c.is-at-most2.ensures
+    λ yes. ap (at_most (take a.p a.t))
+    (sym (front_corner a.p a.zones.now a.k _ s.requires.2 read.corner_at-corner.ensures.0))
+    ∙ sym c.is_at_most-2.ensures
     ∙ yes
 
-pub is-part-of-spec : {M : Type 1} → statement M
-is-part-of-spec =
+pub is_part_of_spec : {M : Type 1} → statement M
+is_part_of_spec =
     tie.close
     (tie.spec
-    (λ c κs. search rules)  -- corner-at-requires
-    (λ c. search rules)  -- slice-aggregate-is-at-most
-    (λ c. search rules)  -- slice-aggregate-is-at-most-2
-    (λ c κs. search rules)  -- is-at-most-requires
-    (λ c f. absurd (false≢true f))  -- returns
-    (λ c. search rules)  -- slice-aggregate-is-at-most-3
-    (λ c. search rules)  -- slice-aggregate-is-at-most-4
-    (λ c κs. search rules)  -- is-at-most-requires-2
+    (λ c κs. search rules)  -- corner_at-corner-requires
+    (λ c. search rules)  -- slice_bounds-is_at_most-end
+    (λ c. search rules)  -- slice_bounds-is_at_most-end-2
+    (λ c κs. search rules)  -- is_at_most-requires
+    (λ c f. absurd (false≢true f))  -- returns-then-is_at_most
+    (λ c. search rules)  -- slice_bounds-is_at_most-end-3
+    (λ c. search rules)  -- slice_bounds-is_at_most-end-4
+    (λ c κs. search rules)  -- is_at_most-requires-2
     returns-2)

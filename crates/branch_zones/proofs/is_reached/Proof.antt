@@ -16,21 +16,21 @@ use Rattle.branch_zones.proofs.NotReached.{not_reached}
 use Rattle.branch_zones.proofs.is_reached.Statement.{statement}
 use Rattle.branch_zones.proofs.is_reached.Tie as tie
 
-abbrev invariant-loop : tie.invariant-loop
+abbrev invariant-loop : tie.invariant-loop-j
 invariant-loop from m zones least count j₀ j = (j ≤ count) × ((k : ℕ) → k < j → Under zones least (get_or from k 0))
 
-abbrev decreases-loop : tie.decreases-loop
+abbrev decreases-loop : tie.decreases-loop-j
 decreases-loop from m zones least count j₀ j = count - j
 
 -- ## the places, each with a name
 
 -- the bound was clamped
 abbrev Clamped : Type 0
-Clamped = tie.After-clamp-bound invariant-loop decreases-loop
+Clamped = tie.After-clamp_bound-least invariant-loop decreases-loop
 
 -- before a candidate is looked at
 abbrev Looping : Type 0
-Looping = tie.At-loop invariant-loop decreases-loop
+Looping = tie.At-loop-j invariant-loop decreases-loop
 
 abbrev begun : Clamped → tie.Start invariant-loop decreases-loop
 begun c = c.before.before.before.before
@@ -42,55 +42,55 @@ abbrev start : Looping → tie.Start invariant-loop decreases-loop
 start c = begun (clamped c)
 
 -- a candidate is one of the zones
-inside : (c : Looping) → c.loop.j < count_in (start c).args.from.now
-    → get_or (start c).args.from.now c.loop.j 0 < (start c).args.m
-inside c l = (start c).requires.2.inside c.loop.j l
+inside : (c : Looping) → c.loop-j.j < count_in (start c).args.from.now
+    → get_or (start c).args.from.now c.loop-j.j 0 < (start c).args.m
+inside c l = (start c).requires.2.inside c.loop-j.j l
 
-add-clamp-bound : tie.Need-overflow-add-clamp-bound invariant-loop decreases-loop
-add-clamp-bound c = let s = c.before.before.before in omega (arith, s.requires.0.few, s.requires.0.few_sums)
+add-clamp-bound : tie.Need-overflow_add-d invariant-loop decreases-loop
+add-clamp-bound c = let s = c in omega (arith, s.requires.0.few, s.requires.0.few_sums)
 
-clamp-bound-requires : tie.Need-clamp-bound-requires invariant-loop decreases-loop
-clamp-bound-requires c κs = let s = c.before.before.before in omega (arith, s.requires.0.few, s.requires.0.few_sums)
+clamp-bound-requires : tie.Need-clamp_bound-least-requires invariant-loop decreases-loop
+clamp-bound-requires c κs = let s = c in omega (arith, s.requires.0.few, s.requires.0.few_sums)
 
-shared-slice-read-count : tie.Need-shared-slice-read-count invariant-loop decreases-loop
-shared-slice-read-count c = omega (arith, (begun c.before).pre.2.long)
+shared-slice-read-count : tie.Need-bounds-from-128 invariant-loop decreases-loop
+shared-slice-read-count c = omega (arith, (begun c.before).requires.2.long)
 
-cast-count : tie.Need-overflow-cast-count invariant-loop decreases-loop
-cast-count c = omega (arith, (begun c.before).pre.2.few)
+cast-count : tie.Need-overflow_cast-count invariant-loop decreases-loop
+cast-count c = omega (arith, (begun c.before).requires.2.few)
 
-shared-slice-read-is-under : tie.Need-shared-slice-read-is-under invariant-loop decreases-loop
-shared-slice-read-is-under c = let s = start c.before.before in omega (arith, s.pre.2.few, s.pre.2.long)
+shared-slice-read-is-under : tie.Need-bounds-from-j invariant-loop decreases-loop
+shared-slice-read-is-under c = let s = start c.before.before in omega (arith, s.requires.2.few, s.requires.2.long)
 
-cast-is-under : tie.Need-overflow-cast-is-under invariant-loop decreases-loop
-cast-is-under c = let w = c.before.before in omega (arith, inside w (omega arith), (start w).requires.1.few)
+cast-is-under : tie.Need-overflow_cast-from invariant-loop decreases-loop
+cast-is-under c = let w = c in omega (arith, inside w.before.before (omega arith), (start w.before.before).requires.1.few)
 
-mul-is-under : tie.Need-overflow-mul-is-under invariant-loop decreases-loop
-mul-is-under c = let w = c.before.before in omega (arith, inside w (omega arith), (start w).requires.1.few)
+mul-is-under : tie.Need-overflow_mul-from invariant-loop decreases-loop
+mul-is-under c = let w = c in omega (arith, inside w.before.before (omega arith), (start w.before.before).requires.1.few)
 
-is-under-requires : tie.Need-is-under-requires invariant-loop decreases-loop
+is-under-requires : tie.Need-is_under-requires invariant-loop decreases-loop
 is-under-requires c κs =
-    let w = c.before.before in
-    let s = start w in
-    omega (arith, inside w (omega arith), s.pre.1.few, s.pre.1.long)
+    let w = c in
+    let s = start w.before.before in
+    omega (arith, inside w.before.before (omega arith), s.requires.1.few, s.requires.1.long)
 
-loop-again : tie.Need-loop-preserved invariant-loop decreases-loop
+loop-again : tie.Need-loop-j-preserved invariant-loop decreases-loop
 loop-again c =
-    let w = c.before.before.before.before.loop in
-    (omega arith, below_more _ w.j w.invariant.1 (sym c.before.is-under.ensures ∙ c.if1.false))
+    let w = c.loop-j in
+    (omega arith, below_more _ w.j w.invariant.1 (sym c.is_under.ensures ∙ c.if-is_under.false))
 
-returns-2 : tie.Need-returns-2 invariant-loop decreases-loop
+returns-2 : tie.Need-returns invariant-loop decreases-loop
 returns-2 c =
     let s = start c.before in
-    let w = c.before.loop in
-    let least = (clamped c.before).clamp-bound in
-    λ f. sifted_none s.pre.2
-    (λ j l. not_reached s.pre.0 s.pre.1 s.args.b least.result
-    (array_length w64 max_directions s.args.b _ s.good.0) least.ensures.0 least.ensures.1
+    let w = c.loop-j in
+    let least = (clamped c.before).clamp_bound-least in
+    λ f. sifted_none s.requires.2
+    (λ j l. not_reached s.requires.0 s.requires.1 s.args.b least.result
+    (array_length w64 max_directions s.args.b _ s.well_formed.0) least.ensures.0 least.ensures.1
     least.ensures.2 _
-    (s.pre.2.inside j l) (w.invariant.1 j (omega arith)))
+    (s.requires.2.inside j l) (w.invariant.1 j (omega arith)))
 
-pub is-reached-spec : {M : Type 1} → statement M
-is-reached-spec =
+pub is_reached_spec : {M : Type 1} → statement M
+is_reached_spec =
     tie.close
     (tie.spec
     invariant-loop
@@ -99,13 +99,13 @@ is-reached-spec =
     clamp-bound-requires
     shared-slice-read-count
     cast-count
-    (λ c. (omega arith, λ k l. absurd (omega arith)))  -- loop-holds
+    (λ c. (omega arith, λ k l. absurd (omega arith)))  -- loop-j-init
     shared-slice-read-is-under
     cast-is-under
     mul-is-under
     is-under-requires
-    (λ c f. absurd (false≢true (sym f)))  -- returns
-    (λ c. omega arith)  -- add-j
-    (λ c. omega arith)  -- loop-less
+    (λ c f. absurd (false≢true (sym f)))  -- returns-then-is_under
+    (λ c. omega arith)  -- overflow_add-j
+    (λ c. omega arith)  -- loop-j-smaller
     loop-again
     returns-2)

@@ -23,16 +23,16 @@ use Rattle.branch_zones.proofs.is_under.Tie as tie
 
 -- the first four are compared
 abbrev First : Type 0
-First = tie.After-is-at-most
+First = tie.After-is_at_most
 
 abbrev start : First → tie.Start
 start c =
-    let read = c.before.before in
-    read.before.before.before
+    let read = c in
+    read.before.before.before.before.before
 
 module _ (s : tie.Start) where
   abbrev least : List ℕ
-  least = s.args.t1
+  least = s.args.least
 
   abbrev zones : List ℕ
   zones = s.args.zones.now
@@ -45,52 +45,52 @@ module _ (s : tie.Start) where
   two = at_most (take 4 (drop 4 least)) (take 4 (drop (s.args.at + 4) zones))
 
   fours : at_most least (take zone_width (drop s.args.at zones)) ≡ (one && two)
-  fours = row_fours least zones s.args.at (array_length w64 zone_width least _ s.good.0) s.pre
+  fours = row_fours least zones s.args.at (array_length w64 zone_width least _ s.well_formed.0) s.requires
 
 -- four numbers that were read
 read_four : (xs zones : List ℕ) (at : ℕ) → xs ≡ take max_objectives (drop at zones) → take 4 xs ≡ take 4 (drop at zones)
 read_four xs zones at e = ap (take 4) e ∙ take-take 4 4 (drop at zones) (omega arith)
 
-first : (c : First) → c.is-at-most.result ≡ one (start c)
+first : (c : First) → c.is_at_most.result ≡ one (start c)
 first c =
-    let read = c.before.before in
+    let read = c in
     let s = start c in
-    c.is-at-most.ensures
-    ∙ ap (at_most (take 4 (least s))) (read_four _ (zones s) s.args.at read.numbers-at.ensures)
+    c.is_at_most.ensures
+    ∙ ap (at_most (take 4 (least s))) (read_four _ (zones s) s.args.at read.numbers_at.ensures)
 
-returns : tie.Need-returns
+returns : tie.Need-returns-then-not-is_at_most
 returns c =
     let s = start c.before in
-    sym (fours s ∙ and-false (one s) (two s) (inl (sym (first c.before) ∙ not-true _ c.if1.true)))
+    sym (fours s ∙ and-false (one s) (two s) (inl (sym (first c.before) ∙ c.if-not-is_at_most.true)))
 
-returns-2 : tie.Need-returns-2
+returns-2 : tie.Need-returns
 returns-2 c =
-    let read = c.before.before in
-    let passed = read.before.before.before in
-    let s = start passed.before in
-    let yes : one s ≡ true = sym (first passed.before) ∙ not-false _ passed.if1.false in
-    let said : c.is-at-most2.result ≡ two s =
-    c.is-at-most2.ensures
-    ∙ ap (λ (u : List ℕ). at_most u (take 4 read.numbers-at2.result))
+    let read = c in
+    let passed = read in
+    let s = start passed.before.before.before.before.before in
+    let yes : one s ≡ true = sym (first passed.before.before.before.before.before) ∙ passed.if-not-is_at_most.false in
+    let said : c.is_at_most-2.result ≡ two s =
+    c.is_at_most-2.ensures
+    ∙ ap (λ (u : List ℕ). at_most u (take 4 read.numbers_at-2.result))
     (take-take 4 4 (drop 4 (least s)) (omega arith))
     ∙ ap (at_most (take 4 (drop 4 (least s))))
-    (read_four _ (zones s) (s.args.at + 4) read.numbers-at2.ensures) in
+    (read_four _ (zones s) (s.args.at + 4) read.numbers_at-2.ensures) in
     said ∙ sym (fours s ∙ rw yes)
 
-pub is-under-spec : {M : Type 1} → statement M
-is-under-spec =
+pub is_under_spec : {M : Type 1} → statement M
+is_under_spec =
     tie.close
     (tie.spec
-    (λ c. search rules)  -- slice-aggregate-is-at-most
-    (λ c κs. omega arith)  -- numbers-at-requires
-    (λ c. search rules)  -- slice-aggregate-is-at-most-2
-    (λ c κs. search rules)  -- is-at-most-requires
+    (λ c. search rules)  -- slice_bounds-is_at_most-end
+    (λ c κs. omega arith)  -- numbers_at-requires
+    (λ c. search rules)  -- slice_bounds-is_at_most-end-2
+    (λ c κs. search rules)  -- is_at_most-requires
     returns
-    (λ c. search rules)  -- sub-is-at-most
-    (λ c. search rules)  -- part-is-at-most-start
-    (λ c. search rules)  -- part-is-at-most-end
-    (λ c. omega arith)  -- add-numbers-at
-    (λ c κs. omega arith)  -- numbers-at-requires-2
-    (λ c. search rules)  -- slice-aggregate-is-at-most-3
-    (λ c κs. search rules)  -- is-at-most-requires-2
+    (λ c. search rules)  -- slice_bounds-is_at_most-count
+    (λ c. search rules)  -- slice_bounds-is_at_most-start
+    (λ c. search rules)  -- slice_bounds-is_at_most-end-3
+    (λ c. omega arith)  -- overflow_add-at
+    (λ c κs. omega arith)  -- numbers_at-requires-2
+    (λ c. search rules)  -- slice_bounds-is_at_most-end-4
+    (λ c κs. search rules)  -- is_at_most-requires-2
     returns-2)

@@ -9,24 +9,24 @@ use Rattle.branch_zones.proofs.lower.Tie as tie
 
 returns : tie.Need-returns
 returns c =
-    let s = c.before.before.before.before in
+    let s = c in
     rw (
-      c.before.before.before.less_one.ensures,
-      c.before.before.less-one2.ensures,
-      c.before.less-one3.ensures,
-      c.less-one4.ensures,
-    ) (lowered_listed s.args.t1 (array_length w64 max_objectives s.args.t1 _ s.well-formed.0))
+      c.less_one.ensures,
+      c.less_one-2.ensures,
+      c.less_one-3.ensures,
+      c.less_one-4.ensures,
+    ) (lowered_listed s.args.ceilings (array_length w64 max_objectives s.args.ceilings _ s.well_formed.0))
 
 pub lower_spec : {M : Type 1} → statement M
 lower_spec =
     tie.close
     (tie.spec
-    (λ c. search rules)  -- array-read-less-one
-    (λ c κs. search rules)  -- less-one-requires
-    (λ c. search rules)  -- array-read-less-one-2
-    (λ c κs. search rules)  -- less-one-requires-2
-    (λ c. search rules)  -- array-read-less-one-3
-    (λ c κs. search rules)  -- less-one-requires-3
-    (λ c. search rules)  -- array-read-less-one-4
-    (λ c κs. search rules)  -- less-one-requires-4
+    (λ c. search rules)  -- bounds-ceilings-0
+    (λ c κs. search rules)  -- less_one-requires
+    (λ c. search rules)  -- bounds-ceilings-1
+    (λ c κs. search rules)  -- less_one-requires-2
+    (λ c. search rules)  -- bounds-ceilings-2
+    (λ c κs. search rules)  -- less_one-requires-3
+    (λ c. search rules)  -- bounds-ceilings-3
+    (λ c κs. search rules)  -- less_one-requires-4
     returns)

@@ -17,10 +17,10 @@ use Rattle.rows.proofs.Arrays.{array_length}
 use Rattle.branch_zones.proofs.put_zone.Statement.{statement}
 use Rattle.branch_zones.proofs.put_zone.Tie as tie
 
-abbrev invariant-loop : tie.invariant-loop
+abbrev invariant-loop : tie.invariant-loop-j
 invariant-loop i zones₀ all at j₀ zones j = Copied zones₀ at (map clamped all) zone_width zones j
 
-abbrev decreases-loop : tie.decreases-loop
+abbrev decreases-loop : tie.decreases-loop-j
 decreases-loop i zones₀ all at j₀ zones j = zone_width - j
 
 -- what is known of the arguments
@@ -28,61 +28,61 @@ module _ (s : tie.Start invariant-loop decreases-loop) where
   wide : length (take s.args.d.objectives s.args.corner) ≡ s.args.d.objectives
   wide =
       length-take-le s.args.d.objectives s.args.corner
-      (omega (arith, array_length w64 max_objectives s.args.corner _ s.well-formed.1.0, s.requires.0.few))
+      (omega (arith, array_length w64 max_objectives s.args.corner _ s.well_formed.1.0, s.requires.0.few))
 
-directions-of-requires : tie.Need-directions-of-requires invariant-loop decreases-loop
+directions-of-requires : tie.Need-directions_of-all-requires invariant-loop decreases-loop
 directions-of-requires c κs =
-    let s = c.before in (
+    let s = c in (
       s.requires.0,
       all_map Word (λ x. x < core_sum_end) (λ x l. omega arith) (take s.args.d.objectives s.args.corner)
           s.requires.3,
     )
 
-loop-holds : tie.Need-loop-init invariant-loop decreases-loop
+loop-holds : tie.Need-loop-j-init invariant-loop decreases-loop
 loop-holds c =
-    let s = c.before.before in
+    let s = c in
     let a = s.args in
-    copied_start a.zones.now (zone_width * a.i) (map clamped c.directions-of.result) zone_width
+    copied_start a.zones.now (zone_width * a.i) (map clamped c.directions_of-all.result) zone_width
     (omega (arith, s.requires))
     (omega (
       arith,
-      row_long a.d (take a.d.objectives a.corner) _ s.requires.0 (wide s) c.directions-of.ensures,
+      row_long a.d (take a.d.objectives a.corner) _ s.requires.0 (wide s.before.before) c.directions_of-all.ensures,
     ))
 
-loop-again : tie.Need-loop-preserved invariant-loop decreases-loop
+loop-again : tie.Need-loop-j-preserved invariant-loop decreases-loop
 loop-again c =
-    let w = c.before.before.loop in
+    let w = c.loop-j in
     copied_next w.invariant (omega arith) _
-    (c.clamp.ensures ∙ sym (get_or-map clamped c.before.before.before.directions-of.result w.j 0))
+    (c.clamp.ensures ∙ sym (get_or-map clamped c.directions_of-all.result w.j 0))
 
 returns : tie.Need-returns invariant-loop decreases-loop
 returns c =
-    let s = c.before.before.before.before in
+    let s = c in
     let a = s.args in
-    let read = c.before.before.directions-of.ensures in
-    let full = row_long a.d (take a.d.objectives a.corner) _ s.requires.0 (wide s) read in
+    let read = c.directions_of-all.ensures in
+    let full = row_long a.d (take a.d.objectives a.corner) _ s.requires.0 (wide s.before.before.before.before) read in
     row_written a.d a.zones.now a.i (take a.d.objectives a.corner) _ _ s.requires.0 s.requires.1
-    s.requires.2 (wide s) s.requires.3 read
-    (rw (take_all zone_width (map clamped c.before.before.directions-of.result) (omega (arith, full)))
-    at (copied_end c.before.loop.invariant (omega arith)))
+    s.requires.2 (wide s.before.before.before.before) s.requires.3 read
+    (rw (take_all zone_width (map clamped c.directions_of-all.result) (omega (arith, full)))
+    at (copied_end c.loop-j.invariant (omega arith)))
 
-pub put-zone-spec : {M : Type 1} → statement M
-put-zone-spec =
+pub put_zone_spec : {M : Type 1} → statement M
+put_zone_spec =
     tie.close
     (tie.spec
     invariant-loop
     decreases-loop
     directions-of-requires
-    (λ c. omega arith)  -- mul-at
+    (λ c. omega arith)  -- overflow_mul-at
     loop-holds
-    (λ c. omega arith)  -- mul-clamp
-    (λ c. omega arith)  -- array-read-clamp
+    (λ c. omega arith)  -- offset_bounds-all-j
+    (λ c. omega arith)  -- bounds-all-j
     (λ c κs. tt)  -- clamp-requires
-    (λ c. omega arith)  -- add-zones
-    (λ c. omega arith)  -- mul-zones
-    (λ c. omega (arith, copied_length c.before.before.loop.invariant))  -- slice-write-zones
-    (λ c. omega arith)  -- add-j
-    (λ c. omega arith)  -- loop-less
+    (λ c. omega arith)  -- overflow_add-zones
+    (λ c. omega arith)  -- offset_bounds-zones-at
+    (λ c. omega (arith, copied_length c.loop-j.invariant))  -- bounds-zones-at
+    (λ c. omega arith)  -- overflow_add-j
+    (λ c. omega arith)  -- loop-j-smaller
     loop-again
-    (λ c. copied_length c.before.loop.invariant)  -- same-length
+    (λ c. copied_length c.loop-j.invariant)  -- shape_of-zones
     returns)

@@ -12,115 +12,115 @@ use Rattle.branch_zones.proofs.PartSteps.{Splitting, splitting_start, splitting_
 use Rattle.branch_zones.proofs.split_zone.Statement.{statement}
 use Rattle.branch_zones.proofs.split_zone.Tie as tie
 
-abbrev invariant-loop : tie.invariant-loop
+abbrev invariant-loop : tie.invariant-loop-j
 invariant-loop i m d zones₀ z p t s₀ j₀ zones s j =
     (j ≤ d.objectives) × Splitting d (take d.objectives t) (take d.objectives z) zones₀ i m j zones s
 
-abbrev decreases-loop : tie.decreases-loop
+abbrev decreases-loop : tie.decreases-loop-j
 decreases-loop i m d zones₀ z p t s₀ j₀ zones s j = d.objectives - j
 
 -- ## the places, each with a name
 
 -- the corner was read, and there is place
 abbrev Placed : Type 0
-Placed = tie.Else1 invariant-loop decreases-loop
+Placed = tie.Else-m-p invariant-loop decreases-loop
 
 -- before a part is taken in
 abbrev Looping : Type 0
-Looping = tie.At-loop invariant-loop decreases-loop
+Looping = tie.At-loop-j invariant-loop decreases-loop
 
 abbrev start : Placed → tie.Start invariant-loop decreases-loop
-start c = c.before.before.before.before
+start c = c.before.before.before
 
 -- the zone is matched
 abbrev placed : Looping → Placed
 placed c =
-    let matched = c.before in
-    matched.before.before.before.before
+    let matched = c in
+    matched.before.before.before.before.before
 
-corner-at-requires : tie.Need-corner-at-requires invariant-loop decreases-loop
-corner-at-requires c κs = let s = c.before.before in omega (arith, s.requires.1.long, s.requires.1.few)
+corner-at-requires : tie.Need-corner_at-t-requires invariant-loop decreases-loop
+corner-at-requires c κs = let s = c in omega (arith, s.requires.1.long, s.requires.1.few)
 
-add-if1 : tie.Need-overflow-add-if1 invariant-loop decreases-loop
-add-if1 c = let s = c.before.before.before in omega (arith, s.requires.1.few, s.requires.0.few)
+add-if1 : tie.Need-overflow_add-m invariant-loop decreases-loop
+add-if1 c = let s = c in omega (arith, s.requires.1.few, s.requires.0.few)
 
-returns : tie.Need-returns invariant-loop decreases-loop
-returns c = let s = c.before.before.before.before in (zones_split_none _ s.requires.1, omega arith)
+returns : tie.Need-returns-then-m-p invariant-loop decreases-loop
+returns c = let s = c in (zones_split_none _ s.requires.1, omega arith)
 
-is-at-most-requires : tie.Need-is-at-most-requires invariant-loop decreases-loop
-is-at-most-requires c κs = let s = start c.before.before in search (rules, s.pre.0.few)
+is-at-most-requires : tie.Need-is_at_most-requires invariant-loop decreases-loop
+is-at-most-requires c κs = let s = start c.before.before in search (rules, s.requires.0.few)
 
-returns-2 : tie.Need-returns-2 invariant-loop decreases-loop
-returns-2 c = let s = start c.before.before.before.before in (zones_split_none _ s.pre.1, omega arith)
+returns-2 : tie.Need-returns-then-not-is_at_most invariant-loop decreases-loop
+returns-2 c = let s = start c.before.before.before.before in (zones_split_none _ s.requires.1, omega arith)
 
-loop-holds : tie.Need-loop-init invariant-loop decreases-loop
+loop-holds : tie.Need-loop-j-init invariant-loop decreases-loop
 loop-holds c =
     let s = start c.before.before.before.before in
-    (omega arith, splitting_start _ _ s.args.i s.pre.2 s.pre.1)
+    (omega arith, splitting_start _ _ s.args.i s.requires.2 s.requires.1)
 
-add-part-requires : tie.Need-add-part-requires invariant-loop decreases-loop
+add-part-requires : tie.Need-add_part-s-requires invariant-loop decreases-loop
 add-part-requires c κs =
-    let w = c.before.before in
-    let s = start (placed w) in
-    let u = w.loop.invariant.1 in (
-      s.pre.0,
-      u.decreases,
+    let w = c in
+    let s = start (placed w.before.before) in
+    let u = w.loop-j.invariant.1 in (
+      s.requires.0,
+      u.measured,
       u.inside,
-      omega (arith, u.room, (placed w).if1.false),
+      omega (arith, u.room, (placed w.before.before).if-m-p.false),
       omega arith,
-      all_take Word s.args.d.objectives _ (placed w).before.corner-at.ensures.1,
-      s.pre.3,
+      all_take Word s.args.d.objectives _ (placed w.before.before).corner_at-t.ensures.1,
+      s.requires.3,
     )
 
-loop-again : tie.Need-loop-preserved invariant-loop decreases-loop
+loop-again : tie.Need-loop-j-preserved invariant-loop decreases-loop
 loop-again c =
-    let added = c.before.before in
-    let w = added.before.before.before.loop in
-    (omega arith, splitting_next w.invariant.1 added.add-part.ensures)
+    let added = c in
+    let w = added.loop-j in
+    (omega arith, splitting_next w.invariant.1 added.add_part-s.ensures)
 
-close-row-requires : tie.Need-close-row-requires invariant-loop decreases-loop
+close-row-requires : tie.Need-close_row-requires invariant-loop decreases-loop
 close-row-requires c κs =
-    let w = c.before.before in
-    ((start (placed w)).pre.0, w.loop.invariant.1.measured, w.loop.invariant.1.inside)
+    let w = c in
+    ((start (placed w.before.before)).requires.0, w.loop-j.invariant.1.measured, w.loop-j.invariant.1.inside)
 
-same-length-3 : tie.Need-same-length-3 invariant-loop decreases-loop
+same-length-3 : tie.Need-shape_of-zones invariant-loop decreases-loop
 same-length-3 c =
-    let closed = c.before.before in
-    closed.close_row.ensures.long ∙ closed.before.before.before.loop.invariant.1.long
+    let closed = c in
+    closed.close_row.ensures.long ∙ closed.loop-j.invariant.1.long
 
-returns-3 : tie.Need-returns-3 invariant-loop decreases-loop
+returns-3 : tie.Need-returns invariant-loop decreases-loop
 returns-3 c =
-    let closed = c.before.before in
-    let w = closed.before.before.before in
-    let s = start (placed w) in
+    let closed = c in
+    let w = closed in
+    let s = start (placed w.before.before.before.before.before) in
     let e = closed.close_row.ensures in (
-      splitting_end w.loop.invariant.1 (omega arith)
-          (front_corner s.args.d.objectives s.args.zones.now s.args.i _ s.pre.0.few
-          (placed w).before.corner-at.ensures.0)
+      splitting_end w.loop-j.invariant.1 (omega arith)
+          (front_corner s.args.d.objectives s.args.zones.now s.args.i _ s.requires.0.few
+          (placed w.before.before.before.before.before).corner_at-t.ensures.0)
           e,
-      omega (arith, w.loop.invariant.1.least, e.least),
+      omega (arith, w.loop-j.invariant.1.least, e.least),
     )
 
-pub split-zone-spec : {M : Type 1} → statement M
-split-zone-spec =
+pub split_zone_spec : {M : Type 1} → statement M
+split_zone_spec =
     tie.close
     (tie.spec
     invariant-loop
     decreases-loop
     corner-at-requires
     add-if1
-    (λ c. omega arith)  -- add-if1-2
-    (λ c. refl)  -- same-length
+    (λ c. omega arith)  -- overflow_add-t-15
+    (λ c. refl)  -- shape_of-zones-then-m-p
     returns
-    (λ c. search rules)  -- slice-aggregate-is-at-most
-    (λ c. search rules)  -- slice-aggregate-is-at-most-2
+    (λ c. search rules)  -- slice_bounds-is_at_most-end
+    (λ c. search rules)  -- slice_bounds-is_at_most-end-2
     is-at-most-requires
-    (λ c. refl)  -- same-length-2
+    (λ c. refl)  -- shape_of-zones-then-not-is_at_most
     returns-2
     loop-holds
     add-part-requires
-    (λ c. omega arith)  -- add-j
-    (λ c. omega arith)  -- loop-less
+    (λ c. omega arith)  -- overflow_add-j
+    (λ c. omega arith)  -- loop-j-smaller
     loop-again
     close-row-requires
     same-length-3
