@@ -15,66 +15,66 @@ use Rattle.branch_buckets.proofs.add_message.Lts as lts
 use Rattle.branch_buckets.proofs.add_row.Reads as add-row-reads
 use Rattle.branch_buckets.proofs.message_run.Reads as message-run-reads
 
-abbrev invariant-loop : tie.invariant-loop
+abbrev invariant-loop : tie.invariant-loop-a
 invariant-loop g v size choice width plan rows₀ first stride a₀ rows a =
     (a ≤ size) × RowsFilled (λ b j. get_or rows₀ (8 * b + j) 0 + message_at width plan (set choice v b) j g) rows₀ a rows
 
-abbrev decreases-loop : tie.decreases-loop
+abbrev decreases-loop : tie.decreases-loop-a
 decreases-loop g v size choice width plan rows₀ first stride a₀ rows a = size - a
 
-message-run-requires : tie.Need-message-run-requires invariant-loop decreases-loop
+message-run-requires : tie.Need-message_run-r-requires invariant-loop decreases-loop
 message-run-requires c κs =
-    let q = c.before.before.before.requires in
+    let q = c.requires in
     (q.0, q.3, q.1)
 
 -- every place that is read is small
 fits :
-    (c : lts.In-loop (message-run-reads.Asked, message-run-reads.Learnt, add-row-reads.Asked, add-row-reads.Learnt)
+    (c : lts.In-loop-a (message-run-reads.Asked, message-run-reads.Learnt, add-row-reads.Asked, add-row-reads.Learnt)
     reads.Pre reads.Post invariant-loop decreases-loop)
-    → c.before.before.message-run.result.first
-    + c.before.loop.a * c.before.before.message-run.result.stride
+    → c.before.before.message_run-r.result.first
+    + c.before.loop-a.a * c.before.before.message_run-r.result.stride
     < add_end
 fits c =
-    let r = c.before.before.message-run in
-    let l : c.before.loop.a * r.result.stride ≤ 8 * r.result.stride =
+    let r = c.message_run-r in
+    let l : c.loop-a.a * r.result.stride ≤ 8 * r.result.stride =
     mul-le-mul_right r.result.stride (omega arith) in
     omega (arith, r.ensures.low, r.ensures.flat)
 
-add-row-requires : tie.Need-add-row-requires invariant-loop decreases-loop
+add-row-requires : tie.Need-add_row-requires invariant-loop decreases-loop
 add-row-requires c κs =
-    let s = c.before.before.before.before.before.before.before in
-    let w = c.before.before.loop in (
+    let s = c in
+    let w = c.loop-a in (
       fits c.before,
       omega (arith, w.invariant.1.long, s.requires),
       λ j l. rw (w.invariant.1.rest (8 * w.a + j) (omega arith)) (s.requires.4.1 w.a j (omega arith) l),
     )
 
-loop-again : tie.Need-loop-preserved invariant-loop decreases-loop
+loop-again : tie.Need-loop-a-preserved invariant-loop decreases-loop
 loop-again c =
-    let s = c.before.before.before.before.before.before.before.before.before.before in
-    let w = c.before.before.before.before.before.loop in
-    let r = c.before.before.add_row in
-    let m = c.before.before.before.before.before.before.message-run in (
+    let s = c in
+    let w = c.loop-a in
+    let r = c.add_row in
+    let m = c.message_run-r in (
       omega arith,
-      rows_next w.invariant.1 r.ensures r.auto.1.1.1.0
+      rows_next w.invariant.1 r.ensures r.auto.rows
           (λ j l. ap₂ ◌+◌ (w.invariant.1.rest (8 * w.a + j) (omega arith))
           (ap (λ (n : ℕ). get_or s.args.plan.now (n + j) 0) (sym (m.ensures.start w.a)))),
     )
 
-pub add-message-spec : {M : Type 1} → statement M
-add-message-spec =
+pub add_message_spec : {M : Type 1} → statement M
+add_message_spec =
     tie.close
     (tie.spec
     invariant-loop
     decreases-loop
     message-run-requires
-    (λ c. (omega arith, rows_start _ _))  -- loop-holds
-    (λ c. omega (arith, fits c))  -- mul-add-row
-    (λ c. omega (arith, fits c))  -- add-add-row
-    (λ c. omega arith)  -- mul-add-row-2
+    (λ c. (omega arith, rows_start _ _))  -- loop-a-init
+    (λ c. omega (arith, fits c))  -- overflow_mul-a
+    (λ c. omega (arith, fits c))  -- overflow_add-first
+    (λ c. omega arith)  -- overflow_mul-a-in-loop-a
     add-row-requires
-    (λ c. omega arith)  -- add-a
-    (λ c. omega arith)  -- loop-less
+    (λ c. omega arith)  -- overflow_add-a
+    (λ c. omega arith)  -- loop-a-smaller
     loop-again
-    (λ c. c.before.loop.invariant.1.long)  -- same-length
-    (λ c b j h l. c.before.loop.invariant.1.done b j (omega arith) l))  -- returns
+    (λ c. c.loop-a.invariant.1.long)  -- shape_of-rows
+    (λ c b j h l. c.before.loop-a.invariant.1.done b j (omega arith) l))  -- returns  -- returns

@@ -9,47 +9,47 @@ use Rattle.branch_buckets.proofs.RowSteps.{Filling, filling_start, filling_same,
 use Rattle.branch_buckets.proofs.add_partly.Statement.{statement}
 use Rattle.branch_buckets.proofs.add_partly.Tie as tie
 
-abbrev invariant-loop : tie.invariant-loop
+abbrev invariant-loop : tie.invariant-loop-j
 invariant-loop start at plan rows₀ j₀ rows j =
     Filling (λ i. get_or rows₀ (at + i) 0 + get_or plan (start + i) 0) at 8 rows₀ j rows
 
-abbrev decreases-loop : tie.decreases-loop
+abbrev decreases-loop : tie.decreases-loop-j
 decreases-loop start at plan rows₀ j₀ rows j = 8 - j
 
-add-rows-2 : tie.Need-overflow-add-rows-2 invariant-loop decreases-loop
+add-rows-2 : tie.Need-overflow_add-rows-in-loop-j invariant-loop decreases-loop
 add-rows-2 c =
-    let s = c.before.before.before.before.before.before in
-    let w = c.before.before.before.loop in
+    let s = c in
+    let w = c.loop-j in
     omega (arith, filling_same w.invariant, s.requires.2 w.j (omega arith), c.number_at.ensures)
 
-slice-write-rows : tie.Need-slice-write-rows invariant-loop decreases-loop
-slice-write-rows c = omega (arith, c.before.before.before.loop.invariant.long)
+slice-write-rows : tie.Need-bounds-rows-at-in-loop-j invariant-loop decreases-loop
+slice-write-rows c = omega (arith, c.loop-j.invariant.long)
 
-loop-again : tie.Need-loop-preserved invariant-loop decreases-loop
+loop-again : tie.Need-loop-j-preserved invariant-loop decreases-loop
 loop-again c =
-    let s = c.before.before.before.before.before.before in
-    let w = c.before.before.before.loop in
+    let s = c in
+    let w = c.loop-j in
     filling_next w.invariant s.requires.1 (omega arith) _ (ap₂ ◌+◌ (filling_same w.invariant) c.number_at.ensures.0) _
     refl
 
-pub add-partly-spec : {M : Type 1} → statement M
-add-partly-spec =
+pub add_partly_spec : {M : Type 1} → statement M
+add_partly_spec =
     tie.close
     (tie.spec
     invariant-loop
     decreases-loop
-    (λ c. filling_start _ _ _ _)  -- loop-holds
-    (λ c. omega arith)  -- add-rows
-    (λ c. omega arith)  -- mul-rows
-    (λ c. omega (arith, c.before.before.loop.invariant.long))  -- slice-read-rows
-    (λ c. omega arith)  -- add-number-at
-    (λ c κs. search rules)  -- number-at-requires
+    (λ c. filling_start _ _ _ _)  -- loop-j-init
+    (λ c. omega arith)  -- overflow_add-rows
+    (λ c. omega arith)  -- offset_bounds-rows-at
+    (λ c. omega (arith, c.loop-j.invariant.long))  -- bounds-rows-at
+    (λ c. omega arith)  -- overflow_add-start
+    (λ c κs. search rules)  -- number_at-requires
     add-rows-2
-    (λ c. omega arith)  -- add-rows-3
-    (λ c. omega arith)  -- mul-rows-2
+    (λ c. omega arith)  -- overflow_add-rows-in-loop-j-2
+    (λ c. omega arith)  -- offset_bounds-rows-at-in-loop-j
     slice-write-rows
-    (λ c. omega arith)  -- add-j
-    (λ c. omega arith)  -- loop-less
+    (λ c. omega arith)  -- overflow_add-j
+    (λ c. omega arith)  -- loop-j-smaller
     loop-again
-    (λ c. c.before.loop.invariant.long)  -- same-length
-    (λ c. filling_end c.before.loop.invariant (omega arith)))  -- returns
+    (λ c. c.loop-j.invariant.long)  -- shape_of-rows
+    (λ c. filling_end c.before.loop-j.invariant (omega arith)))  -- returns  -- returns

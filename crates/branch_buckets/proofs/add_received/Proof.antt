@@ -5,25 +5,25 @@ use Rattle.branch_buckets.proofs.MessageSteps.{Receiving, receiving_start, recei
 use Rattle.branch_buckets.proofs.add_received.Statement.{statement}
 use Rattle.branch_buckets.proofs.add_received.Tie as tie
 
-abbrev invariant-loop : tie.invariant-loop
+abbrev invariant-loop : tie.invariant-loop-i
 invariant-loop span v size choice width plan rows₀ i₀ rows i = Receiving width plan span v size choice rows₀ i rows
 
-abbrev decreases-loop : tie.decreases-loop
+abbrev decreases-loop : tie.decreases-loop-i
 decreases-loop span v size choice width plan rows₀ i₀ rows i = span.last - i
 
-loop-holds : tie.Need-loop-init invariant-loop decreases-loop
-loop-holds c = receiving_start _ _ _ _ _ _ _ c.before.before.before.requires.0
+loop-holds : tie.Need-loop-i-init invariant-loop decreases-loop
+loop-holds c = receiving_start _ _ _ _ _ _ _ c.requires.0
 
-cast-g : tie.Need-overflow-cast-g invariant-loop decreases-loop
-cast-g c = omega (arith, c.shared-slice-known3.given (256 + c.before.before.before.loop.i))
+cast-g : tie.Need-overflow_cast-g invariant-loop decreases-loop
+cast-g c = omega (arith, c.shared_slice_known-in-loop-i-1.given (256 + c.loop-i.i))
 
-add-message-requires : tie.Need-add-message-requires invariant-loop decreases-loop
+add-message-requires : tie.Need-add_message-requires invariant-loop decreases-loop
 add-message-requires c κs =
-    let at-loop = c.before.before.before.before in
-    let q = at-loop.before.before.before.before.requires in
-    let w = at-loop.loop in
+    let at-loop = c in
+    let q = at-loop.requires in
+    let w = at-loop.loop-i in
     let u = w.invariant in (
-      omega (arith, c.before.shared-slice-known3.given (256 + w.i)),
+      omega (arith, c.shared_slice_known-in-loop-i-1.given (256 + w.i)),
       q.3,
       q.4,
       q.5,
@@ -33,36 +33,36 @@ add-message-requires c κs =
       ),
     )
 
-loop-again : tie.Need-loop-preserved invariant-loop decreases-loop
+loop-again : tie.Need-loop-i-preserved invariant-loop decreases-loop
 loop-again c =
-    let added = c.before.before in
-    let at_arg = added.before in
-    let at-loop = at_arg.before.before.before.before in
-    let known = at-loop.before.before in
-    let q = known.before.before.requires in
-    let r = added.add-message in
-    receiving_next at-loop.loop.invariant q.1 (omega arith) q.2
-    (λ k. omega (arith, known.shared-slice-known2.given k)) _ r.auto.1.1.1.1.1.1.0 r.ensures
+    let added = c in
+    let at_arg = added in
+    let at-loop = at_arg in
+    let known = at-loop in
+    let q = known.requires in
+    let r = added.add_message in
+    receiving_next at-loop.loop-i.invariant q.1 (omega arith) q.2
+    (λ k. omega (arith, known.shared_slice_known-2-1.given k)) _ r.auto.rows r.ensures
 
 returns : tie.Need-returns invariant-loop decreases-loop
 returns c =
-    let at-loop = c.before.before in
-    receiving_end at-loop.loop.invariant at-loop.before.before.before.before.requires.1 (omega arith)
+    let at-loop = c in
+    receiving_end at-loop.loop-i.invariant at-loop.requires.1 (omega arith)
 
-pub add-received-spec : {M : Type 1} → statement M
-add-received-spec =
+pub add_received_spec : {M : Type 1} → statement M
+add_received_spec =
     tie.close
     (tie.spec
     invariant-loop
     decreases-loop
     loop-holds
-    (λ c. omega arith)  -- add-g
-    (λ c. omega arith)  -- mul-g
-    (λ c. omega arith)  -- shared-slice-read-g
+    (λ c. omega arith)  -- overflow_add-g
+    (λ c. omega arith)  -- offset_bounds-plan-i
+    (λ c. omega arith)  -- bounds-plan-i
     cast-g
     add-message-requires
-    (λ c. omega arith)  -- add-i
-    (λ c. omega arith)  -- loop-less
+    (λ c. omega arith)  -- overflow_add-i
+    (λ c. omega arith)  -- loop-i-smaller
     loop-again
-    (λ c. c.before.before.loop.invariant.long)  -- same-length
+    (λ c. c.loop-i.invariant.long)  -- shape_of-rows
     returns)

@@ -8,13 +8,13 @@ use Rattle.model.proofs.Zeros.{zeros_at}
 use Rattle.branch_buckets.proofs.content.Statement.{statement}
 use Rattle.branch_buckets.proofs.content.Tie as tie
 
-cast-size : tie.Need-overflow-cast-size
-cast-size c = omega (arith, c.shared-slice-known5.given c.before.before.before.before.before.args.v)
+cast-size : tie.Need-overflow_cast-size
+cast-size c = omega (arith, c.shared_slice_known-5-1.given c.args.v)
 
-fill-totals-requires : tie.Need-fill-totals-requires
+fill-totals-requires : tie.Need-fill_totals-requires
 fill-totals-requires c κs =
-    let known = c.before.before in
-    let q = known.before.before.before.before.requires in (
+    let known = c in
+    let q = known.requires in (
       q.0.small,
       q.1.records,
       q.0.few,
@@ -26,34 +26,34 @@ fill-totals-requires c κs =
       zeros_at 32,
     )
 
-put-rows-requires : tie.Need-put-rows-requires
+put-rows-requires : tie.Need-put_rows-requires
 put-rows-requires c κs =
-    let filled = c.before.before.before in
-    let known = filled.before.before in
-    let s = known.before.before.before.before.before in
-    let t = filled.fill-totals in
+    let filled = c in
+    let known = filled in
+    let s = known in
+    let t = filled.fill_totals in
     let domain = (domain_size_lem s.args.sizes.now s.requires.0.small s.args.v s.requires.2).1 in (
       s.requires.0.sensible,
       domain,
-      omega (arith, t.auto.1.1.1.1.1.1.0),
+      omega (arith, t.auto.totals),
       λ a o h l. (t.ensures a o h l).1,
       omega arith,
       zeros_at 64,
     )
 
-add-received-requires : tie.Need-add-received-requires
+add-received-requires : tie.Need-add_received-requires
 add-received-requires c κs =
-    let directed = c.before.before.before in
-    let filled = directed.before.before.before.before in
-    let known = filled.before.before in
-    let s = known.before.before.before.before.before in
+    let directed = c in
+    let filled = directed in
+    let known = filled in
+    let s = known in
     let q = s.requires in
     let a = s.args in
-    let t = filled.fill-totals in
-    let r = directed.put-rows in
+    let t = filled.fill_totals in
+    let r = directed.put_rows in
     let small =
-    directed_small q.0 a.span a.v a.choice.now t.new.1.1.1.1.1.1.0 r.new.1.1.1.0
-    q.2 (omega (arith, t.auto.1.1.1.1.1.1.0)) t.ensures r.ensures in
+    directed_small q.0 a.span a.v a.choice.now t.new.totals r.new.rows
+    q.2 (omega (arith, t.auto.totals)) t.ensures r.ensures in
     let exists = value_exists a.sizes.now a.choice.now q.3 a.v q.2 in
     let domain = (domain_size_lem a.sizes.now q.0.small a.v q.2).1 in (
       q.1.children,
@@ -62,36 +62,36 @@ add-received-requires c κs =
       exists,
       domain,
       planned_width q.0,
-      omega (arith, r.auto.1.1.1.0),
+      omega (arith, r.auto.rows),
       small,
     )
 
 returns : tie.Need-returns
 returns c =
-    let added = c.before in
-    let directed = added.before.before.before.before in
-    let filled = directed.before.before.before.before in
-    let known = filled.before.before in
-    let s = known.before.before.before.before.before in
+    let added = c in
+    let directed = added in
+    let filled = directed in
+    let known = filled in
+    let s = known in
     let q = s.requires in
     let a = s.args in
-    let t = filled.fill-totals in
-    let r = directed.put-rows in
-    content_filled q.0 a.span a.v a.choice.now t.new.1.1.1.1.1.1.0 r.new.1.1.1.0
-    q.2 (omega (arith, t.auto.1.1.1.1.1.1.0)) t.ensures r.ensures _ added.add-received.ensures
+    let t = filled.fill_totals in
+    let r = directed.put_rows in
+    content_filled q.0 a.span a.v a.choice.now t.new.totals r.new.rows
+    q.2 (omega (arith, t.auto.totals)) t.ensures r.ensures _ added.add_received.ensures
 
-pub content-spec : {M : Type 1} → statement M
-content-spec =
+pub content_spec : {M : Type 1} → statement M
+content_spec =
     tie.close
     (tie.spec
-    (λ c. search rules)  -- shared-slice-read-size
+    (λ c. search rules)  -- bounds-sizes-v
     cast-size
-    (λ c. search rules)  -- slice-aggregate-fill-totals
+    (λ c. search rules)  -- slice_bounds-fill_totals-end
     fill-totals-requires
-    (λ c. search rules)  -- slice-aggregate-put-rows
-    (λ c. search rules)  -- slice-aggregate-put-rows-2
+    (λ c. search rules)  -- slice_bounds-put_rows-end
+    (λ c. search rules)  -- slice_bounds-put_rows-end-2
     put-rows-requires
-    (λ c. search rules)  -- add-width
-    (λ c. search rules)  -- slice-aggregate-add-received
+    (λ c. search rules)  -- overflow_add-width
+    (λ c. search rules)  -- slice_bounds-add_received-end
     add-received-requires
     returns)

@@ -7,5 +7,5 @@ pub counted_spec : {M : Type 1} → statement M
 counted_spec =
     tie.close
     (tie.spec
-    (λ c. simp (lt-ltb _ _ c.if1.true))  -- returns
-    (λ c. simp (le-ltb _ _ c.if1.false)))  -- returns-2
+    (λ c. simp (lt-ltb _ _ c.if-o-p.true))  -- returns-then-o-p
+    (λ c. simp (le-ltb _ _ c.if-o-p.false)))  -- returns  -- returns-2

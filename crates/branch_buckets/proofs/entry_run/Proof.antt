@@ -13,134 +13,134 @@ use Rattle.branch_buckets.proofs.EntryRuns.{stride_fits}
 use Rattle.branch_buckets.proofs.entry_run.Statement.{statement}
 use Rattle.branch_buckets.proofs.entry_run.Tie as tie
 
-abbrev invariant-loop : tie.invariant-loop
+abbrev invariant-loop : tie.invariant-loop-k
 invariant-loop s at v sizes choice a first₀ stride₀ k₀ first stride k =
     (k ≤ a) × EntrySteps sizes s at v choice k first stride
 
-abbrev decreases-loop : tie.decreases-loop
+abbrev decreases-loop : tie.decreases-loop-k
 decreases-loop s at v sizes choice a first₀ stride₀ k₀ first stride k = a - k
 
 -- ## the places: the arity is read, a variable is read, its term is known
 
 abbrev Headed : Type 0
-Headed = tie.After-arity-at invariant-loop decreases-loop
+Headed = tie.After-arity_at-a invariant-loop decreases-loop
 
 abbrev start : Headed → tie.Start invariant-loop decreases-loop
 start c = c.before.before.before.before
 
 abbrev Turn : Type 0
-Turn = tie.In-loop invariant-loop decreases-loop
+Turn = tie.In-loop-k invariant-loop decreases-loop
 
 abbrev head : Turn → Headed
 head c = c.before.before
 
 abbrev Read : Type 0
-Read = tie.After-scope-at invariant-loop decreases-loop
+Read = tie.After-scope_at-u invariant-loop decreases-loop
 
 abbrev Known : Type 0
-Known = tie.After-term-of invariant-loop decreases-loop
+Known = tie.After-term_of-t invariant-loop decreases-loop
 
 abbrev read : Known → Read
 read c = c.before.before
 
 -- ## what is known there
 
-more : (c : Turn) → let a = (start (head c)).args in c.before.loop.k < table_arity (drop a.at a.s.now)
-more c = rw (← (head c).arity-at.ensures) c.loop-test.true
+more : (c : Turn) → let a = (start (head c)).args in c.before.loop-k.k < table_arity (drop a.at a.s.now)
+more c = rw (← (head c).arity_at-a.ensures) c.loop-k-test.true
 
 abbrev domain : Read → ℕ
-domain c = get_or (start (head c.before)).args.sizes.now c.scope-at.result 0
+domain c = get_or (start (head c.before)).args.sizes.now c.scope_at-u.result 0
 
 -- one variable more, at the place where its term is known
 step : (c : Known)
     → let a = (start (head (read c).before)).args in
-    let w = (read c).before.before.loop in
+    let w = (read c).before.before.loop-k in
     EntrySteps a.sizes.now a.s.now a.at a.v a.choice.now (w.k + 1)
-    (w.first * domain (read c) + c.term_of.result.first) (w.stride * domain (read c) + c.term_of.result.stride)
+    (w.first * domain (read c) + c.term_of-t.result.first) (w.stride * domain (read c) + c.term_of-t.result.stride)
 step c =
     let s = start (head (read c).before) in
     let a = s.args in
-    let w = (read c).before.before.loop in
-    let term = c.term_of.result in
-    let is = (read c).scope-at.ensures in
+    let w = (read c).loop-k in
+    let term = c.term_of-t.result in
+    let is = (read c).scope_at-u.ensures in
     subst
     (λ (u : ℕ). EntrySteps a.sizes.now a.s.now a.at a.v a.choice.now (w.k + 1)
     (w.first * get_or a.sizes.now u 0 + term.first) (w.stride * get_or a.sizes.now u 0 + term.stride))
     (sym is)
-    (entry_next a.sizes.now a.s.now a.at a.v a.choice.now s.pre.0 s.pre.1 s.pre.2
-    s.pre.3 w.inv.1 (more (read c).before) term
-    (subst (λ (u : ℕ). TermSays u 1 a.v a.choice.now term) is c.term_of.ensures))
+    (entry_next a.sizes.now a.s.now a.at a.v a.choice.now s.requires.0 s.requires.1 s.requires.2
+    s.requires.3 w.invariant.1 (more (read c).before) term
+    (subst (λ (u : ℕ). TermSays u 1 a.v a.choice.now term) is c.term_of-t.ensures))
 
 -- nothing wraps
 fits : (c : Known)
-    → let w = (read c).before.before.loop in
-    (w.first * domain (read c) + c.term_of.result.first < length (start (head (read c).before)).args.s.now)
-    × (w.stride * domain (read c) + c.term_of.result.stride < 4096)
+    → let w = (read c).before.before.loop-k in
+    (w.first * domain (read c) + c.term_of-t.result.first < length (start (head (read c).before)).args.s.now)
+    × (w.stride * domain (read c) + c.term_of-t.result.stride < 4096)
 fits c =
     let s = start (head (read c).before) in
     let a = s.args in (
-      first_fits a.sizes.now a.s.now a.at a.v a.choice.now s.pre.0 s.pre.1 s.pre.2
-          s.pre.3 (step c),
-      stride_fits a.sizes.now a.s.now a.at a.v a.choice.now s.pre.0 s.pre.1 s.pre.2
-          s.pre.3 (step c) (omega (arith, more (read c).before)),
+      first_fits a.sizes.now a.s.now a.at a.v a.choice.now s.requires.0 s.requires.1 s.requires.2
+          s.requires.3 (step c),
+      stride_fits a.sizes.now a.s.now a.at a.v a.choice.now s.requires.0 s.requires.1 s.requires.2
+          s.requires.3 (step c) (omega (arith, more (read c).before)),
     )
 
 -- ## the needs, in the order of the code
 
-arity-at-requires : tie.Need-arity-at-requires invariant-loop decreases-loop
+arity-at-requires : tie.Need-arity_at-a-requires invariant-loop decreases-loop
 arity-at-requires c κs =
-    let s = c.before.before.before in
+    let s = c in
     whole_inside s.args.sizes.now s.args.s.now s.args.at s.requires.0
 
-loop-holds : tie.Need-loop-init invariant-loop decreases-loop
+loop-holds : tie.Need-loop-k-init invariant-loop decreases-loop
 loop-holds c =
     let a = (start c).args in
     (omega arith, entry_start a.sizes.now a.s.now a.at a.v a.choice.now)
 
-scope-at-requires : tie.Need-scope-at-requires invariant-loop decreases-loop
+scope-at-requires : tie.Need-scope_at-u-requires invariant-loop decreases-loop
 scope-at-requires c κs =
     let s = start (head c) in
-    (whole_inside s.args.sizes.now s.args.s.now s.args.at s.pre.0, more c)
+    (whole_inside s.args.sizes.now s.args.s.now s.args.at s.requires.0, more c)
 
-shared-slice-read-d : tie.Need-shared-slice-read-d invariant-loop decreases-loop
+shared-slice-read-d : tie.Need-bounds-sizes-u invariant-loop decreases-loop
 shared-slice-read-d c =
-    let r = c.before in
-    let s = start (head r.before) in
-    rw r.scope-at.ensures
-    (variable_exists s.args.sizes.now s.args.s.now s.args.at s.pre.0 r.before.before.loop.k
-    (more r.before))
+    let r = c in
+    let s = start (head r.before.before) in
+    rw r.scope_at-u.ensures
+    (variable_exists s.args.sizes.now s.args.s.now s.args.at s.requires.0 r.loop-k.k
+    (more r.before.before))
 
-cast-d : tie.Need-overflow-cast-d invariant-loop decreases-loop
+cast-d : tie.Need-overflow_cast-d invariant-loop decreases-loop
 cast-d c =
-    let r = c.before in
-    let s = start (head r.before) in
+    let r = c in
+    let s = start (head r.before.before) in
     omega (
       arith,
-      rw (← r.scope-at.ensures)
-          at (variable_size s.args.sizes.now s.args.s.now s.args.at s.pre.0
-          r.before.before.loop.k (more r.before) s.pre.1),
+      rw (← r.scope_at-u.ensures)
+          at (variable_size s.args.sizes.now s.args.s.now s.args.at s.requires.0
+          r.loop-k.k (more r.before.before) s.requires.1),
     )
 
-term-of-requires : tie.Need-term-of-requires invariant-loop decreases-loop
+term-of-requires : tie.Need-term_of-t-requires invariant-loop decreases-loop
 term-of-requires c κs =
     let s = start (head c.before.before) in
-    (omega arith, value_exists s.args.sizes.now s.args.choice.now s.pre.3 s.args.v s.pre.2)
+    (omega arith, value_exists s.args.sizes.now s.args.choice.now s.requires.3 s.args.v s.requires.2)
 
-add-k : tie.Need-overflow-add-k invariant-loop decreases-loop
+add-k : tie.Need-overflow_add-k invariant-loop decreases-loop
 add-k c =
     let t = (read c.before.before).before in
-    omega (arith, more t, (start (head t)).pre.0.few)
+    omega (arith, more t, (start (head t)).requires.0.few)
 
 returns : tie.Need-returns invariant-loop decreases-loop
 returns c =
-    let h = c.before.before in
-    let s = start h in
+    let h = c in
+    let s = start h.before.before in
     let a = s.args in
-    entry_end_lem a.sizes.now a.s.now a.at a.v a.choice.now s.pre.0 s.pre.1 s.pre.2
-    s.pre.3 c.before.loop.invariant.1 (omega (arith, h.arity-at.ensures))
+    entry_end_lem a.sizes.now a.s.now a.at a.v a.choice.now s.requires.0 s.requires.1 s.requires.2
+    s.requires.3 c.loop-k.invariant.1 (omega (arith, h.arity_at-a.ensures))
 
-pub entry-run-spec : {M : Type 1} → statement M
-entry-run-spec =
+pub entry_run_spec : {M : Type 1} → statement M
+entry_run_spec =
     tie.close
     (tie.spec
     invariant-loop
@@ -151,11 +151,11 @@ entry-run-spec =
     shared-slice-read-d
     cast-d
     term-of-requires
-    (λ c. omega (arith, fits c))  -- mul-first
-    (λ c. omega (arith, fits c.before))  -- add-first
-    (λ c. omega (arith, fits c.before))  -- mul-stride
-    (λ c. omega (arith, fits c.before.before))  -- add-stride
+    (λ c. omega (arith, fits c))  -- overflow_mul-first
+    (λ c. omega (arith, fits c.before))  -- overflow_add-first
+    (λ c. omega (arith, fits c.before))  -- overflow_mul-stride
+    (λ c. omega (arith, fits c.before.before))  -- overflow_add-stride
     add-k
-    (λ c. omega arith)  -- loop-less
-    (λ c. (omega arith, step c.before.before))  -- loop-again
+    (λ c. omega arith)  -- loop-k-smaller
+    (λ c. (omega arith, step c.before.before))  -- loop-k-preserved
     returns)

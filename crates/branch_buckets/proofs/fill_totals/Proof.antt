@@ -7,28 +7,28 @@ use Rattle.branch_buckets.proofs.RecordSteps.{Totalling, totalling_start, totall
 use Rattle.branch_buckets.proofs.fill_totals.Statement.{statement}
 use Rattle.branch_buckets.proofs.fill_totals.Tie as tie
 
-abbrev invariant-loop : tie.invariant-loop
+abbrev invariant-loop : tie.invariant-loop-i
 invariant-loop s sizes span v choice plan totals₀ i₀ totals i =
     Totalling sizes s plan span v choice i totals × (length totals ≡ length totals₀)
 
-abbrev decreases-loop : tie.decreases-loop
+abbrev decreases-loop : tie.decreases-loop-i
 decreases-loop s sizes span v choice plan totals₀ i₀ totals i = span.to - i
 
-loop-holds : tie.Need-loop-init invariant-loop decreases-loop
+loop-holds : tie.Need-loop-i-init invariant-loop decreases-loop
 loop-holds c =
-    let known = c.before.before.before in
-    let q = known.before.before.requires in
+    let known = c in
+    let q = known.requires in
     (totalling_start _ _ _ _ _ _ _ q.1 q.7 q.8, refl)
 
-cast-at : tie.Need-overflow-cast-at invariant-loop decreases-loop
-cast-at c = omega (arith, c.shared-slice-known5.given c.before.before.before.loop.i)
+cast-at : tie.Need-overflow_cast-at invariant-loop decreases-loop
+cast-at c = omega (arith, c.shared_slice_known-in-loop-i-1.given c.loop-i.i)
 
-add-record-requires : tie.Need-add-record-requires invariant-loop decreases-loop
+add-record-requires : tie.Need-add_record-requires invariant-loop decreases-loop
 add-record-requires c κs =
-    let at-loop = c.before.before.before.before in
-    let known = at-loop.before.before.before.before in
-    let q = known.before.before.requires in
-    let w = at-loop.loop in
+    let at-loop = c in
+    let known = at-loop in
+    let q = known.requires in
+    let w = at-loop.loop-i in
     let u = w.invariant.0 in (
       q.4 w.i (omega arith),
       q.0,
@@ -38,37 +38,37 @@ add-record-requires c κs =
       λ a o h l. omega (arith, q.2, u.behind, u.ahead, u.small a o h l),
     )
 
-loop-again : tie.Need-loop-preserved invariant-loop decreases-loop
+loop-again : tie.Need-loop-i-preserved invariant-loop decreases-loop
 loop-again c =
-    let added = c.before.before in
-    let at_arg = added.before in
-    let at-loop = at_arg.before.before.before.before in
-    let known = at-loop.before.before.before.before in
-    let q = known.before.before.requires in
-    let w = at-loop.loop in
-    let r = added.add-record in
-    let kept = r.auto.1.1.1.1.1.0 in
+    let added = c in
+    let at_arg = added in
+    let at-loop = at_arg in
+    let known = at-loop in
+    let q = known.requires in
+    let w = at-loop.loop-i in
+    let r = added.add_record in
+    let kept = r.auto.totals in
     (totalling_next w.invariant.0 q.2 (omega arith) q.3 _ kept r.ensures, kept ∙ w.invariant.1)
 
 returns : tie.Need-returns invariant-loop decreases-loop
 returns c =
-    let at-loop = c.before.before in
-    let known = at-loop.before.before.before.before in
-    totalling_end at-loop.loop.invariant.0 known.before.before.requires.2 (omega arith)
+    let at-loop = c in
+    let known = at-loop in
+    totalling_end at-loop.loop-i.invariant.0 known.requires.2 (omega arith)
 
-pub fill-totals-spec : {M : Type 1} → statement M
-fill-totals-spec =
+pub fill_totals_spec : {M : Type 1} → statement M
+fill_totals_spec =
     tie.close
     (tie.spec
     invariant-loop
     decreases-loop
     loop-holds
-    (λ c. omega arith)  -- mul-at
-    (λ c. omega arith)  -- shared-slice-read-at
+    (λ c. omega arith)  -- offset_bounds-plan-i
+    (λ c. omega arith)  -- bounds-plan-i
     cast-at
     add-record-requires
-    (λ c. omega arith)  -- add-i
-    (λ c. omega arith)  -- loop-less
+    (λ c. omega arith)  -- overflow_add-i
+    (λ c. omega arith)  -- loop-i-smaller
     loop-again
-    (λ c. c.before.before.loop.invariant.1)  -- same-length
+    (λ c. c.loop-i.invariant.1)  -- shape_of-totals
     returns)

@@ -6,21 +6,21 @@ use borrow.Author.Rules.{rules}
 use Rattle.branch_buckets.proofs.number_at.Statement.{statement}
 use Rattle.branch_buckets.proofs.number_at.Tie as tie
 
-cast-result : tie.Need-overflow-cast-result
-cast-result c = omega (arith, c.shared-slice-known.given c.before.before.args.i)
+cast-result : tie.Need-overflow_cast-result
+cast-result c = omega (arith, c.shared_slice_known-1.given c.args.i)
 
-returns : tie.Need-returns
-returns c = (refl, omega (arith, c.shared-slice-known.given c.before.before.args.i))
+returns : tie.Need-returns-then-i-plan
+returns c = (refl, omega (arith, c.shared_slice_known-1.given c.args.i))
 
-returns-2 : tie.Need-returns-2
-returns-2 c = (sym (get_or-eq_default c.before.args.plan.now 0 c.if1.false), omega arith)
+returns-2 : tie.Need-returns
+returns-2 c = (sym (get_or-eq_default c.args.plan.now 0 c.if-i-plan.false), omega arith)
 
-pub number-at-spec : {M : Type 1} → statement M
-number-at-spec =
+pub number_at_spec : {M : Type 1} → statement M
+number_at_spec =
     tie.close
     (tie.spec
-    (λ c. search rules)  -- mul-result
-    (λ c. search rules)  -- shared-slice-read-result
+    (λ c. search rules)  -- offset_bounds-plan-i
+    (λ c. search rules)  -- bounds-plan-i
     cast-result
     returns
     returns-2)

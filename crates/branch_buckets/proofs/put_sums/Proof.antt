@@ -7,39 +7,39 @@ use Rattle.branch_buckets.proofs.RowSteps.{Filling, filling_start, filling_next,
 use Rattle.branch_buckets.proofs.put_sums.Statement.{statement}
 use Rattle.branch_buckets.proofs.put_sums.Tie as tie
 
-abbrev invariant-loop : tie.invariant-loop
+abbrev invariant-loop : tie.invariant-loop-i
 invariant-loop at sums weights t rows₀ i₀ rows i = Filling (four_sum weights t) at sums rows₀ i rows
 
-abbrev decreases-loop : tie.decreases-loop
+abbrev decreases-loop : tie.decreases-loop-i
 decreases-loop at sums weights t rows₀ i₀ rows i = sums - i
 
-sum-at-requires : tie.Need-sum-at-requires invariant-loop decreases-loop
+sum-at-requires : tie.Need-sum_at-requires invariant-loop decreases-loop
 sum-at-requires c κs =
-    let q = c.before.before.before.before.requires in
+    let q = c.requires in
     (omega (arith, q.0), q.1, q.2)
 
-slice-write-rows : tie.Need-slice-write-rows invariant-loop decreases-loop
+slice-write-rows : tie.Need-bounds-rows-at invariant-loop decreases-loop
 slice-write-rows c =
-    omega (arith, c.before.before.loop.invariant.long, c.before.before.before.before.before.requires.3)
+    omega (arith, c.loop-i.invariant.long, c.requires.3)
 
-loop-again : tie.Need-loop-preserved invariant-loop decreases-loop
+loop-again : tie.Need-loop-i-preserved invariant-loop decreases-loop
 loop-again c =
-    filling_next c.before.before.loop.invariant c.before.before.before.before.before.requires.3 (omega arith) _
-    c.sum-at.ensures _ refl
+    filling_next c.loop-i.invariant c.requires.3 (omega arith) _
+    c.sum_at.ensures _ refl
 
-pub put-sums-spec : {M : Type 1} → statement M
-put-sums-spec =
+pub put_sums_spec : {M : Type 1} → statement M
+put_sums_spec =
     tie.close
     (tie.spec
     invariant-loop
     decreases-loop
-    (λ c. filling_start _ _ _ _)  -- loop-holds
+    (λ c. filling_start _ _ _ _)  -- loop-i-init
     sum-at-requires
-    (λ c. omega arith)  -- add-rows
-    (λ c. omega arith)  -- mul-rows
+    (λ c. omega arith)  -- overflow_add-rows
+    (λ c. omega arith)  -- offset_bounds-rows-at
     slice-write-rows
-    (λ c. omega arith)  -- add-i
-    (λ c. omega arith)  -- loop-less
+    (λ c. omega arith)  -- overflow_add-i
+    (λ c. omega arith)  -- loop-i-smaller
     loop-again
-    (λ c. c.before.loop.invariant.long)  -- same-length
-    (λ c. filling_end c.before.loop.invariant (omega arith)))  -- returns
+    (λ c. c.loop-i.invariant.long)  -- shape_of-rows
+    (λ c. filling_end c.before.loop-i.invariant (omega arith)))  -- returns  -- returns

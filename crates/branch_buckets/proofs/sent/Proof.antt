@@ -8,28 +8,28 @@ use Rattle.branch_buckets.proofs.MessageSteps.{Sending, sending_start, sending_n
 use Rattle.branch_buckets.proofs.sent.Statement.{statement}
 use Rattle.branch_buckets.proofs.sent.Tie as tie
 
-abbrev invariant-loop : tie.invariant-loop
+abbrev invariant-loop : tie.invariant-loop-g
 invariant-loop from to choice width plan t₀ g₀ t g = Sending width plan from to choice g t
 
-abbrev decreases-loop : tie.decreases-loop
+abbrev decreases-loop : tie.decreases-loop-g
 decreases-loop from to choice width plan t₀ g₀ t g = to - g
 
-loop-holds : tie.Need-loop-init invariant-loop decreases-loop
+loop-holds : tie.Need-loop-g-init invariant-loop decreases-loop
 loop-holds c =
-    let s = c.before.before in
+    let s = c in
     sending_start s.args.width s.args.plan.now s.args.from s.args.to s.args.choice.now
     s.requires.0
 
-message-start-requires : tie.Need-message-start-requires invariant-loop decreases-loop
-message-start-requires c κs = (omega arith, c.before.before.before.before.requires.2)
+message-start-requires : tie.Need-message_start-requires invariant-loop decreases-loop
+message-start-requires c κs = (omega arith, c.requires.2)
 
-slice-aggregate-add-row : tie.Need-slice-aggregate-add-row invariant-loop decreases-loop
-slice-aggregate-add-row c = sym c.before.before.before.loop.invariant.long
+slice-aggregate-add-row : tie.Need-slice_bounds-add_row-end invariant-loop decreases-loop
+slice-aggregate-add-row c = sym c.loop-g.invariant.long
 
-add-row-requires : tie.Need-add-row-requires invariant-loop decreases-loop
+add-row-requires : tie.Need-add_row-requires invariant-loop decreases-loop
 add-row-requires c κs =
-    let w = c.before.before.before.loop in (
-      c.before.message-start.ensures.1,
+    let w = c.loop-g in (
+      c.message_start.ensures.1,
       omega (arith, w.invariant.long),
       λ j l. rw zero-add
           (omega (
@@ -37,29 +37,29 @@ add-row-requires c κs =
             w.invariant.behind,
             w.invariant.ahead,
             w.invariant.small j l,
-            c.before.before.before.before.before.before.requires,
+            c.requires,
           )),
     )
 
-loop-again : tie.Need-loop-preserved invariant-loop decreases-loop
+loop-again : tie.Need-loop-g-preserved invariant-loop decreases-loop
 loop-again c =
-    let s = c.before.before.before.before.before.before.before.before in
-    let w = c.before.before.before.before.before.loop in
-    let r = c.before.add_row in
-    let start = c.before.before.before.message-start in
-    let row = subst (λ (n : ℕ). RowAdded s.args.plan.now n 0 w.t r.new.1.1.1.0) start.ensures.0
+    let s = c in
+    let w = c.loop-g in
+    let r = c.add_row in
+    let start = c.message_start in
+    let row = subst (λ (n : ℕ). RowAdded s.args.plan.now n 0 w.t r.new.rows) start.ensures.0
     r.ensures in
     sending_next w.invariant (omega arith)
-    (λ k. omega (arith, c.before.before.before.before.before.before.shared-slice-known2.given k)) _
-    r.auto.1.1.1.0 row
+    (λ k. omega (arith, c.shared_slice_known-2-1.given k)) _
+    r.auto.rows row
 
 returns : tie.Need-returns invariant-loop decreases-loop
 returns c =
-    let s = c.before.before.before.before in
-    sending_end c.before.loop.invariant s.requires.2 s.requires.1 (omega arith)
+    let s = c in
+    sending_end c.loop-g.invariant s.requires.2 s.requires.1 (omega arith)
 
-pub sent-spec : {M : Type 1} → statement M
-sent-spec =
+pub sent_spec : {M : Type 1} → statement M
+sent_spec =
     tie.close
     (tie.spec
     invariant-loop
@@ -68,7 +68,7 @@ sent-spec =
     message-start-requires
     slice-aggregate-add-row
     add-row-requires
-    (λ c. omega arith)  -- add-g
-    (λ c. omega arith)  -- loop-less
+    (λ c. omega arith)  -- overflow_add-g
+    (λ c. omega arith)  -- loop-g-smaller
     loop-again
     returns)

@@ -24,66 +24,66 @@ small s =
     let t = s.args.t in
     (times at t.one, times (at + 1) t.two, times (at + 2) t.three, times (at + 3) t.four)
 
-mul-result-2 : tie.Need-overflow-mul-result-2
+mul-result-2 : tie.Need-overflow_mul-result
 mul-result-2 c =
-    let start = c.before.before in
-    omega (arith, small start, start.requires.2)
+    let start = c in
+    omega (arith, small start.before.before, start.requires.2)
 
-mul-result-4 : tie.Need-overflow-mul-result-4
+mul-result-4 : tie.Need-overflow_mul-result-2
 mul-result-4 c =
-    let start = c.before.before.before.before in
-    omega (arith, small start, start.requires.2)
+    let start = c in
+    omega (arith, small start.before.before.before.before, start.requires.2)
 
-add-result-2 : tie.Need-overflow-add-result-2
+add-result-2 : tie.Need-overflow_add-result-2
 add-result-2 c =
-    let start = c.before.before.before.before in
-    omega (arith, small start, start.requires.2)
+    let start = c in
+    omega (arith, small start.before.before.before.before, start.requires.2)
 
-mul-result-6 : tie.Need-overflow-mul-result-6
+mul-result-6 : tie.Need-overflow_mul-result-3
 mul-result-6 c =
-    let second = c.before.before in
-    let start = second.before.before.before.before in
-    omega (arith, small start, start.requires.2)
+    let second = c in
+    let start = second in
+    omega (arith, small start.before.before.before.before.before.before, start.requires.2)
 
-add-result-4 : tie.Need-overflow-add-result-4
+add-result-4 : tie.Need-overflow_add-result-4
 add-result-4 c =
-    let second = c.before.before in
-    let start = second.before.before.before.before in
-    omega (arith, small start, start.requires.2)
+    let second = c in
+    let start = second in
+    omega (arith, small start.before.before.before.before.before.before, start.requires.2)
 
-mul-result-8 : tie.Need-overflow-mul-result-8
+mul-result-8 : tie.Need-overflow_mul-result-4
 mul-result-8 c =
-    let second = c.before.before.before.before in
-    let start = second.before.before.before.before in
-    omega (arith, small start, start.requires.2)
+    let second = c in
+    let start = second in
+    omega (arith, small start.before.before.before.before.before.before.before.before, start.requires.2)
 
-add-result-6 : tie.Need-overflow-add-result-6
+add-result-6 : tie.Need-overflow_add-result-6
 add-result-6 c =
-    let second = c.before.before.before.before in
-    let start = second.before.before.before.before in
-    omega (arith, small start, start.requires.2)
+    let second = c in
+    let start = second in
+    omega (arith, small start.before.before.before.before.before.before.before.before, start.requires.2)
 
-pub sum-at-spec : {M : Type 1} → statement M
-sum-at-spec =
+pub sum_at_spec : {M : Type 1} → statement M
+sum_at_spec =
     tie.close
     (tie.spec
-    (λ c. search rules)  -- mul-at
-    (λ c. search rules)  -- mul-result
-    (λ c. search rules)  -- shared-slice-read-result
+    (λ c. search rules)  -- overflow_mul-at
+    (λ c. search rules)  -- offset_bounds-weights-at
+    (λ c. search rules)  -- bounds-weights-at
     mul-result-2
-    (λ c. search rules)  -- add-result
-    (λ c. search rules)  -- mul-result-3
-    (λ c. search rules)  -- shared-slice-read-result-2
+    (λ c. search rules)  -- overflow_add-result
+    (λ c. search rules)  -- offset_bounds-weights-at-2
+    (λ c. search rules)  -- bounds-weights-at-2
     mul-result-4
     add-result-2
-    (λ c. search rules)  -- add-result-3
-    (λ c. search rules)  -- mul-result-5
-    (λ c. search rules)  -- shared-slice-read-result-3
+    (λ c. search rules)  -- overflow_add-result-3
+    (λ c. search rules)  -- offset_bounds-weights-at-3
+    (λ c. search rules)  -- bounds-weights-at-3
     mul-result-6
     add-result-4
-    (λ c. search rules)  -- add-result-5
-    (λ c. search rules)  -- mul-result-7
-    (λ c. search rules)  -- shared-slice-read-result-4
+    (λ c. search rules)  -- overflow_add-result-5
+    (λ c. search rules)  -- offset_bounds-weights-at-4
+    (λ c. search rules)  -- bounds-weights-at-4
     mul-result-8
     add-result-6
-    (λ c. search rules))  -- returns
+    (λ c. search rules))  -- returns  -- returns

@@ -6,28 +6,28 @@ use Rattle.model.proofs.Numbers.{byte_times}
 use Rattle.branch_buckets.proofs.term_of.Statement.{statement}
 use Rattle.branch_buckets.proofs.term_of.Tie as tie
 
-returns : tie.Need-returns
+returns : tie.Need-returns-then-u-v
 returns c =
-    let s = c.before.before in
-    own_term s.args.u s.args.t s.args.v s.args.choice.now c.if1.true s.requires.1
+    let s = c in
+    own_term s.args.u s.args.t s.args.v s.args.choice.now c.if-u-v.true s.requires.1
 
-mul-t7 : tie.Need-overflow-mul-t7
+mul-t7 : tie.Need-overflow_mul-result
 mul-t7 c =
-    let s = c.before.before.before in
+    let s = c in
     omega (arith, s.requires, c.byte_at.ensures, byte_times c.byte_at.result s.args.t c.byte_at.ensures.1)
 
-returns-2 : tie.Need-returns-2
+returns-2 : tie.Need-returns
 returns-2 c =
-    let s = c.before.before.before in
+    let s = c in
     let y = c.byte_at in
-    other_term s.args.u s.args.t s.args.v s.args.choice.now y.result c.before.if1.false
+    other_term s.args.u s.args.t s.args.v s.args.choice.now y.result c.if-u-v.false
     y.ensures.0 (omega (arith, y.ensures))
 
-pub term-of-spec : {M : Type 1} → statement M
-term-of-spec =
+pub term_of_spec : {M : Type 1} → statement M
+term_of_spec =
     tie.close
     (tie.spec
     returns
-    (λ c κs. search rules)  -- byte-at-requires
+    (λ c κs. search rules)  -- byte_at-requires
     mul-t7
     returns-2)

@@ -6,27 +6,27 @@ use Rattle.plan_spreads.proofs.fitted_ceilings.Tie as tie
 
 returns : tie.Need-returns
 returns c =
-    let third = c.before in
-    let second = third.before in
-    let first = second.before in
-    let start = first.before in
-    four_fitted start.args.t1 start.args.t2 _ _ _ _ first.fitted.ensures second.fitted2.ensures
-    third.fitted3.ensures c.fitted4.ensures
+    let third = c in
+    let second = third in
+    let first = second in
+    let start = first in
+    four_fitted start.args.ceilings start.args.mosts _ _ _ _ first.fitted.ensures second.fitted-2.ensures
+    third.fitted-3.ensures c.fitted-4.ensures
 
-pub fitted-ceilings-spec : {M : Type 1} → statement M
-fitted-ceilings-spec =
+pub fitted_ceilings_spec : {M : Type 1} → statement M
+fitted_ceilings_spec =
     tie.close
     (tie.spec
-    (λ c. search rules)  -- array-read-fitted
-    (λ c. search rules)  -- array-read-fitted-2
+    (λ c. search rules)  -- bounds-ceilings-0
+    (λ c. search rules)  -- bounds-mosts-0
     (λ c κs. search rules)  -- fitted-requires
-    (λ c. search rules)  -- array-read-fitted-3
-    (λ c. search rules)  -- array-read-fitted-4
+    (λ c. search rules)  -- bounds-ceilings-1
+    (λ c. search rules)  -- bounds-mosts-1
     (λ c κs. search rules)  -- fitted-requires-2
-    (λ c. search rules)  -- array-read-fitted-5
-    (λ c. search rules)  -- array-read-fitted-6
+    (λ c. search rules)  -- bounds-ceilings-2
+    (λ c. search rules)  -- bounds-mosts-2
     (λ c κs. search rules)  -- fitted-requires-3
-    (λ c. search rules)  -- array-read-fitted-7
-    (λ c. search rules)  -- array-read-fitted-8
+    (λ c. search rules)  -- bounds-ceilings-3
+    (λ c. search rules)  -- bounds-mosts-3
     (λ c κs. search rules)  -- fitted-requires-4
     returns)
