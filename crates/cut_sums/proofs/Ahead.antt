@@ -1,9 +1,9 @@
 -- List order of two points, by the tests of their costs in both directions.
-use mathlib.Core.Path.{◌≡◌, sym, ◌∙◌}
+use mathlib.Core.Path.{◌≡◌, sym}
 use mathlib.Core.Logic.{inr, ⊎_elim}
 use mathlib.Core.Bool.{true, false}
 use mathlib.Core.List.{List}
-use lib.ListN.{length, length-map}
+use lib.ListN.{length}
 use mir.Val.{Val}
 use denote.Laws.{Is}
 use denote.Struct.Declared.{row}
@@ -19,7 +19,7 @@ use Rattle.pass_search.specs.contracts.Best.{the_type}
 
 -- a point that is a parameter has four costs
 pub costs_four : (h : DB.Best) (vs : List Val) → Is (row the_type) h vs → length h.costs ≡ max_objectives
-costs_four h vs good = sym (length-map h.costs (λ v. v)) ∙ good.1.1.1.0.1.0.1
+costs_four h vs good = good.1.1.1.0.1.0.1
 
 module _ (x w : Point) where
   pub ahead_costs : earlier x.costs w.costs ≡ true → true ≡ ahead x w

@@ -5,7 +5,7 @@ use mathlib.Core.List.{List, [], ◌∷◌, ◌++◌}
 use Prim.Native.Nat.{ℕ, ◌+◌, ◌-◌, ◌≤◌, ◌<◌}
 use native.Mathlib.Omega.{arith}
 use native.Mathlib.Numerals.{add-one}
-use lib.ListN.{length, get_or, take, set, length-set, length-map}
+use lib.ListN.{length, get_or, take, set, length-set}
 use lib.Seq.{length-take-le, take-suc-set}
 use mir.Val.{Val}
 use denote.Laws.{Is}
@@ -36,14 +36,14 @@ pub record Standing (r : ℕ) (ds s work : List ℕ) (x : DP.Partial) : Type 0 w
 
 -- the bound of any partial choice has four numbers
 pub bound_four : (x : DP.Partial) (vs : List Val) → Is (row the_type) x vs → length x.bound ≡ max_objectives
-bound_four x vs h = sym (length-map x.bound (λ v. v)) ∙ h.1.1.1.1.0.1.0.1
+bound_four x vs h = h.1.1.1.1.0.1.0.1
 
 pub standing : {r : ℕ} {ds s work : List ℕ} {x : DP.Partial} → Grouped ds s work r → Stands r ds s work x
     → (vs : List Val) → Is (row the_type) x vs → Standing r ds s work x
 standing {x = x} g st vs h = record {
   grouped = g;
   stands = st;
-  long = sym (length-map x.values (λ v. v)) ∙ h.1.1.1.0.1.0.1;
+  long = h.1.1.1.0.1.0.1;
   four = bound_four x vs h;
 }
 

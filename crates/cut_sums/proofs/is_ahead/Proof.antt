@@ -9,39 +9,39 @@ use borrow.Author.Rules.{rules}
 use Rattle.cut_sums.proofs.is_ahead.Statement.{statement}
 use Rattle.cut_sums.proofs.is_ahead.Tie as tie
 
-returns : tie.Need-returns
+returns : tie.Need-returns-then-is_earlier
 returns c =
-    let a = c.before.before.before.before.args in
+    let a = c.args in
     ahead_costs (point_of a.p a.n a.sum) (point_of a.p a.n a.held)
-    (sym c.before.is-earlier.ensures ∙ c.if1.true)
+    (sym c.is_earlier.ensures ∙ c.if-is_earlier.true)
 
-returns-2 : tie.Need-returns-2
+returns-2 : tie.Need-returns-then-is_earlier-2
 returns-2 c =
-    let a = c.before.before.before.before.before.before.args in
+    let a = c.args in
     ahead_later (point_of a.p a.n a.sum) (point_of a.p a.n a.held)
-    (sym c.before.is-earlier2.ensures ∙ c.if2.true)
+    (sym c.is_earlier-2.ensures ∙ c.if-is_earlier-2.true)
 
-returns-3 : tie.Need-returns-3
+returns-3 : tie.Need-returns
 returns-3 c =
-    let tests = c.before.before.before in
-    let s = tests.before.before.before.before.before.before in
+    let tests = c in
+    let s = tests in
     let a = s.args in
     let front : length (take a.p a.sum.costs) ≡ a.p = length-take-le a.p a.sum.costs
-    (omega (arith, s.requires.0, costs_four a.sum _ s.well-formed.0)) in
+    (omega (arith, s.requires.0, costs_four a.sum _ s.well_formed.0)) in
     let other : length (take a.p a.held.costs) ≡ a.p = length-take-le a.p a.held.costs
-    (omega (arith, s.requires.0, costs_four a.held _ s.well-formed.1.0)) in
-    c.is-earlier-choice.ensures
+    (omega (arith, s.requires.0, costs_four a.held _ s.well_formed.1.0)) in
+    c.is_earlier_choice.ensures
     ∙ ahead_tied (point_of a.p a.n a.sum) (point_of a.p a.n a.held) (front ∙ sym other)
-    (sym tests.before.before.before.is-earlier.ensures ∙ tests.before.before.if1.false)
-    (sym tests.before.is-earlier2.ensures ∙ tests.if2.false)
+    (sym tests.is_earlier.ensures ∙ tests.if-is_earlier.false)
+    (sym tests.is_earlier-2.ensures ∙ tests.if-is_earlier-2.false)
 
-pub is-ahead-spec : {M : Type 1} → statement M
-is-ahead-spec =
+pub is_ahead_spec : {M : Type 1} → statement M
+is_ahead_spec =
     tie.close
     (tie.spec
-    (λ c κs. search rules)  -- is-earlier-requires
+    (λ c κs. search rules)  -- is_earlier-requires
     returns
-    (λ c κs. search rules)  -- is-earlier-requires-2
+    (λ c κs. search rules)  -- is_earlier-requires-2
     returns-2
-    (λ c κs. search rules)  -- is-earlier-choice-requires
+    (λ c κs. search rules)  -- is_earlier_choice-requires
     returns-3)

@@ -11,51 +11,51 @@ use Rattle.cut_sums.proofs.Meeting.{pass_from, pass_start, pass_end, pass_next, 
 use Rattle.cut_sums.proofs.next_sum.Statement.{statement}
 use Rattle.cut_sums.proofs.next_sum.Tie as tie
 
-abbrev invariant-loop : tie.invariant-loop
+abbrev invariant-loop : tie.invariant-loop-i
 invariant-loop a b n work k p ceilings best₀ i₀ best i =
     (i ≤ a)
     × (pass_from p n ceilings work k a b i (held_of p n best)
     ≡ least_left (list_in p n work 0 k) (sums_in p n ceilings work a b) nothing)
 
-abbrev decreases-loop : tie.decreases-loop
+abbrev decreases-loop : tie.decreases-loop-i
 decreases-loop a b n work k p ceilings best₀ i₀ best i = a - i
 
-loop-holds : tie.Need-loop-init invariant-loop decreases-loop
+loop-holds : tie.Need-loop-i-init invariant-loop decreases-loop
 loop-holds c =
-    let a = c.before.args in
+    let a = c.args in
     (omega arith, pass_start a.p a.n a.ceilings a.work.now a.k a.a a.b nothing)
 
-meet-row-requires : tie.Need-meet-row-requires invariant-loop decreases-loop
-meet-row-requires c κs = halved_paired c.before.before.before.requires c.before.loop.i (omega arith)
+meet-row-requires : tie.Need-meet_row-best-requires invariant-loop decreases-loop
+meet-row-requires c κs = halved_paired c.requires c.loop-i.i (omega arith)
 
-loop-again : tie.Need-loop-preserved invariant-loop decreases-loop
+loop-again : tie.Need-loop-i-preserved invariant-loop decreases-loop
 loop-again c =
-    let a = c.before.before.before.before.args in
-    let w = c.before.before.loop in (
+    let a = c.args in
+    let w = c.loop-i in (
       omega arith,
       pass_next a.p a.n a.ceilings a.work.now a.k a.a a.b w.i (held_of a.p a.n w.best)
-          (held_of a.p a.n c.meet-row.result) (omega arith) c.meet-row.ensures
+          (held_of a.p a.n c.meet_row-best.result) (omega arith) c.meet_row-best.ensures
           ∙ w.invariant.1,
     )
 
 returns : tie.Need-returns invariant-loop decreases-loop
 returns c =
-    let a = c.before.before.before.args in
-    let w = c.before.loop in
+    let a = c.args in
+    let w = c.loop-i in
     sym (pass_end a.p a.n a.ceilings a.work.now a.k a.a a.b w.i
     (held_of a.p a.n w.best) (omega arith))
     ∙ w.invariant.1
 
-pub next-sum-spec : {M : Type 1} → statement M
-next-sum-spec =
+pub next_sum_spec : {M : Type 1} → statement M
+next_sum_spec =
     tie.close
     (tie.spec
     invariant-loop
     decreases-loop
     loop-holds
-    (λ c. omega arith)  -- add-meet-row
+    (λ c. omega arith)  -- overflow_add-i
     meet-row-requires
-    (λ c. omega arith)  -- add-i
-    (λ c. omega arith)  -- loop-less
+    (λ c. omega arith)  -- overflow_add-i-in-loop-i
+    (λ c. omega arith)  -- loop-i-smaller
     loop-again
     returns)

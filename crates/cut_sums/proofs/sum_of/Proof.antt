@@ -17,60 +17,60 @@ module _ (s : tie.Start) where
   work = s.args.work.now
 
   first_costs : (i : ℕ) → take s.args.p (costs_in max_objectives work i) ≡ costs_in s.args.p work i
-  first_costs i = costs_front work i s.args.p max_objectives s.pre.0
+  first_costs i = costs_front work i s.args.p max_objectives s.requires.0
 
   first_values : (i : ℕ) → take s.args.n (values_in max_variables work i) ≡ values_in s.args.n work i
-  first_values i = values_front work i s.args.n max_variables s.pre.1
+  first_values i = values_front work i s.args.n max_variables s.requires.1
 
-costs-sum-requires : tie.Need-costs-sum-requires
+costs-sum-requires : tie.Need-costs_sum-costs-requires
 costs-sum-requires c κs =
-    let first = c.before in
-    let s = first.before.before in
+    let first = c in
+    let s = first in
     let a = s.args in (
       s.requires.0,
-      rw (first.row-costs.ensures, first_costs s a.i) s.requires.4,
-      rw (c.row-costs2.ensures, first_costs s a.j) s.requires.5,
+      rw (first.row_costs.ensures, first_costs s.before.before.before a.i) s.requires.4,
+      rw (c.row_costs-2.ensures, first_costs s.before.before.before a.j) s.requires.5,
     )
 
-choice-sum-requires : tie.Need-choice-sum-requires
+choice-sum-requires : tie.Need-choice_sum-choice-requires
 choice-sum-requires c κs =
-    let first = c.before in
-    let costs = first.before in
-    let s = costs.before.before.before.before in
+    let first = c in
+    let costs = first in
+    let s = costs in
     let a = s.args in (
       s.requires.1,
-      rw (first.row-choice.ensures, c.row-choice2.ensures, first_values s a.i, first_values s a.j)
+      rw (first.row_choice.ensures, c.row_choice-2.ensures, first_values s.before.before.before.before.before.before a.i, first_values s.before.before.before.before.before.before a.j)
           s.requires.6,
     )
 
 returns : tie.Need-returns
 returns c =
-    let second = c.before in
-    let first = second.before in
-    let added-costs = first.before in
-    let other = added-costs.before in
-    let one = other.before in
-    let s = one.before.before in
+    let second = c in
+    let first = second in
+    let added-costs = first in
+    let other = added-costs in
+    let one = other in
+    let s = one in
     let a = s.args in
     let p = a.p in
     let n = a.n in
-    let w = work s in
-    let costs : take p added-costs.costs-sum.result ≡ added (costs_in p w a.i) (costs_in p w a.j) =
-    added-costs.costs-sum.ensures
-    ∙ rw (one.row-costs.ensures, other.row-costs2.ensures, first_costs s a.i, first_costs s a.j) in
-    let choice : take n c.choice-sum.result ≡ added (values_in n w a.i) (values_in n w a.j) =
-    c.choice-sum.ensures
-    ∙ rw (first.row-choice.ensures, second.row-choice2.ensures, first_values s a.i, first_values s a.j) in
+    let w = work s.before.before.before.before.before.before.before in
+    let costs : take p added-costs.costs_sum-costs.result ≡ added (costs_in p w a.i) (costs_in p w a.j) =
+    added-costs.costs_sum-costs.ensures
+    ∙ rw (one.row_costs.ensures, other.row_costs-2.ensures, first_costs s.before.before.before.before.before.before.before a.i, first_costs s.before.before.before.before.before.before.before a.j) in
+    let choice : take n c.choice_sum-choice.result ≡ added (values_in n w a.i) (values_in n w a.j) =
+    c.choice_sum-choice.ensures
+    ∙ rw (first.row_choice.ensures, second.row_choice-2.ensures, first_values s.before.before.before.before.before.before.before a.i, first_values s.before.before.before.before.before.before.before a.j) in
     rw (costs, choice)
 
-pub sum-of-spec : {M : Type 1} → statement M
-sum-of-spec =
+pub sum_of_spec : {M : Type 1} → statement M
+sum_of_spec =
     tie.close
     (tie.spec
-    (λ c κs. search rules)  -- row-costs-requires
-    (λ c κs. search rules)  -- row-costs-requires-2
+    (λ c κs. search rules)  -- row_costs-requires
+    (λ c κs. search rules)  -- row_costs-requires-2
     costs-sum-requires
-    (λ c κs. search rules)  -- row-choice-requires
-    (λ c κs. search rules)  -- row-choice-requires-2
+    (λ c κs. search rules)  -- row_choice-requires
+    (λ c κs. search rules)  -- row_choice-requires-2
     choice-sum-requires
     returns)

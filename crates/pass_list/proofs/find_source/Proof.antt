@@ -8,45 +8,45 @@ use Rattle.pass_list.proofs.find_source.Tie as tie
 
 -- ## the places: the gains found, the records copied and grouped, the empty choice, the list
 
-abbrev begun : tie.After-find-gains → tie.Start
+abbrev begun : tie.After-find_gains → tie.Start
 begun c =
-    let known : tie.After-slice-known = c.before.before in
+    let known : tie.After-slice_known-1 = c.before.before in
     known.before.before.before
 
-abbrev gaining : tie.After-copy-numbers → tie.After-find-gains
+abbrev gaining : tie.After-copy_numbers → tie.After-find_gains
 gaining c = c.before.before.before.before
 
-abbrev copying : tie.After-group-records → tie.After-copy-numbers
+abbrev copying : tie.After-group_records → tie.After-copy_numbers
 copying c = c.before.before.before.before
 
-abbrev grouping : tie.After-root-of → tie.After-group-records
-grouping c = c.before.before.before.before
+abbrev grouping : tie.After-root_of-root → tie.After-group_records
+grouping c = c.before.before.before
 
 -- the gains are found
-gained : (c : tie.After-find-gains)
+gained : (c : tie.After-find_gains)
     → let a = (begun c).args in
-    Gained a.task a.sizes.now a.s.now a.work.now c.find-gains.new.1.1.1.0
+    Gained a.task a.sizes.now a.s.now a.work.now c.find_gains.new.work
 gained c =
-    let g = c.find-gains.ensures in
+    let g = c.find_gains.ensures in
     record { source = (begun c).requires.0; known = g.0; none = g.1; left = g.2 }
 
-copy-numbers-requires : tie.Need-copy-numbers-requires
+copy-numbers-requires : tie.Need-copy_numbers-requires
 copy-numbers-requires c κs = source_apart (gained c.before.before.before)
 
-group-records-requires : tie.Need-group-records-requires
+group-records-requires : tie.Need-group_records-requires
 group-records-requires c κs =
-    let copied : tie.After-copy-numbers = c.before.before.before in
-    copied_placed (gained (gaining copied)) _ copied.copy-numbers.ensures
+    let copied : tie.After-copy_numbers = c.before.before.before in
+    copied_placed (gained (gaining copied)) _ copied.copy_numbers.ensures
 
-find-points-requires : tie.Need-find-points-requires
+find-points-requires : tie.Need-find_points-requires
 find-points-requires c κs =
-    let root : tie.After-root-of = c.before in
+    let root : tie.After-root_of-root = c.before in
     let grouped = grouping root in
     let copied = copying grouped in
     let u = gained (gaining copied) in
-    let copy = copied.copy-numbers.ensures in
-    let group = grouped.group-records.ensures in
-    let x = root.root-of.ensures in (
+    let copy = copied.copy_numbers.ensures in
+    let group = grouped.group_records.ensures in
+    let x = root.root_of-root.ensures in (
       grouped_setting u _ copy _ group,
       x.1,
       x.0,
@@ -56,21 +56,21 @@ find-points-requires c κs =
 
 returns : tie.Need-returns
 returns c =
-    let found : tie.After-find-points = c.before.before in
+    let found : tie.After-find_points = c.before.before in
     let grouped = grouping found.before.before in
     let copied = copying grouped in
-    let f = found.find-points in
-    grouped_says (gained (gaining copied)) _ copied.copy-numbers.ensures _ grouped.group-records.ensures
+    let f = found.find_points in
+    grouped_says (gained (gaining copied)) _ copied.copy_numbers.ensures _ grouped.group_records.ensures
     (begun (gaining copied)).args.task.room _ f.result f.ensures
 
-pub find-source-spec : {M : Type 1} → statement M
-find-source-spec =
+pub find_source_spec : {M : Type 1} → statement M
+find_source_spec =
     tie.close
     (tie.spec
-    (λ c κs. search rules)  -- find-gains-requires
+    (λ c κs. search rules)  -- find_gains-requires
     copy-numbers-requires
     group-records-requires
-    (λ c κs. search rules)  -- root-of-requires
+    (λ c κs. search rules)  -- root_of-root-requires
     find-points-requires
-    (λ c. search rules)  -- same-length
+    (λ c. search rules)  -- shape_of-work
     returns)

@@ -81,13 +81,13 @@ module _ (t : ℕ) where
   -- ## the places of open_variable: the sharper bound, a branch that is not hopeless, one with a variable left
 
   abbrev Sharpened : Type 0
-  Sharpened = open-variable-lts.After-sharper-bound (open_calls t) (open_variable_at t) open-variable.Post
+  Sharpened = open-variable-lts.After-sharper_bound-sharper (open_calls t) (open_variable_at t) open-variable.Post
 
   abbrev Alive : Type 0
-  Alive = open-variable-lts.Else1 (open_calls t) (open_variable_at t) open-variable.Post
+  Alive = open-variable-lts.Else-is_dead (open_calls t) (open_variable_at t) open-variable.Post
 
   abbrev Partly : Type 0
-  Partly = open-variable-lts.Else2 (open_calls t) (open_variable_at t) open-variable.Post
+  Partly = open-variable-lts.Else-x-n (open_calls t) (open_variable_at t) open-variable.Post
 
   abbrev begun : Sharpened → Opened
   begun c =
@@ -102,18 +102,18 @@ module _ (t : ℕ) where
 
   opened : (s : Opened)
       → Standing s.args.task.records s.args.sizes.now s.args.s.now s.args.work.now s.args.x
-  opened s = standing s.pre.1.0.grouped s.pre.1.1 _ s.good.0
+  opened s = standing s.requires.1.0.grouped s.requires.1.1 _ s.well_formed.0
 
   -- ## those of try_value: the domain's size read, a value left, its branch searched
 
   abbrev Read : Type 0
-  Read = try-value-lts.After-shared-slice-known4 (try_calls t) (try_value_at t) try-value.Post
+  Read = try-value-lts.After-shared_slice_known-4-1 (try_calls t) (try_value_at t) try-value.Post
 
   abbrev Valued : Type 0
-  Valued = try-value-lts.Else1 (try_calls t) (try_value_at t) try-value.Post
+  Valued = try-value-lts.Else-v-sizes (try_calls t) (try_value_at t) try-value.Post
 
   abbrev Searched : Type 0
-  Searched = try-value-lts.After-open-variable (try_calls t) (try_value_at t) try-value.Post
+  Searched = try-value-lts.After-open_variable-better (try_calls t) (try_value_at t) try-value.Post
 
   abbrev started : Read → Tried
   started c =
@@ -126,127 +126,127 @@ module _ (t : ℕ) where
   tried_from : (s : Tried)
       → Standing s.args.task.records s.args.sizes.now s.args.s.now s.args.work.now
       s.args.branch.partial
-  tried_from s = standing_branch s.pre.1.0.grouped s.pre.1.1 _ s.good.0
+  tried_from s = standing_branch s.requires.1.0.grouped s.requires.1.1 _ s.well_formed.0
 
   -- a domain has at most eight values
   few : (s : Tried) → get_or s.args.sizes.now s.args.branch.partial.len 0 ≤ max_domain
   few s =
-      (all_below DomainSize s.args.sizes.now s.pre.1.0.grouped.placed.small s.args.branch.partial.len
-      0 s.pre.1.1.more).1
+      (all_below DomainSize s.args.sizes.now s.requires.1.0.grouped.placed.small s.args.branch.partial.len
+      0 s.requires.1.1.more).1
 
   -- ## open_variable
 
   open_variable_sharper_bound_requires :
-      open-variable-lts.Need-sharper-bound-requires (open_calls t) (open_variable_at t) open-variable.Post
+      open-variable-lts.Need-sharper_bound-sharper-requires (open_calls t) (open_variable_at t) open-variable.Post
   open_variable_sharper_bound_requires c κs =
       let known = c.before.before.before in
       let s = known.before in
       let m = s.requires.1.0 in
       let bytes : (i : ℕ) → get_or s.args.s.now i 0 < byte_end =
-      λ i. omega (arith, known.shared-slice-known.given i) in (
+      λ i. omega (arith, known.shared_slice_known-1.given i) in (
         m.grouped.placed.long,
         omega (arith, s.requires.1.1.short, m.grouped.placed.variables),
         bound_fits (opened s) bytes,
       )
 
   open_variable_is_dead_requires :
-      open-variable-lts.Need-is-dead-requires (open_calls t) (open_variable_at t) open-variable.Post
+      open-variable-lts.Need-is_dead-requires (open_calls t) (open_variable_at t) open-variable.Post
   open_variable_is_dead_requires c κs =
       let m = (begun c).requires.1.0 in
       (omega (arith, m.grouped.placed.long), m.count, m.objectives)
 
-  open_variable_returns : open-variable-lts.Need-returns (open_calls t) (open_variable_at t) open-variable.Post
+  open_variable_returns : open-variable-lts.Need-returns-then-is_dead (open_calls t) (open_variable_at t) open-variable.Post
   open_variable_returns c =
       let tested = c.before in
       let sharp = tested.before in
       let s = begun sharp in
-      left_out s.pre.1.0 (opened s) s.args.best sharp.sharper-bound.result sharp.sharper-bound.ensures
-      tested.is-dead.result tested.is-dead.ensures c.if1.true
+      left_out s.requires.1.0 (opened s) s.args.best sharp.sharper_bound-sharper.result sharp.sharper_bound-sharper.ensures
+      tested.is_dead.result tested.is_dead.ensures c.if-is_dead.true
 
-  open_variable_returns_2 : open-variable-lts.Need-returns-2 (open_calls t) (open_variable_at t) open-variable.Post
+  open_variable_returns_2 : open-variable-lts.Need-returns-then-x-n (open_calls t) (open_variable_at t) open-variable.Post
   open_variable_returns_2 c =
       let on : Alive = c.before.before.before in
       let sharp = sharpened on in
       let s = begun sharp in
-      completed s.pre.1.0 (opened s) s.args.best sharp.sharper-bound.result
-      sharp.sharper-bound.ensures on.before.is-dead.result on.before.is-dead.ensures on.if1.false
-      c.before.if2.true
+      completed s.requires.1.0 (opened s) s.args.best sharp.sharper_bound-sharper.result
+      sharp.sharper_bound-sharper.ensures on.before.is_dead.result on.before.is_dead.ensures on.if-is_dead.false
+      c.before.if-x-n.true
 
   open_variable_rest_of_requires :
-      open-variable-lts.Need-rest-of-requires (open_calls t) (open_variable_at t) open-variable.Post
+      open-variable-lts.Need-rest_of-rest-requires (open_calls t) (open_variable_at t) open-variable.Post
   open_variable_rest_of_requires c κs =
       let s = begun (sharpened (alive c)) in
-      (s.pre.1.0.grouped, s.pre.1.1, omega (arith, s.pre.1.1.short))
+      (s.requires.1.0.grouped, s.requires.1.1, omega (arith, s.requires.1.1.short))
 
   open_variable_try_value_requires :
-      open-variable-lts.Need-try-value-requires (open_calls t) (open_variable_at t) open-variable.Post
+      open-variable-lts.Need-try_value-requires (open_calls t) (open_variable_at t) open-variable.Post
   open_variable_try_value_requires c κs =
       let s = begun (sharpened (alive c.before)) in
-      let l : s.args.x.len < length s.args.sizes.now = omega (arith, s.pre.1.1.short) in (
-        omega (arith, s.pre.0),
-        (s.pre.1.0, record { stands = s.pre.1.1; more = l; value = omega arith; rest = c.rest_of.ensures }),
+      let l : s.args.x.len < length s.args.sizes.now = omega (arith, s.requires.1.1.short) in (
+        omega (arith, s.requires.0),
+        (s.requires.1.0, record { stands = s.requires.1.1; more = l; value = omega arith; rest = c.rest_of-rest.ensures }),
       )
 
-  open_variable_returns_3 : open-variable-lts.Need-returns-3 (open_calls t) (open_variable_at t) open-variable.Post
+  open_variable_returns_3 : open-variable-lts.Need-returns (open_calls t) (open_variable_at t) open-variable.Post
   open_variable_returns_3 c =
       let on = alive c.before.before in
       let sharp = sharpened on in
       let s = begun sharp in
-      begins s.pre.1.0 (opened s) s.args.best sharp.sharper-bound.result
-      sharp.sharper-bound.ensures on.before.is-dead.result on.before.is-dead.ensures on.if1.left
-      (omega (arith, s.pre.1.1.short)) c.try-value.result c.try-value.ensures
+      begins s.requires.1.0 (opened s) s.args.best sharp.sharper_bound-sharper.result
+      sharp.sharper_bound-sharper.ensures on.before.is_dead.result on.before.is_dead.ensures on.if-is_dead.false
+      (omega (arith, s.requires.1.1.short)) c.try_value.result c.try_value.ensures
 
   -- ## try_value
 
   try_value_shared_slice_read_if1 :
-      try-value-lts.Need-shared-slice-read-if1 (try_calls t) (try_value_at t) try-value.Post
-  try_value_shared_slice_read_if1 c = (started c).requires.1.1.more
+      try-value-lts.Need-bounds-sizes-len (try_calls t) (try_value_at t) try-value.Post
+  try_value_shared_slice_read_if1 c = c.requires.1.1.more
 
-  try_value_returns : try-value-lts.Need-returns (try_calls t) (try_value_at t) try-value.Post
+  try_value_returns : try-value-lts.Need-returns-then-v-sizes (try_calls t) (try_value_at t) try-value.Post
   try_value_returns c =
       let s = started c.before in
-      ended s.pre.1.0 (tried_from s) s.args.best s.args.branch.value c.if1.true
+      ended s.requires.1.0 (tried_from s) s.args.best s.args.branch.value c.if-v-sizes.true
 
-  try_value_with_requires : try-value-lts.Need-with-requires (try_calls t) (try_value_at t) try-value.Post
+  try_value_with_requires : try-value-lts.Need-with-child-requires (try_calls t) (try_value_at t) try-value.Post
   try_value_with_requires c κs =
-      let q = (started c.before).pre.1 in
-      (q.0.grouped, q.1.stands, q.1.more, c.if1.false, q.1.rest)
+      let q = (started c.before).requires.1 in
+      (q.0.grouped, q.1.stands, q.1.more, c.if-v-sizes.false, q.1.rest)
 
   try_value_open_variable_requires :
-      try-value-lts.Need-open-variable-requires (try_calls t) (try_value_at t) try-value.Post
+      try-value-lts.Need-open_variable-better-requires (try_calls t) (try_value_at t) try-value.Post
   try_value_open_variable_requires c κs =
       let some : Valued = c.before in
       let s = started some.before in (
-        omega (arith, s.pre.0, s.pre.1.1.more, c.with.ensures.1, some.if1.false, few s),
-        (s.pre.1.0, c.with.ensures.0),
+        omega (arith, s.requires.0, s.requires.1.1.more, c.with-child.ensures.1, some.if-v-sizes.false, few s),
+        (s.requires.1.0, c.with-child.ensures.0),
       )
 
-  try_value_add_t16 : try-value-lts.Need-overflow-add-t16 (try_calls t) (try_value_at t) try-value.Post
-  try_value_add_t16 c = omega (arith, (valued c).if1.false, few (started (valued c).before))
+  try_value_add_t16 : try-value-lts.Need-overflow_add-next (try_calls t) (try_value_at t) try-value.Post
+  try_value_add_t16 c = omega (arith, (valued c).if-v-sizes.false, few (started (valued c).before))
 
-  try_value_try_value_requires : try-value-lts.Need-try-value-requires (try_calls t) (try_value_at t) try-value.Post
+  try_value_try_value_requires : try-value-lts.Need-try_value-requires (try_calls t) (try_value_at t) try-value.Post
   try_value_try_value_requires c κs =
       let some = valued c in
       let s = started some.before in
-      let b = s.pre.1.1 in
+      let b = s.requires.1.1 in
       let l : s.args.branch.value + 1 ≤ get_or s.args.sizes.now s.args.branch.partial.len 0 =
-      omega (arith, some.if1.left) in (
-        omega (arith, s.pre.0, b.more, few s),
-        (s.pre.1.0, record { stands = b.stands; more = b.more; value = l; rest = b.rest }),
+      omega (arith, some.if-v-sizes.false) in (
+        omega (arith, s.requires.0, b.more, few s),
+        (s.requires.1.0, record { stands = b.stands; more = b.more; value = l; rest = b.rest }),
       )
 
-  try_value_returns_2 : try-value-lts.Need-returns-2 (try_calls t) (try_value_at t) try-value.Post
+  try_value_returns_2 : try-value-lts.Need-returns (try_calls t) (try_value_at t) try-value.Post
   try_value_returns_2 c =
       let searched : Searched = c.before in
-      let grown = searched.before.with in
+      let grown = searched.before.with-child in
       let some = valued searched in
       let s = started some.before in
-      tried s.pre.1.0 (tried_from s) s.args.best s.args.branch.value some.if1.left grown.result
-      searched.open-variable.result c.try-value.result grown.ensures.2 searched.open-variable.ensures
-      c.try-value.ensures
+      tried s.requires.1.0 (tried_from s) s.args.best s.args.branch.value some.if-v-sizes.false grown.result
+      searched.open_variable-better.result c.try_value.result grown.ensures.2 searched.open_variable-better.ensures
+      c.try_value.ensures
 
-pub +open-variable-try-value-spec : {M : Type 1} → statement M
-+open-variable-try-value-spec =
+pub +open_variable_try_value_spec : {M : Type 1} → statement M
++open_variable_try_value_spec =
     close
     μ_open_variable
     μ_try_value

@@ -4,50 +4,50 @@ use Rattle.model.specs.Search.{late}
 use Rattle.pass_search.proofs.is_dead.Statement.{statement}
 use Rattle.pass_search.proofs.is_dead.Tie as tie
 
-returns-2 : tie.Need-returns-2
+returns-2 : tie.Need-returns-then-is_matched
 returns-2 c =
     rw (
-      ← c.before.before.before.is-under.ensures,
-      c.before.before.if1.false,
-      ← c.before.is-matched.ensures,
-      c.if2.true,
+      ← c.is_under.ensures,
+      c.if-not-is_under.false,
+      ← c.is_matched.ensures,
+      c.if-is_matched.true,
     )
 
-returns-3 : tie.Need-returns-3
+returns-3 : tie.Need-returns-then-best
 unfolding late
 returns-3 c =
-    let listed = c.before.before.before.before in
-    let over = listed.before in
+    let listed = c in
+    let over = listed in
     rw (
-      ← over.before.is-under.ensures,
-      over.if1.false,
-      ← listed.is-matched.ensures,
-      c.before.before.before.if2.false,
-      c.before.before.if3.true,
-      ← c.is-earlier.ensures,
+      ← over.is_under.ensures,
+      over.if-not-is_under.false,
+      ← listed.is_matched.ensures,
+      c.if-is_matched.false,
+      c.if-best.true,
+      ← c.is_earlier.ensures,
     )
 
-returns-4 : tie.Need-returns-4
+returns-4 : tie.Need-returns
 unfolding late
 returns-4 c =
-    let listed = c.before.before in
-    let over = listed.before in
+    let listed = c in
+    let over = listed in
     rw (
-      ← over.before.is-under.ensures,
-      over.if1.false,
-      ← listed.is-matched.ensures,
-      c.before.if2.false,
-      c.if3.false,
+      ← over.is_under.ensures,
+      over.if-not-is_under.false,
+      ← listed.is_matched.ensures,
+      c.if-is_matched.false,
+      c.if-best.false,
     )
 
-pub is-dead-spec : {M : Type 1} → statement M
-is-dead-spec =
+pub is_dead_spec : {M : Type 1} → statement M
+is_dead_spec =
     tie.close
     (tie.spec
-    (λ c κs. search rules)  -- is-under-requires
-    (λ c. rw (← c.before.is-under.ensures, c.if1.true))  -- returns
-    (λ c κs. search rules)  -- is-matched-requires
+    (λ c κs. search rules)  -- is_under-requires
+    (λ c. rw (← c.is_under.ensures, c.if-not-is_under.true))  -- returns-then-not-is_under
+    (λ c κs. search rules)  -- is_matched-requires
     returns-2
-    (λ c κs. search rules)  -- is-earlier-requires
+    (λ c κs. search rules)  -- is_earlier-requires
     returns-3
     returns-4)

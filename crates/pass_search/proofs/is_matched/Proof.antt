@@ -15,62 +15,62 @@ use Rattle.pass_search.proofs.Matching.{matched_from, matched_end, matched_step}
 use Rattle.pass_search.proofs.is_matched.Statement.{statement}
 use Rattle.pass_search.proofs.is_matched.Tie as tie
 
-abbrev invariant-loop : tie.invariant-loop
+abbrev invariant-loop : tie.invariant-loop-i
 invariant-loop n work k p c i₀ i = (i ≤ k) × (matched_from c n work k p i ≡ matched (take p c) (list_in p n work 0 k))
 
-abbrev decreases-loop : tie.decreases-loop
+abbrev decreases-loop : tie.decreases-loop-i
 decreases-loop n work k p c i₀ i = k - i
 
 -- the rows from i on, by what is read and tested of row i
 step : (s : tie.Start invariant-loop decreases-loop) (i : ℕ) → i < s.args.k → (row : List ℕ)
     → row ≡ costs_in max_objectives s.args.work.now i → (met : Bool)
-    → met ≡ front_at_most s.args.p row s.args.t1
-    → matched_from s.args.t1 s.args.n s.args.work.now s.args.k s.args.p i
-    ≡ (met || matched_from s.args.t1 s.args.n s.args.work.now s.args.k s.args.p (i + 1))
-step s i l = matched_step s.args.t1 s.args.n s.args.work.now s.args.k s.args.p i l s.requires.2
+    → met ≡ front_at_most s.args.p row s.args.c
+    → matched_from s.args.c s.args.n s.args.work.now s.args.k s.args.p i
+    ≡ (met || matched_from s.args.c s.args.n s.args.work.now s.args.k s.args.p (i + 1))
+step s i l = matched_step s.args.c s.args.n s.args.work.now s.args.k s.args.p i l s.requires.2
 
-returns : tie.Need-returns invariant-loop decreases-loop
+returns : tie.Need-returns-then-is_at_most invariant-loop decreases-loop
 returns c =
-    let tested = c.before in
-    let read = tested.before.before.before in
-    let turn = read.before in
-    let w = turn.before.loop in
-    let s = turn.before.before.before in
-    let met = sym c.if1.true ∙ tested.is-at-most.ensures in
-    let here = step s w.i turn.loop-test.true read.row-costs.result read.row-costs.ensures true met in
+    let tested = c in
+    let read = tested in
+    let turn = read in
+    let w = turn.loop-i in
+    let s = turn in
+    let met = sym c.if-is_at_most.true ∙ tested.is_at_most.ensures in
+    let here = step s.before.before.before.before.before.before.before.before w.i turn.loop-i-test.true read.row_costs.result read.row_costs.ensures true met in
     sym (sym w.invariant.1 ∙ here)
 
-loop-again : tie.Need-loop-preserved invariant-loop decreases-loop
+loop-again : tie.Need-loop-i-preserved invariant-loop decreases-loop
 loop-again c =
-    let tested = c.before in
-    let read = tested.before.before.before in
-    let turn = read.before in
-    let w = turn.before.loop in
-    let s = turn.before.before.before in
-    let met = sym c.if1.false ∙ tested.is-at-most.ensures in
-    let here = step s w.i turn.loop-test.true read.row-costs.result read.row-costs.ensures false met in
+    let tested = c in
+    let read = tested in
+    let turn = read in
+    let w = turn.loop-i in
+    let s = turn in
+    let met = sym c.if-is_at_most.false ∙ tested.is_at_most.ensures in
+    let here = step s.before.before.before.before.before.before.before.before w.i turn.loop-i-test.true read.row_costs.result read.row_costs.ensures false met in
     (omega arith, sym here ∙ w.invariant.1)
 
-returns-2 : tie.Need-returns-2 invariant-loop decreases-loop
+returns-2 : tie.Need-returns invariant-loop decreases-loop
 returns-2 c =
-    let s = c.before.before.before in
-    let w = c.before.loop in
-    sym (matched_end s.args.t1 s.args.n s.args.work.now s.args.k s.args.p w.i (omega arith))
+    let s = c in
+    let w = c.loop-i in
+    sym (matched_end s.args.c s.args.n s.args.work.now s.args.k s.args.p w.i (omega arith))
     ∙ w.invariant.1
 
-pub is-matched-spec : {M : Type 1} → statement M
-is-matched-spec =
+pub is_matched_spec : {M : Type 1} → statement M
+is_matched_spec =
     tie.close
     (tie.spec
     invariant-loop
     decreases-loop
-    (λ c. (omega arith, rw sub-zero refl))  -- loop-holds
-    (λ c κs. search rules)  -- row-costs-requires
-    (λ c. search rules)  -- slice-aggregate-is-at-most
-    (λ c. search rules)  -- slice-aggregate-is-at-most-2
-    (λ c κs. search rules)  -- is-at-most-requires
+    (λ c. (omega arith, rw sub-zero refl))  -- loop-i-init
+    (λ c κs. search rules)  -- row_costs-requires
+    (λ c. search rules)  -- slice_bounds-is_at_most-end
+    (λ c. search rules)  -- slice_bounds-is_at_most-end-in-loop-i
+    (λ c κs. search rules)  -- is_at_most-requires
     returns
-    (λ c. search rules)  -- add-i
-    (λ c. search rules)  -- loop-less
+    (λ c. search rules)  -- overflow_add-i
+    (λ c. search rules)  -- loop-i-smaller
     loop-again
     returns-2)

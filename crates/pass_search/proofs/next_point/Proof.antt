@@ -9,13 +9,13 @@ use Rattle.pass_search.proofs.next_point.Tie as tie
 
 returns : tie.Need-returns
 returns c =
-    let s = c.before.before.before.before in
+    let s = c in
     let e : prefix_of s.args.root ≡ [] = ap (λ n. take n s.args.root.values) s.requires.2 in
-    rw e at c.open-variable.ensures
+    rw e at c.open_variable.ensures
 
-pub next-point-spec : {M : Type 1} → statement M
-next-point-spec =
+pub next_point_spec : {M : Type 1} → statement M
+next_point_spec =
     tie.close
     (tie.spec
-    (λ c κs. search rules)  -- open-variable-requires
+    (λ c κs. search rules)  -- open_variable-requires
     returns)

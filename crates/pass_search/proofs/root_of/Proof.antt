@@ -12,10 +12,10 @@ use Rattle.pass_search.proofs.root_of.Tie as tie
 all : (r : ℕ) → records_at + r - records_at ≡ r
 all r = omega arith
 
-bounds-over-requires : tie.Need-bounds-over-requires
+bounds-over-requires : tie.Need-bounds_over-bound-requires
 unfolding prefix_ok
 bounds-over-requires c κs =
-    let s = c.before.before.before.before in
+    let s = c in
     let q = s.requires in (
       q.small,
       omega arith,
@@ -28,15 +28,14 @@ bounds-over-requires c κs =
 returns : tie.Need-returns
 unfolding prefix_ok
 returns c =
-    let asked : tie.After-bounds-over-arg = c.before in
-    let r = asked.before.before.before.before.args.r in
-    (refl, record { short = omega arith; good = refl; exact = rw (all r) at c.bounds-over.ensures })
+    let r = c.args.r in
+    (refl, record { short = omega arith; good = refl; exact = rw (all r) at c.bounds_over-bound.ensures })
 
-pub root-of-spec : {M : Type 1} → statement M
-root-of-spec =
+pub root_of_spec : {M : Type 1} → statement M
+root_of_spec =
     tie.close
     (tie.spec
-    (λ c. search rules)  -- add-bounds-over
-    (λ c. search rules)  -- slice-aggregate-bounds-over
+    (λ c. search rules)  -- overflow_add-r
+    (λ c. search rules)  -- slice_bounds-bounds_over-end
     bounds-over-requires
     returns)

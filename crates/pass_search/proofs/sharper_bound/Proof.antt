@@ -12,24 +12,24 @@ use Rattle.pass_search.proofs.sharper_bound.Statement.{statement}
 use Rattle.pass_search.proofs.sharper_bound.Tie as tie
 
 -- a gain is a number of work memory
-gains_small : (c : tie.After-numbers-at) → All Half c.numbers-at.result
+gains_small : (c : tie.After-numbers_at-gains) → All Half c.numbers_at-gains.result
 gains_small c =
-    let s = c.before.before.before in
-    rw c.numbers-at.ensures
+    let s = c in
+    rw c.numbers_at-gains.ensures
     (four_half s.args.work.now (gains_at + 4 * s.args.x.len) (omega (arith, s.requires.0, s.requires.1))
-    (λ i. omega (arith, c.before.before.shared-slice-known.given i)))
+    (λ i. omega (arith, c.shared_slice_known-1.given i)))
 
 sum-requires : tie.Need-sum-requires
 sum-requires c κs =
-    let s = c.before.before.before in
+    let s = c in
     (all_map (λ b. b ≤ core_sum_end) Half (λ b l. omega arith) s.args.x.bound s.requires.2, gains_small c)
 
-pub sharper-bound-spec : {M : Type 1} → statement M
-sharper-bound-spec =
+pub sharper_bound_spec : {M : Type 1} → statement M
+sharper_bound_spec =
     tie.close
     (tie.spec
-    (λ c. search rules)  -- mul-numbers-at
-    (λ c. search rules)  -- add-numbers-at
-    (λ c κs. search rules)  -- numbers-at-requires
+    (λ c. search rules)  -- overflow_mul-len
+    (λ c. search rules)  -- overflow_add-len
+    (λ c κs. search rules)  -- numbers_at-gains-requires
     sum-requires
-    (λ c. rw c.before.numbers-at.ensures at c.sum.ensures))  -- returns
+    (λ c. rw c.before.numbers_at-gains.ensures at c.sum.ensures))  -- returns  -- returns

@@ -19,10 +19,10 @@ returns c =
     rw (add-one, take-suc-set (replicate max_objectives 1) o c.args.c)
     (ap (λ (l : List ℕ). l ++ (c.args.c ∷ [])) (front_same o max_objectives 1 (omega arith)))
 
-pub suffix-ceilings-spec : {M : Type 1} → statement M
-suffix-ceilings-spec =
+pub suffix_ceilings_spec : {M : Type 1} → statement M
+suffix_ceilings_spec =
     tie.close
     (tie.spec
-    (λ c. search rules)  -- mul-ceilings
-    (λ c. search rules)  -- array-write-ceilings
+    (λ c. search rules)  -- offset_bounds-ceilings-o
+    (λ c. search rules)  -- bounds-ceilings-o
     returns)
