@@ -9,14 +9,14 @@ use Rattle.branch_pruning.proofs.front_of.Statement.{statement}
 use Rattle.branch_pruning.proofs.front_of.Tie as tie
 
 returns : tie.Need-returns
-returns c = sym (four_listed c.args.t1 (omega (arith, array_length w64 8 c.args.t1 _ c.well-formed.0)))
+returns c = sym (four_listed c.args.b (omega (arith, array_length w64 8 c.args.b _ c.well_formed.0)))
 
-pub front-of-spec : {M : Type 1} → statement M
-front-of-spec =
+pub front_of_spec : {M : Type 1} → statement M
+front_of_spec =
     tie.close
     (tie.spec
-    (λ c. search rules)  -- array-read-t5
-    (λ c. search rules)  -- array-read-t8
-    (λ c. search rules)  -- array-read-t11
-    (λ c. search rules)  -- array-read-t14
+    (λ c. search rules)  -- bounds-b-0
+    (λ c. search rules)  -- bounds-b-1
+    (λ c. search rules)  -- bounds-b-2
+    (λ c. search rules)  -- bounds-b-3
     returns)

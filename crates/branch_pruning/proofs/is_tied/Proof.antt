@@ -12,18 +12,18 @@ use Rattle.branch_pruning.proofs.Ties.{untied}
 use Rattle.branch_pruning.proofs.is_tied.Statement.{statement}
 use Rattle.branch_pruning.proofs.is_tied.Tie as tie
 
-abbrev invariant-loop : tie.invariant-loop
+abbrev invariant-loop : tie.invariant-loop-j
 invariant-loop x b from c n d work count j₀ j = (j ≤ count) × ((k : ℕ) → k < j → Untied d n work x b (get_or from k 0))
 
-abbrev decreases-loop : tie.decreases-loop
+abbrev decreases-loop : tie.decreases-loop-j
 decreases-loop x b from c n d work count j₀ j = count - j
 
 abbrev Looping : Type 0
-Looping = tie.At-loop invariant-loop decreases-loop
+Looping = tie.At-loop-j invariant-loop decreases-loop
 
 -- how many candidates there are is read
 abbrev Counting : Type 0
-Counting = tie.After-shared-slice-known3 invariant-loop decreases-loop
+Counting = tie.After-shared_slice_known-3-1 invariant-loop decreases-loop
 
 abbrev begun : Counting → tie.Start invariant-loop decreases-loop
 begun c = c.before.before.before
@@ -32,59 +32,59 @@ abbrev start : Looping → tie.Start invariant-loop decreases-loop
 start c = begun c.before
 
 -- a candidate is one of the points
-inside : (c : Looping) → c.loop.j < count_in (start c).args.from.now
-    → get_or (start c).args.from.now c.loop.j 0 < (start c).args.c
-inside c l = (start c).requires.5.inside c.loop.j l
+inside : (c : Looping) → c.loop-j.j < count_in (start c).args.from.now
+    → get_or (start c).args.from.now c.loop-j.j 0 < (start c).args.c
+inside c l = (start c).requires.5.inside c.loop-j.j l
 
-shared-slice-read-count : tie.Need-shared-slice-read-count invariant-loop decreases-loop
-shared-slice-read-count c = omega (arith, (begun c).requires.5.long)
+shared-slice-read-count : tie.Need-bounds-from-128 invariant-loop decreases-loop
+shared-slice-read-count c = omega (arith, c.requires.5.long)
 
-cast-count : tie.Need-overflow-cast-count invariant-loop decreases-loop
+cast-count : tie.Need-overflow_cast-count invariant-loop decreases-loop
 cast-count c = omega (arith, (begun c).requires.5.few)
 
-shared-slice-read-is-tied-at : tie.Need-shared-slice-read-is-tied-at invariant-loop decreases-loop
-shared-slice-read-is-tied-at c = let s = start c.before.before in omega (arith, s.pre.5.few, s.pre.5.long)
+shared-slice-read-is-tied-at : tie.Need-bounds-from-j invariant-loop decreases-loop
+shared-slice-read-is-tied-at c = let s = start c.before.before in omega (arith, s.requires.5.few, s.requires.5.long)
 
-cast-is-tied-at : tie.Need-overflow-cast-is-tied-at invariant-loop decreases-loop
-cast-is-tied-at c = let w = c.before.before in omega (arith, inside w (omega arith), (start w).requires.2)
+cast-is-tied-at : tie.Need-overflow_cast-from invariant-loop decreases-loop
+cast-is-tied-at c = let w = c in omega (arith, inside w.before.before (omega arith), (start w.before.before).requires.2)
 
-is-tied-at-requires : tie.Need-is-tied-at-requires invariant-loop decreases-loop
+is-tied-at-requires : tie.Need-is_tied_at-requires invariant-loop decreases-loop
 is-tied-at-requires c κs =
-    let w = c.before.before in
-    let s = start w in
-    let below = inside w (omega arith) in
-    (s.pre.0, s.pre.1, omega (arith, below, s.pre.2), s.pre.3, s.pre.4 _ below)
+    let w = c in
+    let s = start w.before.before in
+    let below = inside w.before.before (omega arith) in
+    (s.requires.0, s.requires.1, omega (arith, below, s.requires.2), s.requires.3, s.requires.4 _ below)
 
-add-j : tie.Need-overflow-add-j invariant-loop decreases-loop
-add-j c = let w = c.before.before.before.before in omega (arith, (start w).requires.5.few)
+add-j : tie.Need-overflow_add-j invariant-loop decreases-loop
+add-j c = let w = c in omega (arith, (start w.before.before.before.before).requires.5.few)
 
-loop-again : tie.Need-loop-preserved invariant-loop decreases-loop
+loop-again : tie.Need-loop-j-preserved invariant-loop decreases-loop
 loop-again c =
-    let w = c.before.before.before.before.loop in
-    (omega arith, below_more _ w.j w.invariant.1 (c.before.is-tied-at.ensures c.if1.false))
+    let w = c.loop-j in
+    (omega arith, below_more _ w.j w.invariant.1 (c.is_tied_at.ensures c.if-is_tied_at.false))
 
-returns-2 : tie.Need-returns-2 invariant-loop decreases-loop
+returns-2 : tie.Need-returns invariant-loop decreases-loop
 returns-2 c =
-    let w = c.before.loop in
+    let w = c.loop-j in
     let s = start c.before in
     let a = s.args in
-    let all = sifted_map (λ i l o. untied a.d a.n a.work.now a.x a.b i o) s.pre.5 in
+    let all = sifted_map (λ i l o. untied a.d a.n a.work.now a.x a.b i o) s.requires.5 in
     λ e. sifted_none all (λ j l. w.invariant.1 j (omega arith))
 
-pub is-tied-spec : {M : Type 1} → statement M
-is-tied-spec =
+pub is_tied_spec : {M : Type 1} → statement M
+is_tied_spec =
     tie.close
     (tie.spec
     invariant-loop
     decreases-loop
     shared-slice-read-count
     cast-count
-    (λ c. (omega arith, λ j l. absurd (omega arith)))  -- loop-holds
+    (λ c. (omega arith, λ j l. absurd (omega arith)))  -- loop-j-init
     shared-slice-read-is-tied-at
     cast-is-tied-at
     is-tied-at-requires
-    (λ c e. absurd (true_false refl e))  -- returns
+    (λ c e. absurd (true_false refl e))  -- returns-then-is_tied_at
     add-j
-    (λ c. omega arith)  -- loop-less
+    (λ c. omega arith)  -- loop-j-smaller
     loop-again
     returns-2)

@@ -14,26 +14,26 @@ use Rattle.branch_pruning.proofs.is_within.Tie as tie
 
 returns : tie.Need-returns
 returns c =
-    let summed = c.before.before.before.before in
-    let s = summed.before in
+    let summed = c in
+    let s = summed in
     let d = s.args.d in
     let p = d.objectives in
-    let behind = take-take d.sums (max_directions - p) (drop p s.args.t1)
+    let behind = take-take d.sums (max_directions - p) (drop p s.args.b)
     (omega (arith, s.requires.0.few, s.requires.0.few_sums)) in
     let costs = take p s.args.costs in
-    c.is-at-most.ensures
-    ∙ rw (summed.sums-of.ensures, sums_front d d.sums max_sums 0 costs s.requires.0.few_sums)
+    c.is_at_most.ensures
+    ∙ rw (summed.sums_of-sums.ensures, sums_front d d.sums max_sums 0 costs s.requires.0.few_sums)
     (ap (λ (u : List ℕ). at_most u (sums_from d d.sums 0 costs)) behind)
 
-pub is-within-spec : {M : Type 1} → statement M
-is-within-spec =
+pub is_within_spec : {M : Type 1} → statement M
+is_within_spec =
     tie.close
     (tie.spec
-    (λ c κs. search rules)  -- sums-of-requires
-    (λ c. search rules)  -- mul-is-at-most
-    (λ c. search rules)  -- sub-is-at-most
-    (λ c. search rules)  -- part-is-at-most-start
-    (λ c. search rules)  -- part-is-at-most-end
-    (λ c. search rules)  -- slice-aggregate-is-at-most
-    (λ c κs. search rules)  -- is-at-most-requires
+    (λ c κs. search rules)  -- sums_of-sums-requires
+    (λ c. search rules)  -- offset_bounds-b-p
+    (λ c. search rules)  -- slice_bounds-is_at_most-count
+    (λ c. search rules)  -- slice_bounds-is_at_most-start
+    (λ c. search rules)  -- slice_bounds-is_at_most-end
+    (λ c. search rules)  -- slice_bounds-is_at_most-end-2
+    (λ c κs. search rules)  -- is_at_most-requires
     returns)

@@ -6,22 +6,22 @@ use Rattle.branch_pruning.proofs.reach_anew.Tie as tie
 
 sift-requires : tie.Need-sift-requires
 sift-requires c κs =
-    let full = c.before.before.before in
-    let tested = full.before.before.before in
-    let s = tested.before.before.before in
-    (s.requires.0, reached_full full.full-reach2.ensures, s.requires.1)
+    let full = c in
+    let tested = full in
+    let s = tested in
+    (s.requires.0, reached_full full.full_reach-2.ensures, s.requires.1)
 
-pub reach-anew-spec : {M : Type 1} → statement M
-reach-anew-spec =
+pub reach_anew_spec : {M : Type 1} → statement M
+reach_anew_spec =
     tie.close
     (tie.spec
-    (λ c κs. search rules)  -- has-few-requires
-    (λ c κs. search rules)  -- full-reach-requires
-    (λ c. search rules)  -- same-length
-    (λ c. reached_full c.before.before.full-reach.ensures)  -- returns
-    (λ c. search rules)  -- slice-aggregate-full-reach
-    (λ c κs. search rules)  -- full-reach-requires-2
-    (λ c. search rules)  -- slice-aggregate-sift
+    (λ c κs. search rules)  -- has_few-requires
+    (λ c κs. search rules)  -- full_reach-requires
+    (λ c. search rules)  -- shape_of-to-then-has_few
+    (λ c. reached_full c.full_reach.ensures)  -- returns-then-has_few
+    (λ c. search rules)  -- slice_bounds-full_reach-end
+    (λ c κs. search rules)  -- full_reach-requires-2
+    (λ c. search rules)  -- slice_bounds-sift-end
     sift-requires
-    (λ c. search rules)  -- same-length-2
-    (λ c. search rules))  -- returns-2
+    (λ c. search rules)  -- shape_of-to
+    (λ c. search rules))  -- returns  -- returns-2

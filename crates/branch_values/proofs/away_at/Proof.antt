@@ -8,23 +8,23 @@ use borrow.Author.Rules.{rules}
 use Rattle.branch_values.proofs.away_at.Statement.{statement}
 use Rattle.branch_values.proofs.away_at.Tie as tie
 
-cast-from : tie.Need-overflow-cast-from
+cast-from : tie.Need-overflow_cast-from
 cast-from c =
     omega (
       arith,
-      c.shared-slice-known5.given (message_ends_at + (c.before.before.before.before.before.args.k + 1)),
+      c.shared_slice_known-5-1.given (message_ends_at + (c.args.k + 1)),
     )
 
-cast-to : tie.Need-overflow-cast-to
+cast-to : tie.Need-overflow_cast-to
 cast-to c =
     omega (
       arith,
-      c.shared-slice-known6.given (message_ends_at + c.before.before.before.before.before.before.args.k),
+      c.shared_slice_known-6-1.given (message_ends_at + c.args.k),
     )
 
 sent-requires : tie.Need-sent-requires
 sent-requires c κs =
-    let s = c.before.before.before.before.before.before.before in
+    let s = c in
     let t = s.requires.1 in (
       t.ends.messages s.args.k s.requires.3,
       messages_inside t s.args.k (omega (arith, s.requires.3)),
@@ -32,19 +32,19 @@ sent-requires c κs =
       s.requires.0.long,
     )
 
-pub away-at-spec : {M : Type 1} → statement M
-away-at-spec =
+pub away_at_spec : {M : Type 1} → statement M
+away_at_spec =
     tie.close
     (tie.spec
-    (λ c. search rules)  -- add-next
-    (λ c. search rules)  -- add-from
-    (λ c. search rules)  -- mul-from
-    (λ c. search rules)  -- shared-slice-read-from
+    (λ c. search rules)  -- overflow_add-next
+    (λ c. search rules)  -- overflow_add-from
+    (λ c. search rules)  -- offset_bounds-plan-next
+    (λ c. search rules)  -- bounds-plan-next
     cast-from
-    (λ c. search rules)  -- add-to
-    (λ c. search rules)  -- mul-to
-    (λ c. search rules)  -- shared-slice-read-to
+    (λ c. search rules)  -- overflow_add-to
+    (λ c. search rules)  -- offset_bounds-plan-k
+    (λ c. search rules)  -- bounds-plan-k
     cast-to
-    (λ c. search rules)  -- add-sent
+    (λ c. search rules)  -- overflow_add-d
     sent-requires
-    (λ c. search rules))  -- returns
+    (λ c. search rules))  -- returns  -- returns

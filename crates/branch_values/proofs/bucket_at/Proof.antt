@@ -5,14 +5,14 @@ use Rattle.branch_values.proofs.bucket_at.Tie as tie
 
 content-requires : tie.Need-content-requires
 content-requires c κs =
-    let known = c.before.before.before.before in
-    let q = known.before.requires in
-    rw c.span-at.ensures (q.0, q.1, q.4, q.5)
+    let known = c in
+    let q = known.requires in
+    rw c.span_at.ensures (q.0, q.1, q.4, q.5)
 
-pub bucket-at-spec : {M : Type 1} → statement M
-bucket-at-spec =
+pub bucket_at_spec : {M : Type 1} → statement M
+bucket_at_spec =
     tie.close
     (tie.spec
-    (λ c κs. search rules)  -- span-at-requires
+    (λ c κs. search rules)  -- span_at-requires
     content-requires
-    (λ c. rw c.before.span-at.ensures at c.content.ensures))  -- returns
+    (λ c. rw c.before.span_at.ensures at c.content.ensures))  -- returns  -- returns

@@ -22,17 +22,17 @@ module _ (s : tie.Start) where
   zeros = front_same (length s.args.sizes.now) max_variables 0 s.requires.0.variables
 
   first_value : 0 < get_or s.args.sizes.now 0 0
-  first_value = (all_below DomainSize s.args.sizes.now s.pre.0.small 0 0 s.pre.3).0
+  first_value = (all_below DomainSize s.args.sizes.now s.requires.0.small 0 0 s.requires.3).0
 
-slice-aggregate-content : tie.Need-slice-aggregate-content
+slice-aggregate-content : tie.Need-slice_bounds-content-end
 slice-aggregate-content c =
-    let s = c.before.before.before.before.before.before.before in
-    sym (ap length (zeros s) ∙ length-replicate (length s.args.sizes.now) 0)
+    let s = c in
+    sym (ap length (zeros s.before.before.before.before.before.before.before) ∙ length-replicate (length s.args.sizes.now) 0)
 
-content-requires : tie.Need-content-requires
+content-requires : tie.Need-content-rows-requires
 content-requires c κs =
-    let lent = c.before.before.before in
-    let s = lent.before.before.before.before in
+    let lent = c in
+    let s = lent in
     let ends = s.requires.1.ends in (
       s.requires.0,
       record {
@@ -41,39 +41,39 @@ content-requires c κs =
         children_end = omega (arith, ends.messages_first);
       },
       s.requires.3,
-      rw (zeros s) (zeros_choice s.args.sizes.now s.requires.0.small),
+      rw (zeros s.before.before.before.before.before.before.before) (zeros_choice s.args.sizes.now s.requires.0.small),
     )
 
-row-of-requires : tie.Need-row-of-requires
+row-of-requires : tie.Need-row_of-requires
 row-of-requires c κs =
-    let s = c.before.before.before.before.before.before.before.before.before.before in (
+    let s = c in (
       omega arith,
       width_few s.args.d s.requires.0.sensible,
-      λ j l. omega (arith, zeros_at max_directions j, (c.before.before.content.ensures 0 j (first_value s) l).1),
+      λ j l. omega (arith, zeros_at max_directions j, (c.content-rows.ensures 0 j (first_value s.before.before.before.before.before.before.before.before.before.before) l).1),
     )
 
 returns : tie.Need-returns
 returns c =
-    let s = c.before.before.before.before.before.before.before.before.before.before.before in
+    let s = c in
     let a = s.args in
-    λ j l. let base = (c.before.before.before.content.ensures 0 j (first_value s) l).0
+    λ j l. let base = (c.content-rows.ensures 0 j (first_value s.before.before.before.before.before.before.before.before.before.before.before) l).0
     ∙ ap (λ (u : List ℕ). base_at a.d a.sizes.now a.s.now a.plan.now a.r u j)
-    (ap (λ (u : List ℕ). set u 0 0) (zeros s) ∙ zeros_set (length a.sizes.now)) in
+    (ap (λ (u : List ℕ). set u 0 0) (zeros s.before.before.before.before.before.before.before.before.before.before.before) ∙ zeros_set (length a.sizes.now)) in
     omega (arith, c.row_of.ensures.1 j l, zeros_at max_directions j, base)
 
-pub root-bound-spec : {M : Type 1} → statement M
-root-bound-spec =
+pub root_bound_spec : {M : Type 1} → statement M
+root_bound_spec =
     tie.close
     (tie.spec
-    (λ c. search rules)  -- shared-slice-read-from
-    (λ c. search rules)  -- cast-from
-    (λ c. search rules)  -- shared-slice-read-first
-    (λ c. search rules)  -- cast-first
-    (λ c. search rules)  -- shared-slice-read-last
-    (λ c. search rules)  -- cast-last
-    (λ c. search rules)  -- array-share-prefix-zeros
+    (λ c. search rules)  -- bounds-plan-424
+    (λ c. search rules)  -- overflow_cast-from
+    (λ c. search rules)  -- bounds-plan-449
+    (λ c. search rules)  -- overflow_cast-first
+    (λ c. search rules)  -- bounds-plan-474
+    (λ c. search rules)  -- overflow_cast-last
+    (λ c. search rules)  -- slice_bounds-zeros-end
     slice-aggregate-content
     content-requires
-    (λ c. search rules)  -- add-row-of
+    (λ c. search rules)  -- overflow_add-d
     row-of-requires
     returns)

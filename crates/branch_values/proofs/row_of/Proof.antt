@@ -13,58 +13,58 @@ use Rattle.branch_values.specs.Rows.{next_bound}
 use Rattle.branch_values.proofs.row_of.Statement.{statement}
 use Rattle.branch_values.proofs.row_of.Tie as tie
 
-abbrev invariant-loop : tie.invariant-loop
+abbrev invariant-loop : tie.invariant-loop-j
 invariant-loop rows a w acc away at b₀ j₀ b j =
     (j ≤ max_directions) × (length b ≡ max_directions)
     × ((i : ℕ) → i < j → i < w → get_or b i 0 ≡ next_bound acc away rows a i)
 
-abbrev decreases-loop : tie.decreases-loop
+abbrev decreases-loop : tie.decreases-loop-j
 decreases-loop rows a w acc away at b₀ j₀ b j = max_directions - j
 
-sub-b : tie.Need-overflow-sub-b invariant-loop decreases-loop
-sub-b c = (c.before.before.before.before.requires.2 c.before.before.before.loop.j c.before.if1.true).0
+sub-b : tie.Need-overflow_sub-b invariant-loop decreases-loop
+sub-b c = (c.requires.2 c.loop-j.j c.if-j-w.true).0
 
-add-b-2 : tie.Need-overflow-add-b-2 invariant-loop decreases-loop
+add-b-2 : tie.Need-overflow_add-b-then-j-w invariant-loop decreases-loop
 add-b-2 c =
     omega (
       arith,
-      c.before.before.before.before.requires.2 c.before.before.before.loop.j c.before.if1.true,
+      c.requires.2 c.loop-j.j c.if-j-w.true,
     )
 
-loop-again : tie.Need-loop-preserved invariant-loop decreases-loop
+loop-again : tie.Need-loop-j-preserved invariant-loop decreases-loop
 loop-again c =
-    let w = c.before.before.loop in
+    let w = c.loop-j in
     let inside : w.j < length w.b = omega (arith, w.invariant.1) in
     ⊎_elim
-    (λ t. rw t.2 (
+    (λ t. rw t.b-is (
       omega arith,
       length-set w.b w.j _ ∙ w.invariant.1,
       below_more _ w.j (λ i l h. get_or-set_other w.b w.j i _ 0 (λ e. omega arith) ∙ w.invariant.2 i l h)
           (λ h. get_or-set_same w.b w.j _ 0 inside),
     ))
-    (λ t. rw t.1 (omega arith, w.invariant.1, below_more _ w.j w.invariant.2 (λ h. absurd (omega (arith, t.0)))))
-    c.if1.branch
+    (λ t. rw t.b-is (omega arith, w.invariant.1, below_more _ w.j w.invariant.2 (λ h. absurd (omega (arith, t.if-j-w.false)))))
+    c.if-j-w.branch-raw
 
-pub row-of-spec : {M : Type 1} → statement M
-row-of-spec =
+pub row_of_spec : {M : Type 1} → statement M
+row_of_spec =
     tie.close
     (tie.spec
     invariant-loop
     decreases-loop
-    (λ c. search rules)  -- mul-at
-    (λ c. (omega arith, refl, λ i l. absurd (omega arith)))  -- loop-holds
-    (λ c. search rules)  -- mul-b
-    (λ c. search rules)  -- array-read-b
-    (λ c. search rules)  -- add-b
-    (λ c. search rules)  -- mul-b-2
-    (λ c. search rules)  -- element-copy-out-b
-    (λ c. search rules)  -- mul-b-3
-    (λ c. search rules)  -- array-read-b-2
+    (λ c. search rules)  -- overflow_mul-at
+    (λ c. (omega arith, refl, λ i l. absurd (omega arith)))  -- loop-j-init
+    (λ c. search rules)  -- offset_bounds-acc-j
+    (λ c. search rules)  -- bounds-acc-j
+    (λ c. search rules)  -- overflow_add-b
+    (λ c. search rules)  -- offset_bounds-rows-at
+    (λ c. search rules)  -- bounds-rows-at
+    (λ c. search rules)  -- offset_bounds-away-j
+    (λ c. search rules)  -- bounds-away-j
     sub-b
     add-b-2
-    (λ c. search rules)  -- mul-b-4
-    (λ c. search rules)  -- array-write-b
-    (λ c. search rules)  -- add-j
-    (λ c. search rules)  -- loop-less
+    (λ c. search rules)  -- offset_bounds-b-j
+    (λ c. search rules)  -- bounds-b-j
+    (λ c. search rules)  -- overflow_add-j
+    (λ c. search rules)  -- loop-j-smaller
     loop-again
-    (λ c. (c.before.loop.invariant.1, λ j l. c.before.loop.invariant.2 j (omega arith) l)))  -- returns
+    (λ c. (c.before.loop-j.invariant.1, λ j l. c.before.loop-j.invariant.2 j (omega arith) l)))  -- returns  -- returns
