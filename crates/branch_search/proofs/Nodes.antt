@@ -1,6 +1,5 @@
 -- A partial choice as a value: how long its arrays are, and the one with a value more.
 use Rattle.std.proofs.Common.{◌≡◌, ℕ, ◌+◌, ◌<◌, List, length, take, set, sym, ap, ◌∙◌}
-use lib.ListN.{length-map}
 use lib.Seq.{take-set-lt}
 use mir.Val.{Val}
 use denote.Laws.{Is}
@@ -13,10 +12,10 @@ use Rattle.branch_search.specs.States.{extended}
 use Rattle.branch_search.specs.contracts.Node.{the_type}
 
 pub choice_long : (node : DN.Node) (vs : List Val) → Is (row the_type) node vs → length node.choice ≡ max_variables
-choice_long node vs h = sym (length-map node.choice (λ v. v)) ∙ h.1.1.1.0.1.0.1
+choice_long node vs h = h.1.1.1.0.1.0.1
 
 pub bound_long : (node : DN.Node) (vs : List Val) → Is (row the_type) node vs → max_directions ≡ length node.bound
-bound_long node vs h = sym (sym (length-map node.bound (λ v. v)) ∙ h.1.1.1.1.0.1.0.1)
+bound_long node vs h = sym h.1.1.1.1.0.1.0.1
 
 -- the choice with the value a of the variable at the next position
 abbrev pub with_next : List ℕ → ℕ → DN.Node → ℕ → List ℕ

@@ -116,7 +116,7 @@ abbrev try_calls : ℕ → try-lts.Claims
 try_calls t = (is-alive-reads.Asked, is-alive-reads.Learnt, open_position_below t, open-position.Post)
 
 -- the value that is next has the least lead; what may be reached is known unless a complete choice was met since
-abbrev invariant-loop : open-lts.invariant-loop
+abbrev invariant-loop : open-lts.invariant-loop-leads
 invariant-loop
     node from s sizes aim work₀ n k bound d v size rows away leads₀ a₀ t₀ reach₀ seen₀ finished₀
     work leads a t reach seen finished =
@@ -124,7 +124,7 @@ invariant-loop
     × Trying d aim.task sizes s work₀ t₀ node work t leads × (length reach ≡ reach_width)
     × (seen ≡ t.meets → Reached d work t bound reach)
 
-abbrev decreases-loop : open-lts.decreases-loop
+abbrev decreases-loop : open-lts.decreases-loop-leads
 decreases-loop
     node from s sizes aim work₀ n k bound d v size rows away leads₀ a₀ t₀ reach₀ seen₀ finished₀
     work leads a t reach seen finished =
@@ -139,79 +139,79 @@ module _ (t : ℕ) where
 
   -- and what the types of its slices say
   abbrev Known : Type 0
-  Known = open-lts.After-slice-known (open_calls t) (open_position_at t) open-position.Post invariant-loop decreases-loop
+  Known = open-lts.After-slice_known-1 (open_calls t) (open_position_at t) open-position.Post invariant-loop decreases-loop
 
   -- the pass is not given up
   abbrev Going : Type 0
-  Going = open-lts.Else1 (open_calls t) (open_position_at t) open-position.Post invariant-loop decreases-loop
+  Going = open-lts.Else-run-eq0 (open_calls t) (open_position_at t) open-position.Post invariant-loop decreases-loop
 
   -- the choice is not complete
   abbrev Inner : Type 0
-  Inner = open-lts.Else2 (open_calls t) (open_position_at t) open-position.Post invariant-loop decreases-loop
+  Inner = open-lts.Else-k-n (open_calls t) (open_position_at t) open-position.Post invariant-loop decreases-loop
 
   -- the directions are at hand
   abbrev Directed : Type 0
-  Directed = open-lts.After-d (open_calls t) (open_position_at t) open-position.Post invariant-loop decreases-loop
+  Directed = open-lts.After-d-1 (open_calls t) (open_position_at t) open-position.Post invariant-loop decreases-loop
 
   -- its next variable is known
   abbrev Named : Type 0
-  Named = open-lts.After-variable-at (open_calls t) (open_position_at t) open-position.Post invariant-loop decreases-loop
+  Named = open-lts.After-variable_at-v (open_calls t) (open_position_at t) open-position.Post invariant-loop decreases-loop
 
   -- and how many values that has
   abbrev Sized : Type 0
-  Sized = open-lts.After-shared-slice-known4 (open_calls t) (open_position_at t) open-position.Post invariant-loop decreases-loop
+  Sized = open-lts.After-shared_slice_known-4-1 (open_calls t) (open_position_at t) open-position.Post invariant-loop decreases-loop
 
   -- what the bucket holds for each of them
   abbrev Filled : Type 0
-  Filled = open-lts.After-bucket-at (open_calls t) (open_position_at t) open-position.Post invariant-loop decreases-loop
+  Filled = open-lts.After-bucket_at-rows (open_calls t) (open_position_at t) open-position.Post invariant-loop decreases-loop
 
   -- and what was sent
   abbrev Sent : Type 0
-  Sent = open-lts.After-away-at (open_calls t) (open_position_at t) open-position.Post invariant-loop decreases-loop
+  Sent = open-lts.After-away_at-away (open_calls t) (open_position_at t) open-position.Post invariant-loop decreases-loop
 
   -- the leading sum of each
   abbrev Led : Type 0
-  Led = open-lts.After-leads-of (open_calls t) (open_position_at t) open-position.Post invariant-loop decreases-loop
+  Led = open-lts.After-leads_of-leads (open_calls t) (open_position_at t) open-position.Post invariant-loop decreases-loop
 
   -- this one counts as opened
   abbrev Spent : Type 0
-  Spent = open-lts.After-count-opened (open_calls t) (open_position_at t) open-position.Post invariant-loop decreases-loop
+  Spent = open-lts.After-count_opened-t (open_calls t) (open_position_at t) open-position.Post invariant-loop decreases-loop
 
   -- and what it may reach is known
   abbrev Reaching : Type 0
-  Reaching = open-lts.After-reach-of (open_calls t) (open_position_at t) open-position.Post invariant-loop decreases-loop
+  Reaching = open-lts.After-reach_of (open_calls t) (open_position_at t) open-position.Post invariant-loop decreases-loop
 
   -- in the loop over values
   abbrev Looping : Type 0
-  Looping = open-lts.At-loop (open_calls t) (open_position_at t) open-position.Post invariant-loop decreases-loop
+  Looping = open-lts.At-loop-leads (open_calls t) (open_position_at t) open-position.Post invariant-loop decreases-loop
 
   -- a value is tried
   abbrev Trial : Type 0
-  Trial = open-lts.Then3 (open_calls t) (open_position_at t) open-position.Post invariant-loop decreases-loop
+  Trial = open-lts.In-loop-leads (open_calls t) (open_position_at t) open-position.Post invariant-loop decreases-loop
 
   -- since a complete choice was met, what may be reached is to be found anew
   abbrev Renewing : Type 0
-  Renewing = open-lts.Then4 (open_calls t) (open_position_at t) open-position.Post invariant-loop decreases-loop
+  Renewing = open-lts.Then-seen-t (open_calls t) (open_position_at t) open-position.Post invariant-loop decreases-loop
 
   -- what may be reached is known again
   abbrev Renewed : Type 0
-  Renewed = open-lts.Joined4 (open_calls t) (open_position_at t) open-position.Post invariant-loop decreases-loop
+  Renewed = open-lts.Joined-seen-t (open_calls t) (open_position_at t) open-position.Post invariant-loop decreases-loop
 
   -- its bound is known
   abbrev Bounded : Type 0
-  Bounded = open-lts.After-row-of (open_calls t) (open_position_at t) open-position.Post invariant-loop decreases-loop
+  Bounded = open-lts.After-row_of-b (open_calls t) (open_position_at t) open-position.Post invariant-loop decreases-loop
 
   -- and the partial choice with it
   abbrev Grown : Type 0
-  Grown = open-lts.After-with (open_calls t) (open_position_at t) open-position.Post invariant-loop decreases-loop
+  Grown = open-lts.After-with-next (open_calls t) (open_position_at t) open-position.Post invariant-loop decreases-loop
 
   -- which was tried
   abbrev Tried : Type 0
-  Tried = open-lts.After-try-choice (open_calls t) (open_position_at t) open-position.Post invariant-loop decreases-loop
+  Tried = open-lts.After-try_choice-t (open_calls t) (open_position_at t) open-position.Post invariant-loop decreases-loop
 
   -- and counted where it is finished
   abbrev Counted : Type 0
-  Counted = open-lts.After-add-finished (open_calls t) (open_position_at t) open-position.Post invariant-loop decreases-loop
+  Counted = open-lts.After-add_finished-finished (open_calls t) (open_position_at t) open-position.Post invariant-loop decreases-loop
 
   -- ## the way back from each to an earlier one
 
@@ -225,7 +225,7 @@ module _ (t : ℕ) where
   known c = c.before.before
 
   abbrev directed : Named → Directed
-  directed c = c.before.before.before
+  directed c = c.before.before
 
   abbrev inner : Named → Inner
   inner c = (directed c).before
@@ -234,10 +234,10 @@ module _ (t : ℕ) where
   named c = c.before
 
   abbrev sized : Filled → Sized
-  sized c = c.before.before.before.before
+  sized c = c.before.before.before
 
   abbrev filled : Sent → Filled
-  filled c = c.before.before.before.before
+  filled c = c.before.before.before
 
   abbrev sent : Led → Sent
   sent c = c.before.before
@@ -246,7 +246,7 @@ module _ (t : ℕ) where
   led c = c.before.before.before
 
   abbrev spending : Reaching → Spent
-  spending c = c.before.before.before
+  spending c = c.before.before
 
   abbrev reaching : Looping → Reaching
   reaching c = c.before.before
@@ -316,35 +316,35 @@ module _ (t : ℕ) where
     lent = take (length b.args.work.now - list_end) (drop list_end b.args.work.now)
 
     memory : list_end ≤ length b.args.work.now
-    memory = omega (arith, b.pre.1.0.ready.long)
+    memory = omega (arith, b.requires.1.0.ready.long)
 
     same_plan : lent ≡ plan
     same_plan = lent_plan b.args.work.now
 
     long_plan : numbers_at ≤ length lent
-    long_plan = rw same_plan (omega (arith, b.pre.1.0.ready.long, length-drop list_end b.args.work.now))
+    long_plan = rw same_plan (omega (arith, b.requires.1.0.ready.long, length-drop list_end b.args.work.now))
 
     planned : Planned b.args.aim.d b.args.aim.task.records ds b.args.s.now lent
-    planned = rw same_plan b.pre.1.0.ready.planned
+    planned = rw same_plan b.requires.1.0.ready.planned
 
     tested : Tested b.args.aim.d b.args.aim.task.records ds b.args.s.now lent
-    tested = rw same_plan b.pre.1.0.ready.sound.tested
+    tested = rw same_plan b.requires.1.0.ready.sound.tested
 
     long_choice : length ds ≤ length b.args.node.choice
-    long_choice = omega (arith, b.pre.1.0.ready.planned.variables, choice_long b.args.node _ b.good.0)
+    long_choice = omega (arith, b.requires.1.0.ready.planned.variables, choice_long b.args.node _ b.well_formed.0)
 
     lent_choice : length ds ≡ length choice
     lent_choice = sym (length-take-le (length ds) b.args.node.choice long_choice)
 
   inside : (c : Inner) → (opening c).args.node.depth < length (ds (opening c))
-  inside c = omega (arith, (opening c).requires.1.0.partial.short, c.if2.false)
+  inside c = omega (arith, (opening c).requires.1.0.partial.short, c.if-k-n.false)
 
   module _ (c : Named) where
     abbrev v : ℕ
-    v = c.variable-at.result
+    v = c.variable_at-v.result
 
     is_variable : v ≡ next_variable (begun c)
-    is_variable = rw (same_plan (begun c)) at c.variable-at.ensures.0
+    is_variable = rw (same_plan (begun c)) at c.variable_at-v.ensures.0
 
     variable_below : v < length (ds (begun c))
     variable_below =
@@ -360,10 +360,10 @@ module _ (t : ℕ) where
     entry = begun (naming c)
 
     abbrev rows : List ℕ
-    rows = (filled c).bucket-at.result
+    rows = (filled c).bucket_at-rows.result
 
     abbrev away : List ℕ
-    away = c.away-at.result
+    away = c.away_at-away.result
 
     abbrev BucketOf : List ℕ → ℕ → Type 0
     BucketOf l u =
@@ -372,11 +372,11 @@ module _ (t : ℕ) where
 
     bucket : BucketOf (plan entry) (next_variable entry)
     bucket =
-        let held = subst (λ l. BucketOf l (v (naming c))) (same_plan entry) (filled c).bucket-at.ensures in
+        let held = subst (λ l. BucketOf l (v (naming c))) (same_plan entry) (filled c).bucket_at-rows.ensures in
         subst (BucketOf (plan entry)) (is_variable (naming c)) held
 
     sends : Away entry.args.aim.d (plan entry) entry.args.node.depth (choice entry) away
-    sends = rw (same_plan entry) at c.away-at.ensures
+    sends = rw (same_plan entry) at c.away_at-away.ensures
 
     value_below : (a : ℕ) → a < get_or (ds entry) (v (naming c)) 0 → a < get_or (ds entry) (next_variable entry) 0
     value_below a l = subst (λ (u : ℕ). a < get_or (ds entry) u 0) (is_variable (naming c)) l
@@ -385,7 +385,7 @@ module _ (t : ℕ) where
         (a : ℕ) → a < get_or (ds entry) (v (naming c)) 0 →
         Holding (width_of entry.args.aim.d) entry.args.node.bound away rows a
     holding a l =
-        let h = entry.pre.1.0 in
+        let h = entry.requires.1.0 in
         let i = inside (inner (naming c)) in
         next_holding h.ready.sound h.partial i rows away bucket sends a (value_below a l)
 
@@ -395,13 +395,13 @@ module _ (t : ℕ) where
         ≡ lead_with entry.args.aim.d entry.args.aim.task (ds entry) entry.args.s.now (plan entry)
         entry.args.node a
     lead_is a l =
-        let h = entry.pre.1.0 in
+        let h = entry.requires.1.0 in
         let i = inside (inner (naming c)) in
         let lead = lead_inside entry.args.aim.d h.ready.planned.sensible in
         next_exact h.ready.sound h.partial i rows away bucket sends a l (lead_at entry.args.aim.d) lead
 
-  value_few : (c : Looping) → c.loop.a < max_domain
-  value_few c = omega (arith, c.loop.invariant.0, size (naming (sending c)))
+  value_few : (c : Looping) → c.loop-leads.a < max_domain
+  value_few c = omega (arith, c.loop-leads.invariant.0, size (naming (sending c)))
 
   -- the partial choice with the value that is next
   module _ (c : Bounded) where
@@ -409,108 +409,108 @@ module _ (t : ℕ) where
     origin = entry (sending (turn c))
 
     abbrev next_choice : List ℕ
-    next_choice = with_next (plan origin) (length (ds origin)) origin.args.node (turn c).loop.a
+    next_choice = with_next (plan origin) (length (ds origin)) origin.args.node (turn c).loop-leads.a
 
     next_is :
         Partial origin.args.aim.d origin.args.aim.task.records (ds origin) origin.args.s.now
-        (plan origin) (origin.args.node.depth + 1) next_choice c.row_of.result
+        (plan origin) (origin.args.node.depth + 1) next_choice c.row_of-b.result
     next_is =
-        let h = origin.pre.1.0 in
-        let a = (turn c).loop.a in
+        let h = origin.requires.1.0 in
+        let a = (turn c).loop-leads.a in
         let w = sending (turn c) in
-        let byte = (known (going (inner (naming w)))).before.before.shared-slice-known2.given in
+        let byte = (known (going (inner (naming w)))).before.before.shared_slice_known-2-1.given in
         let bytes : (at : ℕ) → get_or origin.args.s.now at 0 < byte_end = λ at. omega (arith, byte at) in
-        let below = value_below w a (turn c).loop.invariant.0 in
+        let below = value_below w a (turn c).loop-leads.invariant.0 in
         next_partial h.ready.sound h.partial (inside (inner (naming w))) (rows w) (away w) (bucket w) (sends w)
-        h.ready.planned bytes a below c.row_of.result c.row_of.ensures.1
+        h.ready.planned bytes a below c.row_of-b.result c.row_of-b.ensures.1
 
   next_extends :
       (c : Grown) →
       Extends (plan (origin (bounded c))) (length (ds (origin (bounded c)))) (origin (bounded c)).args.node
-      (turn (bounded c)).loop.a (bounded c).row_of.result c.with.result
+      (turn (bounded c)).loop-leads.a (bounded c).row_of-b.result c.with-next.result
   next_extends c =
       let n = naming (sending (turn (bounded c))) in
-      extends c.with.ensures (is_variable n) (variable_below n)
+      extends c.with-next.ensures (is_variable n) (variable_below n)
 
   -- ## open_position
 
   open_position_returns :
-      open-lts.Need-returns (open_calls t) (open_position_at t) open-position.Post invariant-loop decreases-loop
+      open-lts.Need-returns-then-run-eq0 (open_calls t) (open_position_at t) open-position.Post invariant-loop decreases-loop
   open_position_returns c =
       let b = start c.before.before in
-      opened_same b.pre.1.0 (λ some. absurd (omega (arith, c.if1.true)))
+      opened_same b.requires.1.0 (λ some. absurd (omega (arith, c.if-run-eq0.true)))
 
   open_position_take_leaf_requires :
-      open-lts.Need-take-leaf-requires (open_calls t) (open_position_at t) open-position.Post invariant-loop decreases-loop
+      open-lts.Need-take_leaf-requires (open_calls t) (open_position_at t) open-position.Post invariant-loop decreases-loop
   open_position_take_leaf_requires c κs =
-      let whole = c.before in
-      let b = start (known whole.before.before.before) in
-      leaf_standing b.pre.1.0 whole.if2.true
+      let whole = c in
+      let b = start (known whole.before.before.before.before) in
+      leaf_standing b.requires.1.0 whole.if-k-n.true
 
   open_position_same_length :
-      open-lts.Need-same-length (open_calls t) (open_position_at t) open-position.Post invariant-loop decreases-loop
-  open_position_same_length c = c.before.before.take-leaf.ensures.still.long
+      open-lts.Need-shape_of-work-then-k-n (open_calls t) (open_position_at t) open-position.Post invariant-loop decreases-loop
+  open_position_same_length c = c.take_leaf.ensures.still.long
 
   open_position_returns_2 :
-      open-lts.Need-returns-2 (open_calls t) (open_position_at t) open-position.Post invariant-loop decreases-loop
+      open-lts.Need-returns-then-k-n (open_calls t) (open_position_at t) open-position.Post invariant-loop decreases-loop
   open_position_returns_2 c =
-      let called = c.before.before in
-      let whole = called.before.before in
-      let b = start (known whole.before.before.before) in
+      let called = c in
+      let whole = called in
+      let b = start (known whole.before.before.before.before.before.before.before) in
       leaf_opened b.args.aim.d b.args.aim.task (ds b) b.args.s.now b.args.work.now b.args.run
-      _ called.take-leaf.result b.args.node whole.if2.true called.take-leaf.ensures
+      _ called.take_leaf.result b.args.node whole.if-k-n.true called.take_leaf.ensures
 
   open_position_sub_variable_at :
-      open-lts.Need-overflow-sub-variable-at (open_calls t) (open_position_at t) open-position.Post invariant-loop decreases-loop
+      open-lts.Need-slice_bounds-variable_at-count (open_calls t) (open_position_at t) open-position.Post invariant-loop decreases-loop
   open_position_sub_variable_at c = memory (opening c.before)
 
   open_position_part_variable_at_start :
-      open-lts.Need-slice-bounds-variable-at-start (open_calls t) (open_position_at t) open-position.Post invariant-loop decreases-loop
-  open_position_part_variable_at_start c = memory (opening c.before.before)
+      open-lts.Need-slice_bounds-variable_at-start (open_calls t) (open_position_at t) open-position.Post invariant-loop decreases-loop
+  open_position_part_variable_at_start c = memory (opening c.before)
 
   open_position_part_variable_at_end :
-      open-lts.Need-slice-bounds-variable-at-end (open_calls t) (open_position_at t) open-position.Post invariant-loop decreases-loop
+      open-lts.Need-slice_bounds-variable_at-end (open_calls t) (open_position_at t) open-position.Post invariant-loop decreases-loop
   open_position_part_variable_at_end c = search rules
 
   open_position_variable_at_requires :
-      open-lts.Need-variable-at-requires (open_calls t) (open_position_at t) open-position.Post invariant-loop decreases-loop
+      open-lts.Need-variable_at-v-requires (open_calls t) (open_position_at t) open-position.Post invariant-loop decreases-loop
   open_position_variable_at_requires c κs =
-      let i = c.before.before.before in
-      let b = opening i in
-      omega (arith, inside i, b.pre.1.0.ready.planned.variables)
+      let i = c in
+      let b = opening i.before.before in
+      omega (arith, inside i.before.before, b.requires.1.0.ready.planned.variables)
 
   open_position_shared_slice_read_size :
-      open-lts.Need-shared-slice-read-size (open_calls t) (open_position_at t) open-position.Post invariant-loop decreases-loop
-  open_position_shared_slice_read_size c = variable_below (named c)
+      open-lts.Need-bounds-sizes-v (open_calls t) (open_position_at t) open-position.Post invariant-loop decreases-loop
+  open_position_shared_slice_read_size c = variable_below c.before
 
   open_position_cast_size :
-      open-lts.Need-overflow-cast-size (open_calls t) (open_position_at t) open-position.Post invariant-loop decreases-loop
+      open-lts.Need-overflow_cast-size (open_calls t) (open_position_at t) open-position.Post invariant-loop decreases-loop
   open_position_cast_size c = omega (arith, size (named c))
 
   open_position_array_share_prefix_x :
-      open-lts.Need-array-share-prefix-x (open_calls t) (open_position_at t) open-position.Post invariant-loop decreases-loop
+      open-lts.Need-slice_bounds-x-end (open_calls t) (open_position_at t) open-position.Post invariant-loop decreases-loop
   open_position_array_share_prefix_x c = long_choice (begun (named c))
 
   open_position_slice_aggregate_bucket_at :
-      open-lts.Need-slice-aggregate-bucket-at (open_calls t) (open_position_at t) open-position.Post invariant-loop decreases-loop
+      open-lts.Need-slice_bounds-bucket_at-end (open_calls t) (open_position_at t) open-position.Post invariant-loop decreases-loop
   open_position_slice_aggregate_bucket_at c = lent_choice (begun (named c.before))
 
   open_position_sub_bucket_at :
-      open-lts.Need-overflow-sub-bucket-at (open_calls t) (open_position_at t) open-position.Post invariant-loop decreases-loop
+      open-lts.Need-slice_bounds-bucket_at-count (open_calls t) (open_position_at t) open-position.Post invariant-loop decreases-loop
   open_position_sub_bucket_at c = memory (begun (named c.before))
 
   open_position_part_bucket_at_start :
-      open-lts.Need-slice-bounds-bucket-at-start (open_calls t) (open_position_at t) open-position.Post invariant-loop decreases-loop
-  open_position_part_bucket_at_start c = memory (begun (named c.before.before))
+      open-lts.Need-slice_bounds-bucket_at-start (open_calls t) (open_position_at t) open-position.Post invariant-loop decreases-loop
+  open_position_part_bucket_at_start c = memory (begun (named c.before))
 
   open_position_part_bucket_at_end :
-      open-lts.Need-slice-bounds-bucket-at-end (open_calls t) (open_position_at t) open-position.Post invariant-loop decreases-loop
+      open-lts.Need-slice_bounds-bucket_at-end-2 (open_calls t) (open_position_at t) open-position.Post invariant-loop decreases-loop
   open_position_part_bucket_at_end c = search rules
 
   open_position_bucket_at_requires :
-      open-lts.Need-bucket-at-requires (open_calls t) (open_position_at t) open-position.Post invariant-loop decreases-loop
+      open-lts.Need-bucket_at-rows-requires (open_calls t) (open_position_at t) open-position.Post invariant-loop decreases-loop
   open_position_bucket_at_requires c κs =
-      let n = named c.before.before.before in
+      let n = named c.before.before in
       let b = begun n in
       let k = b.args.node.depth in
       let short = inside (inner n) in (
@@ -519,52 +519,52 @@ module _ (t : ℕ) where
         long_plan b,
         short,
         variable_below n,
-        b.pre.1.0.partial.choice,
+        b.requires.1.0.partial.choice,
       )
 
   open_position_array_share_prefix_x_2 :
-      open-lts.Need-array-share-prefix-x-2 (open_calls t) (open_position_at t) open-position.Post invariant-loop decreases-loop
+      open-lts.Need-slice_bounds-x-end-2 (open_calls t) (open_position_at t) open-position.Post invariant-loop decreases-loop
   open_position_array_share_prefix_x_2 c = long_choice (begun (named (sized c)))
 
   open_position_slice_aggregate_away_at :
-      open-lts.Need-slice-aggregate-away-at (open_calls t) (open_position_at t) open-position.Post invariant-loop decreases-loop
+      open-lts.Need-slice_bounds-away_at-end (open_calls t) (open_position_at t) open-position.Post invariant-loop decreases-loop
   open_position_slice_aggregate_away_at c = lent_choice (begun (named (sized c.before)))
 
   open_position_sub_away_at :
-      open-lts.Need-overflow-sub-away-at (open_calls t) (open_position_at t) open-position.Post invariant-loop decreases-loop
+      open-lts.Need-slice_bounds-away_at-count (open_calls t) (open_position_at t) open-position.Post invariant-loop decreases-loop
   open_position_sub_away_at c = memory (begun (named (sized c.before)))
 
   open_position_part_away_at_start :
-      open-lts.Need-slice-bounds-away-at-start (open_calls t) (open_position_at t) open-position.Post invariant-loop decreases-loop
-  open_position_part_away_at_start c = memory (begun (named (sized c.before.before)))
+      open-lts.Need-slice_bounds-away_at-start (open_calls t) (open_position_at t) open-position.Post invariant-loop decreases-loop
+  open_position_part_away_at_start c = memory (begun (named (sized c.before)))
 
   open_position_part_away_at_end :
-      open-lts.Need-slice-bounds-away-at-end (open_calls t) (open_position_at t) open-position.Post invariant-loop decreases-loop
+      open-lts.Need-slice_bounds-away_at-end-2 (open_calls t) (open_position_at t) open-position.Post invariant-loop decreases-loop
   open_position_part_away_at_end c = search rules
 
   open_position_away_at_requires :
-      open-lts.Need-away-at-requires (open_calls t) (open_position_at t) open-position.Post invariant-loop decreases-loop
+      open-lts.Need-away_at-away-requires (open_calls t) (open_position_at t) open-position.Post invariant-loop decreases-loop
   open_position_away_at_requires c κs =
-      let n = named (sized c.before.before.before) in
+      let n = named (sized c.before.before) in
       let b = begun n in
       (planned b, tested b, long_plan b, inside (inner n))
 
   open_position_leads_of_requires :
-      open-lts.Need-leads-of-requires (open_calls t) (open_position_at t) open-position.Post invariant-loop decreases-loop
+      open-lts.Need-leads_of-leads-requires (open_calls t) (open_position_at t) open-position.Post invariant-loop decreases-loop
   open_position_leads_of_requires c κs =
-      let w = c.before in
-      ((entry w).requires.1.0.ready.planned.sensible, (size (naming w)).1, holding w)
+      let w = c in
+      ((entry w.before).requires.1.0.ready.planned.sensible, (size (naming w.before)).1, holding w.before)
 
   open_position_least_value_requires :
-      open-lts.Need-least-value-requires (open_calls t) (open_position_at t) open-position.Post invariant-loop decreases-loop
+      open-lts.Need-least_value-a-requires (open_calls t) (open_position_at t) open-position.Post invariant-loop decreases-loop
   open_position_least_value_requires c κs = size (naming (sent c.before))
 
   -- one partial choice less may be opened, and this is it
   some_left : (c : Named) → 1 ≤ (begun c).args.run.left
-  some_left c = omega (arith, (going (inner c)).if1.left)
+  some_left c = omega (arith, (going (inner c)).if-run-eq0.false)
 
   open_position_count_opened_requires :
-      open-lts.Need-count-opened-requires (open_calls t) (open_position_at t) open-position.Post invariant-loop decreases-loop
+      open-lts.Need-count_opened-t-requires (open_calls t) (open_position_at t) open-position.Post invariant-loop decreases-loop
   open_position_count_opened_requires c κs = some_left (naming (sent c.before.before))
 
   -- the search of the values starts with what is left then
@@ -574,45 +574,45 @@ module _ (t : ℕ) where
 
     starts :
         Standing first.args.aim.d first.args.aim.task (ds first) first.args.s.now
-        first.args.work.now c.count-opened.result first.args.node
-    starts = spent_standing first.pre.1.0 c.count-opened.ensures
+        first.args.work.now c.count_opened-t.result first.args.node
+    starts = spent_standing first.requires.1.0 c.count_opened-t.ensures
 
     four : length first.args.aim.task.ceilings ≡ max_objectives
-    four = aim_ceilings first.args.aim _ first.good.1.1.1.1.1.0
+    four = aim_ceilings first.args.aim _ first.well_formed.1.1.1.1.1.0
 
     -- what the tests ask, once values were tried
     tests :
         {work' : List ℕ} {run' : DP.Progress} {leads : List ℕ} →
         Trying first.args.aim.d first.args.aim.task (ds first) first.args.s.now
-        first.args.work.now c.count-opened.result first.args.node work' run' leads →
+        first.args.work.now c.count_opened-t.result first.args.node work' run' leads →
         Searched first.args.aim.d work' run'
-    tests w = running_searched first.pre.1.0.ready four w.still w.running
+    tests w = running_searched first.requires.1.0.ready four w.still w.running
 
   open_position_slice_aggregate_reach_of :
-      open-lts.Need-slice-aggregate-reach-of (open_calls t) (open_position_at t) open-position.Post invariant-loop decreases-loop
+      open-lts.Need-slice_bounds-reach_of-end (open_calls t) (open_position_at t) open-position.Post invariant-loop decreases-loop
   open_position_slice_aggregate_reach_of c = search rules
 
   open_position_reach_of_requires :
-      open-lts.Need-reach-of-requires (open_calls t) (open_position_at t) open-position.Post invariant-loop decreases-loop
+      open-lts.Need-reach_of-requires (open_calls t) (open_position_at t) open-position.Post invariant-loop decreases-loop
   open_position_reach_of_requires c κs =
-      let o = c.before.before in
-      let b = first o in
-      let h = starts o in (
-        running_searched h.ready (four o) (still_refl b.args.aim.task b.args.work.now) h.running,
-        reached_spent o.count-opened.ensures b.pre.1.1,
+      let o = c in
+      let b = first o.before in
+      let h = starts o.before in (
+        running_searched h.ready (four o.before) (still_refl b.args.aim.task b.args.work.now) h.running,
+        reached_spent o.count_opened-t.ensures b.requires.1.1,
         refl,
       )
 
   open_position_loop_holds :
-      open-lts.Need-loop-init (open_calls t) (open_position_at t) open-position.Post invariant-loop decreases-loop
+      open-lts.Need-loop-leads-init (open_calls t) (open_position_at t) open-position.Post invariant-loop decreases-loop
   open_position_loop_holds c =
-      let r = c.before in
-      let o = spending r in
+      let r = c in
+      let o = spending r.before in
       let leads = led o in
       let w = sent leads in
-      let read = leads.leads-of.ensures in
-      let least = o.before.least-value.ensures in
-      let all = trying_start (starts o) leads.leads-of.result read.0 in (
+      let read = leads.leads_of-leads.ensures in
+      let least = o.least_value-a.ensures in
+      let all = trying_start (starts o) leads.leads_of-leads.result read.0 in (
         least.0,
         least.1,
         all (λ a l. read.1 a (rw (← is_variable (naming w)) at l) ∙ lead_is w a l),
@@ -621,116 +621,116 @@ module _ (t : ℕ) where
       )
 
   open_position_mul_if3 :
-      open-lts.Need-overflow-mul-if3 (open_calls t) (open_position_at t) open-position.Post invariant-loop decreases-loop
+      open-lts.Need-offset_bounds-leads-a (open_calls t) (open_position_at t) open-position.Post invariant-loop decreases-loop
   open_position_mul_if3 c = omega (arith, value_few c)
 
   open_position_array_read_if3 :
-      open-lts.Need-array-read-if3 (open_calls t) (open_position_at t) open-position.Post invariant-loop decreases-loop
+      open-lts.Need-bounds-leads-a (open_calls t) (open_position_at t) open-position.Post invariant-loop decreases-loop
   open_position_array_read_if3 c = omega (arith, value_few c)
 
   open_position_slice_aggregate_reach_anew :
-      open-lts.Need-slice-aggregate-reach-anew (open_calls t) (open_position_at t) open-position.Post invariant-loop decreases-loop
-  open_position_slice_aggregate_reach_anew c = sym (renewing c.before.before).loop.inv.3
+      open-lts.Need-slice_bounds-reach_anew-end (open_calls t) (open_position_at t) open-position.Post invariant-loop decreases-loop
+  open_position_slice_aggregate_reach_anew c = sym (renewing c.before).loop-leads.invariant.3
 
   open_position_reach_anew_requires :
-      open-lts.Need-reach-anew-requires (open_calls t) (open_position_at t) open-position.Post invariant-loop decreases-loop
+      open-lts.Need-reach_anew-requires (open_calls t) (open_position_at t) open-position.Post invariant-loop decreases-loop
   open_position_reach_anew_requires c κs =
-      let w = renewing c.before.before in
-      (tests (opened w) w.loop.inv.2, w.loop.inv.3)
+      let w = renewing c.before in
+      (tests (opened w) w.loop-leads.invariant.2, w.loop-leads.invariant.3)
 
   -- what may be reached is known, as it is with so many complete choices still to be met
   abbrev ReachedIn : Looping → List ℕ → Type 0
   ReachedIn c =
-      Reached (first (opened c)).args.aim.d c.loop.work c.loop.t (first (opened c)).args.node.bound
+      Reached (first (opened c)).args.aim.d c.loop-leads.work c.loop-leads.t (first (opened c)).args.node.bound
 
-  reach_known : (c : Renewed) → ReachedIn (again c) c.if4.reach × (c.if4.seen ≡ (again c).loop.t.meets)
+  reach_known : (c : Renewed) → ReachedIn (again c) c.if-seen-t.reach × (c.if-seen-t.seen ≡ (again c).loop-leads.t.meets)
   reach_known c =
-      let w = (again c).loop in
+      let w = (again c).loop-leads in
       ⊎_elim
-      (λ t. (subst (ReachedIn (again c)) (sym t.5) t.3.ensures, t.6))
+      (λ t. (subst (ReachedIn (again c)) (sym t.reach-is) t.reach_anew.ensures, t.seen-is))
       (λ t.
-      let same : w.seen ≡ w.t.meets = omega (arith, t.0.left) in
-      (subst (ReachedIn (again c)) (sym t.1) (w.inv.4 same), t.2 ∙ same))
-      c.if4.branch
+      let same : w.seen ≡ w.t.meets = omega (arith, t.if-seen-t.false) in
+      (subst (ReachedIn (again c)) (sym t.reach-is) (w.invariant.4 same), t.seen-is ∙ same))
+      c.if-seen-t.branch-raw
 
   open_position_add_row_of :
-      open-lts.Need-overflow-add-row-of (open_calls t) (open_position_at t) open-position.Post invariant-loop decreases-loop
+      open-lts.Need-overflow_add-d (open_calls t) (open_position_at t) open-position.Post invariant-loop decreases-loop
   open_position_add_row_of c =
       let b = entry (sending (again c.before.before)) in
-      omega (arith, width_few b.args.aim.d b.pre.1.0.ready.planned.sensible)
+      omega (arith, width_few b.args.aim.d b.requires.1.0.ready.planned.sensible)
 
   open_position_row_of_requires :
-      open-lts.Need-row-of-requires (open_calls t) (open_position_at t) open-position.Post invariant-loop decreases-loop
+      open-lts.Need-row_of-b-requires (open_calls t) (open_position_at t) open-position.Post invariant-loop decreases-loop
   open_position_row_of_requires c κs =
       let w = again c.before.before in
       let b = entry (sending w) in
-      let few = width_few b.args.aim.d b.pre.1.0.ready.planned.sensible in
-      (value_few w, few, holding (sending w) w.loop.a w.loop.inv.0)
+      let few = width_few b.args.aim.d b.requires.1.0.ready.planned.sensible in
+      (value_few w, few, holding (sending w) w.loop-leads.a w.loop-leads.invariant.0)
 
   open_position_with_requires :
-      open-lts.Need-with-requires (open_calls t) (open_position_at t) open-position.Post invariant-loop decreases-loop
+      open-lts.Need-with-next-requires (open_calls t) (open_position_at t) open-position.Post invariant-loop decreases-loop
   open_position_with_requires c κs =
       let n = naming (sending (turn c)) in
-      let few = (begun n).pre.1.0.ready.planned.variables in
+      let few = (begun n).requires.1.0.ready.planned.variables in
       (omega (arith, inside (inner n), few), omega (arith, variable_below n, few), value_few (turn c))
 
   open_position_slice_aggregate_try_choice :
-      open-lts.Need-slice-aggregate-try-choice (open_calls t) (open_position_at t) open-position.Post invariant-loop decreases-loop
+      open-lts.Need-slice_bounds-try_choice-end (open_calls t) (open_position_at t) open-position.Post invariant-loop decreases-loop
   open_position_slice_aggregate_try_choice c =
       let r = renewed (bounded c.before) in
       sym (reached_long (reach_known r).0)
 
   open_position_try_choice_requires :
-      open-lts.Need-try-choice-requires (open_calls t) (open_position_at t) open-position.Post invariant-loop decreases-loop
+      open-lts.Need-try_choice-t-requires (open_calls t) (open_position_at t) open-position.Post invariant-loop decreases-loop
   open_position_try_choice_requires c κs =
-      let g = c.before.before in
-      let r = bounded g in
-      let w = (turn r).loop in
+      let g = c in
+      let r = bounded g.before.before in
+      let w = (turn r).loop-leads in
       let b = origin r in
-      let e = next_extends g in
+      let e = next_extends g.before.before in
       let o = opened (turn r) in
-      let next = trying_standing (starts o) w.inv.2 w.a r.row_of.result g.with.result e (next_is r) in
-      let may = reached_rises b.args.aim.d b.pre.1.0.ready.planned.sensible b.args.node.bound
-      r.row_of.result (bound_long b.args.node _ b.good.0) (sym r.row_of.ensures.0)
-      (λ j l. omega (arith, r.row_of.ensures.1 j l))
-      (tests o w.inv.2) (reach_known (renewed r)).0 in
-      (omega (arith, e.deeper, inside (inner (naming (sending (turn r)))), b.pre.0), (next, rw e.bounded may))
+      let next = trying_standing (starts o) w.invariant.2 w.a r.row_of-b.result g.with-next.result e (next_is r) in
+      let may = reached_rises b.args.aim.d b.requires.1.0.ready.planned.sensible b.args.node.bound
+      r.row_of-b.result (bound_long b.args.node _ b.well_formed.0) (sym r.row_of-b.ensures.0)
+      (λ j l. omega (arith, r.row_of-b.ensures.1 j l))
+      (tests o w.invariant.2) (reach_known (renewed r)).0 in
+      (omega (arith, e.deeper, inside (inner (naming (sending (turn r)))), b.requires.0), (next, rw e.bounded may))
 
   open_position_add_finished_requires :
-      open-lts.Need-add-finished-requires (open_calls t) (open_position_at t) open-position.Post invariant-loop decreases-loop
+      open-lts.Need-add_finished-finished-requires (open_calls t) (open_position_at t) open-position.Post invariant-loop decreases-loop
   open_position_add_finished_requires c κs = search rules
 
   open_position_mul_leads :
-      open-lts.Need-overflow-mul-leads (open_calls t) (open_position_at t) open-position.Post invariant-loop decreases-loop
+      open-lts.Need-offset_bounds-leads-a-in-loop-leads (open_calls t) (open_position_at t) open-position.Post invariant-loop decreases-loop
   open_position_mul_leads c = omega (arith, value_few (turn (bounded (growing c))))
 
   open_position_array_write_leads :
-      open-lts.Need-array-write-leads (open_calls t) (open_position_at t) open-position.Post invariant-loop decreases-loop
+      open-lts.Need-bounds-leads-a-in-loop-leads (open_calls t) (open_position_at t) open-position.Post invariant-loop decreases-loop
   open_position_array_write_leads c = omega (arith, value_few (turn (bounded (growing c))))
 
   open_position_least_value_requires_2 :
-      open-lts.Need-least-value-requires-2 (open_calls t) (open_position_at t) open-position.Post invariant-loop decreases-loop
+      open-lts.Need-least_value-a-requires-in-loop-leads (open_calls t) (open_position_at t) open-position.Post invariant-loop decreases-loop
   open_position_least_value_requires_2 c κs =
       let w = turn (bounded (growing c.before)) in
       size (naming (sending w))
 
   open_position_loop_less :
-      open-lts.Need-loop-smaller (open_calls t) (open_position_at t) open-position.Post invariant-loop decreases-loop
+      open-lts.Need-loop-leads-smaller (open_calls t) (open_position_at t) open-position.Post invariant-loop decreases-loop
   open_position_loop_less c =
       let x = trial (renewed (bounded (growing c.before.before))) in
       let w = looping x in
-      let below : w.loop.a < length w.loop.leads = omega (arith, value_few w, w.loop.inv.2.long) in
-      tried_fewer w.loop.leads w.loop.a below (omega (arith, x.if3.taken, x.before.struct-known2.given))
+      let below : w.loop-leads.a < length w.loop-leads.leads = omega (arith, value_few w, w.loop-leads.invariant.2.long) in
+      tried_fewer w.loop-leads.leads w.loop-leads.a below (omega (arith, x.loop-leads-test.true, x.struct_known-in-loop-leads-1.given))
 
   open_position_loop_again :
-      open-lts.Need-loop-preserved (open_calls t) (open_position_at t) open-position.Post invariant-loop decreases-loop
+      open-lts.Need-loop-leads-preserved (open_calls t) (open_position_at t) open-position.Post invariant-loop decreases-loop
   open_position_loop_again c =
-      let called = (tried c.before.before).try-choice in
+      let called = (tried c.before.before).try_choice-t in
       let g = growing c.before.before in
       let r = bounded g in
-      let w = (turn r).loop in
-      let least = c.least-value2.ensures in
-      let next = trying_next (starts (opened (turn r))) w.inv.2 w.a r.row_of.result g.with.result in
+      let w = (turn r).loop-leads in
+      let least = c.least_value-a-in-loop-leads.ensures in
+      let next = trying_next (starts (opened (turn r))) w.invariant.2 w.a r.row_of-b.result g.with-next.result in
       let before = reach_known (renewed r) in (
         least.0,
         least.1,
@@ -740,74 +740,63 @@ module _ (t : ℕ) where
       )
 
   open_position_part_done_requires :
-      open-lts.Need-part-done-requires (open_calls t) (open_position_at t) open-position.Post invariant-loop decreases-loop
+      open-lts.Need-part_done-requires (open_calls t) (open_position_at t) open-position.Post invariant-loop decreases-loop
   open_position_part_done_requires c κs = (size (naming (sending c.before.before))).0
 
   open_position_same_length_2 :
-      open-lts.Need-same-length-2 (open_calls t) (open_position_at t) open-position.Post invariant-loop decreases-loop
-  open_position_same_length_2 c = c.before.before.before.loop.invariant.2.still.long
+      open-lts.Need-shape_of-work (open_calls t) (open_position_at t) open-position.Post invariant-loop decreases-loop
+  open_position_same_length_2 c = c.loop-leads.invariant.2.still.long
 
   open_position_returns_3 :
-      open-lts.Need-returns-3 (open_calls t) (open_position_at t) open-position.Post invariant-loop decreases-loop
+      open-lts.Need-returns (open_calls t) (open_position_at t) open-position.Post invariant-loop decreases-loop
   open_position_returns_3 c =
-      let over = c.before in
-      let w = over.before.before in
-      let n = naming (sending w) in
+      let over = c in
+      let w = over in
+      let n = naming (sending w.before.before.before) in
       let b = begun n in
-      spent_opened b.pre.1.0 (opened w).count-opened.ensures c.part-done.ensures
-      (trying_end (starts (opened w)) w.loop.invariant.2 (inside (inner n)) w.loop.a
-      (λ u l. w.loop.invariant.1 u (rw (← is_variable n) at l)) over.if3.false)
+      spent_opened b.requires.1.0 (opened w.before.before.before).count_opened-t.ensures c.part_done.ensures
+      (trying_end (starts (opened w.before.before.before)) w.loop-leads.invariant.2 (inside (inner n)) w.loop-leads.a
+      (λ u l. w.loop-leads.invariant.1 u (rw (← is_variable n) at l)) over.loop-leads-test.false)
 
   -- ## try_choice
 
-  abbrev Asked : Type 0
-  Asked = try-lts.After-is-alive-arg (try_calls t) (try_choice_at t) try-choice.Post
-
-  abbrev Entered : Type 0
-  Entered = try-lts.Start (try_calls t) (try_choice_at t) try-choice.Post
-
-  abbrev entered : Asked → Entered
-  entered c =
-      let copies = c.before.before.before.before in
-      copies.before.before.before.before
-
   try_choice_is_alive_requires :
-      try-lts.Need-is-alive-requires (try_calls t) (try_choice_at t) try-choice.Post
+      try-lts.Need-is_alive-requires (try_calls t) (try_choice_at t) try-choice.Post
   try_choice_is_alive_requires c κs =
-      let b = entered c in
+      let b = c in
       let a = b.args in
-      let h = b.pre.1.0 in
-      let four = aim_ceilings a.aim _ b.good.1.1.1.1.1.0 in
+      let h = b.requires.1.0 in
+      let four = aim_ceilings a.aim _ b.well_formed.1.1.1.1.1.0 in
       let still = still_refl a.aim.task a.work.now in
-      (running_searched h.ready four still h.running, h.ready.planned.variables, b.pre.1.1)
+      (running_searched h.ready four still h.running, h.ready.planned.variables, b.requires.1.1)
 
   try_choice_open_position_requires :
-      try-lts.Need-open-position-requires (try_calls t) (try_choice_at t) try-choice.Post
+      try-lts.Need-open_position-requires (try_calls t) (try_choice_at t) try-choice.Post
   try_choice_open_position_requires c κs =
-      let b = entered c.before.before.before in
-      (omega (arith, b.pre.0), b.pre.1)
+      let b = c in
+      (omega (arith, b.requires.0), b.requires.1)
 
   try_choice_same_length :
-      try-lts.Need-same-length (try_calls t) (try_choice_at t) try-choice.Post
-  try_choice_same_length c = c.before.before.open-position.ensures.still.long
+      try-lts.Need-shape_of-work-then-is_alive (try_calls t) (try_choice_at t) try-choice.Post
+  try_choice_same_length c = c.open_position.ensures.still.long
 
   try_choice_returns :
-      try-lts.Need-returns (try_calls t) (try_choice_at t) try-choice.Post
-  try_choice_returns c = c.before.before.open-position.ensures
+      try-lts.Need-returns-then-is_alive (try_calls t) (try_choice_at t) try-choice.Post
+  try_choice_returns c = c.open_position.ensures
 
   try_choice_same_length_2 :
-      try-lts.Need-same-length-2 (try_calls t) (try_choice_at t) try-choice.Post
+      try-lts.Need-shape_of-work (try_calls t) (try_choice_at t) try-choice.Post
   try_choice_same_length_2 c = refl
 
   try_choice_returns_2 :
-      try-lts.Need-returns-2 (try_calls t) (try_choice_at t) try-choice.Post
+      try-lts.Need-returns (try_calls t) (try_choice_at t) try-choice.Post
   try_choice_returns_2 c =
-      let b = entered c.before.before in
-      let dead = c.before.is-alive.ensures c.if1.false in
-      opened_same b.pre.1.0 (λ some. dead_covers b.pre.1.0 (bound_long b.args.node _ b.good.0) dead)
+      let b = c in
+      let dead = c.is_alive.ensures c.if-is_alive.false in
+      opened_same b.requires.1.0 (λ some. dead_covers b.requires.1.0 (bound_long b.args.node _ b.well_formed.0) dead)
 
-pub +open-position-try-choice-spec : {M : Type 1} → statement M
-+open-position-try-choice-spec =
+pub +open_position_try_choice_spec : {M : Type 1} → statement M
++open_position_try_choice_spec =
     close
     μ_open_position
     μ_try_choice

@@ -15,19 +15,19 @@ use Rattle.branch_search.proofs.run_pass.Tie as tie
 
 -- ## the places, each with a name: the limit is known, and the zones are made
 
-abbrev start : tie.After-slice-known → tie.Start
+abbrev start : tie.After-slice_known-1 → tie.Start
 start c = c.before.before.before
 
-abbrev known : tie.After-start-limit-arg → tie.After-slice-known
+abbrev known : tie.After-start_limit-limit → tie.After-slice_known-1
 known c = c.before.before
 
-abbrev limited : tie.After-start-zones → tie.After-start-limit
+abbrev limited : tie.After-start_zones-m → tie.After-start_limit-limit
 limited c = c.before.before
 
-abbrev zoned : tie.After-root-bound → tie.After-start-zones
+abbrev zoned : tie.After-root_bound-bound → tie.After-start_zones-m
 zoned c =
-    let lent = c.before.before in
-    lent.before.before.before
+    let lent = c in
+    lent.before.before.before.before
 
 -- the archive's costs are words
 words : (s : tie.Start) →
@@ -35,87 +35,87 @@ words : (s : tie.Start) →
 words s =
     let a = s.args in
     let h = s.requires.0 in
-    let four = ceilings_long a.task _ s.well-formed.1.1.1.1.0 in
+    let four = ceilings_long a.task _ s.well_formed.1.1.1.1.0 in
     let wide : a.d.objectives ≤ length a.task.ceilings = omega (arith, four, h.planned.sensible.few) in
     archived_words a.d a.task a.sizes.now a.s.now a.work.now wide h.limited
     (length a.sizes.now) a.points a.work.now (own_between h s.requires.1).reached
 
 -- memory once the zones are made, and the plan as it is lent
-module _ (c : tie.After-start-zones) where
+module _ (c : tie.After-start_zones-m) where
   abbrev begun : tie.Start
-  begun = start (known (limited c).before)
+  begun = start (known (limited c))
 
   abbrev made : List ℕ
-  made = c.start-zones.new.1.1.1.0
+  made = c.start_zones-m.new.work
 
   kept : Still begun.args.task begun.args.work.now made
   kept =
-      let zones = c.start-zones.ensures.0 in
+      let zones = c.start_zones-m.ensures.0 in
       zones_still begun.args.work.now made zones.long zones.behind begun.args.task
 
   ready : Ready begun.args.d begun.args.task begun.args.sizes.now begun.args.s.now made
-  ready = ready_still kept begun.args.d begun.args.sizes.now begun.args.s.now begun.pre.0
+  ready = ready_still kept begun.args.d begun.args.sizes.now begun.args.s.now begun.requires.0
 
-start-limit-requires : tie.Need-start-limit-requires
+start-limit-requires : tie.Need-start_limit-limit-requires
 start-limit-requires c κs =
-    let s = start (known c) in
-    let h = s.pre.0 in
-    (h.planned.sensible, omega (arith, h.long), omega (arith, s.pre.1.few, h.room_small), words s)
+    let s = start c.before in
+    let h = s.requires.0 in
+    (h.planned.sensible, omega (arith, h.long), omega (arith, s.requires.1.few, h.room_small), words s)
 
-start-zones-requires : tie.Need-start-zones-requires
+start-zones-requires : tie.Need-start_zones-m-requires
 start-zones-requires c κs =
-    let s = start (known c.before.before) in
-    let h = s.pre.0 in
-    let few = s.pre.1.few in
+    let s = start (known c.before) in
+    let h = s.requires.0 in
+    let few = s.requires.1.few in
     (h.planned.sensible, omega (arith, h.long), omega (arith, few, h.room_small), h.limited, words s)
 
-root-bound-requires : tie.Need-root-bound-requires
+root-bound-requires : tie.Need-root_bound-bound-requires
 root-bound-requires c κs =
-    let z = c.before.before.before.before in
-    let h = ready z in
-    rw (lent_plan (made z))
-    (h.planned, h.sound.tested, omega (arith, h.long, length-drop list_end (made z)), h.some_variable)
+    let z = c in
+    let h = ready z.before.before.before in
+    rw (lent_plan (made z.before.before.before))
+    (h.planned, h.sound.tested, omega (arith, h.long, length-drop list_end (made z.before.before.before)), h.some_variable)
 
-open-position-requires : tie.Need-open-position-requires
+open-position-requires : tie.Need-open_position-requires
 open-position-requires c κs =
-    let full = c.before.before.before in
-    let rooted = full.before.before in
-    let z = zoned rooted in
+    let full = c in
+    let rooted = full in
+    let z = zoned rooted.before.before.before.before.before in
     let s = begun z in
-    let byte = (known (limited z).before).before.before.shared-slice-known.given in
+    let byte = z.shared_slice_known-1.given in
     let bytes : (at : ℕ) → get_or s.args.s.now at 0 < byte_end = λ at. omega (arith, byte at) in
-    let bound = rw (lent_plan (made z)) at rooted.root-bound.ensures in
-    let zones = z.start-zones.ensures in (
-      root_standing s.pre.0 s.pre.1 (limited z).start-limit.ensures s.args.left zones.0 zones.1
-          bytes rooted.root-bound.result bound,
-      reached_full full.full-reach.ensures,
+    let bound = rw (lent_plan (made z)) at rooted.root_bound-bound.ensures in
+    let zones = z.start_zones-m.ensures in (
+      root_standing s.requires.0 s.requires.1 (limited z).start_limit-limit.ensures s.args.left zones.0 zones.1
+          bytes rooted.root_bound-bound.result bound,
+      reached_full full.full_reach.ensures,
     )
 
 returns : tie.Need-returns
 returns c =
-    let tried = c.before.before in
-    let full = tried.before.before.before.before in
-    let rooted = full.before.before in
-    let z = zoned rooted in
+    let tried = c in
+    let full = tried in
+    let rooted = full in
+    let z = zoned rooted.before.before.before.before.before.before.before.before in
     let s = begun z in
-    let zones = z.start-zones.ensures in
-    let called = tried.open-position in
-    root_passed s.pre.0 s.pre.1 (limited z).start-limit.ensures s.args.left zones.0 zones.1
-    rooted.root-bound.result _ called.result called.ensures
+    let zones = z.start_zones-m.ensures in
+    let called = tried.open_position in
+    root_passed s.requires.0 s.requires.1 (limited z).start_limit-limit.ensures s.args.left zones.0 zones.1
+    rooted.root_bound-bound.result _ called.result called.ensures
 
-pub run-pass-spec : {M : Type 1} → statement M
-run-pass-spec =
+pub run_pass_spec : {M : Type 1} → statement M
+run_pass_spec =
     tie.close
     (tie.spec
     start-limit-requires
     start-zones-requires
-    (λ c. search rules)  -- sub-root-bound
-    (λ c. search rules)  -- part-root-bound-start
-    (λ c. search rules)  -- part-root-bound-end
+    (λ c. search rules)  -- slice_bounds-root_bound-count
+    (λ c. search rules)  -- slice_bounds-root_bound-start
+    (λ c. search rules)  -- slice_bounds-root_bound-end
     root-bound-requires
-    (λ c. search rules)  -- slice-aggregate-full-reach
-    (λ c κs. search rules)  -- full-reach-requires
-    (λ c. search rules)  -- slice-aggregate-open-position
+    (λ c. search rules)  -- slice_bounds-full_reach-end
+    (λ c κs. search rules)  -- full_reach-requires
+    (λ c. search rules)  -- slice_bounds-open_position-end
     open-position-requires
-    (λ c. search rules)  -- same-length
+    (λ c. search rules)  -- shape_of-work
     returns)

@@ -7,37 +7,37 @@ use Rattle.branch_search.proofs.Zoning.{split_words, split_written, split_hold}
 use Rattle.branch_search.proofs.split_all.Statement.{statement}
 use Rattle.branch_search.proofs.split_all.Tie as tie
 
-abbrev invariant-loop : tie.invariant-loop
+abbrev invariant-loop : tie.invariant-loop-i
 invariant-loop c m d work₀ zones₀ i₀ work zones i =
     (i ≤ c) × ZonesWritten d work₀ work zones
     × ((ceilings : List ℕ) → ZonesHold d c ceilings work₀ work₀ m → ZonesHold d c ceilings work₀ work zones)
 
-abbrev decreases-loop : tie.decreases-loop
+abbrev decreases-loop : tie.decreases-loop-i
 decreases-loop c m d work₀ zones₀ i₀ work zones i = c - i
 
 -- ## the places, each with a name
 
 -- before a point is looked at
 abbrev Looping : Type 0
-Looping = tie.At-loop invariant-loop decreases-loop
+Looping = tie.At-loop-i invariant-loop decreases-loop
 
 -- there is one
 abbrev Turn : Type 0
-Turn = tie.In-loop invariant-loop decreases-loop
+Turn = tie.In-loop-i invariant-loop decreases-loop
 
 -- its costs were read
 abbrev Read : Type 0
-Read = tie.After-row-costs invariant-loop decreases-loop
+Read = tie.After-row_costs-costs invariant-loop decreases-loop
 
 -- the zones were split at it
 abbrev Split : Type 0
-Split = tie.After-split-zones invariant-loop decreases-loop
+Split = tie.After-split_zones-zones invariant-loop decreases-loop
 
 abbrev start : Looping → tie.Start invariant-loop decreases-loop
 start c = c.before.before
 
 abbrev turn : Read → Turn
-turn c = c.before.before
+turn c = c.before
 
 abbrev looping : Read → Looping
 looping c = (turn c).before
@@ -45,34 +45,34 @@ looping c = (turn c).before
 -- memory is as long as it was
 module _ (c : Looping) where
   abbrev zones : List ℕ
-  zones = c.loop.work
+  zones = c.loop-i.work
 
   memory : list_end ≤ length zones
-  memory = omega (arith, c.loop.invariant.1.long, (start c).requires.1)
+  memory = omega (arith, c.loop-i.invariant.1.long, (start c).requires.1)
 
-loop-holds : tie.Need-loop-init invariant-loop decreases-loop
-loop-holds c = (omega arith, record { long = refl; behind = refl; measured = c.before.requires.3 }, λ ceilings h. h)
+loop-holds : tie.Need-loop-i-init invariant-loop decreases-loop
+loop-holds c = (omega arith, record { long = refl; behind = refl; measured = c.requires.3 }, λ ceilings h. h)
 
-row-costs-requires : tie.Need-row-costs-requires invariant-loop decreases-loop
+row-costs-requires : tie.Need-row_costs-costs-requires invariant-loop decreases-loop
 row-costs-requires c κs =
-    let w : Looping = c.before.before in
-    omega (arith, w.loop.invariant.1.long, (start w).requires)
+    let w : Looping = c.before in
+    omega (arith, w.loop-i.invariant.1.long, (start w).requires)
 
-slice-aggregate-split-zones : tie.Need-slice-aggregate-split-zones invariant-loop decreases-loop
+slice-aggregate-split-zones : tie.Need-slice_bounds-split_zones-end-in-loop-i invariant-loop decreases-loop
 slice-aggregate-split-zones c =
     let w = looping c.before in
-    sym (length-take-le zones_end w.loop.work (omega (arith, memory w)))
+    sym (length-take-le zones_end w.loop-i.work (omega (arith, memory w)))
 
-split-zones-requires : tie.Need-split-zones-requires invariant-loop decreases-loop
+split-zones-requires : tie.Need-split_zones-zones-requires invariant-loop decreases-loop
 split-zones-requires c κs =
     let read : Read = c.before in
     let w = looping read in
     let s = start w in
-    let inside : w.loop.i < s.args.c = read.before.before.loop-test.true in
+    let inside : w.loop-i.i < s.args.c = read.loop-i-test.true in
     let words =
-    split_words s.args.d s.args.c s.args.work.now w.loop.work _ w.loop.i w.loop.zones
-    s.pre.0 w.loop.inv.1 read.row-costs.ensures s.pre.4 inside in
-    (s.pre.0, w.loop.inv.1.measured, words)
+    split_words s.args.d s.args.c s.args.work.now w.loop-i.work _ w.loop-i.i w.loop-i.zones
+    s.requires.0 w.loop-i.invariant.1 read.row_costs-costs.ensures s.requires.4 inside in
+    (s.requires.0, w.loop-i.invariant.1.measured, words)
 
 -- what splitting at one more point leaves, of both laws
 module _ (c : Split) where
@@ -86,18 +86,18 @@ module _ (c : Split) where
   entry = start here
 
   abbrev split : List ℕ
-  split = c.split-zones.new.1.1.1.0
+  split = c.split_zones-zones.new.zones
 
   written :
       ZonesWritten entry.args.d entry.args.work.now (split ++ drop zones_end (zones here))
-      c.split-zones.result
+      c.split_zones-zones.result
   written =
       let a = entry.args in
-      let h = entry.pre in
-      let w = here.loop in
-      let says = c.split-zones.ensures in
-      split_written a.d a.c a.work.now w.work split _ w.i w.zones c.split-zones.result
-      h.0 h.1 h.2 (turn read_at).loop-test.taken w.inv.1 read_at.row-costs.ensures
+      let h = entry.requires in
+      let w = here.loop-i in
+      let says = c.split_zones-zones.ensures in
+      split_written a.d a.c a.work.now w.work split _ w.i w.zones c.split_zones-zones.result
+      h.0 h.1 h.2 (turn read_at).loop-i-test.true w.invariant.1 read_at.row_costs-costs.ensures
       says.0 says.1 says.2
 
   hold :
@@ -105,34 +105,34 @@ module _ (c : Split) where
       ZonesHold entry.args.d entry.args.c ceilings entry.args.work.now entry.args.work.now
       entry.args.m →
       ZonesHold entry.args.d entry.args.c ceilings entry.args.work.now
-      (split ++ drop zones_end (zones here)) c.split-zones.result
+      (split ++ drop zones_end (zones here)) c.split_zones-zones.result
   hold ceilings held =
       let a = entry.args in
-      let h = entry.pre in
-      let w = here.loop in
-      let says = c.split-zones.ensures in
-      split_hold a.d a.c a.work.now w.work split _ w.i w.zones c.split-zones.result
-      h.0 h.1 h.2 (turn read_at).loop-test.taken w.inv.1 read_at.row-costs.ensures
-      says.0 says.1 says.2 ceilings (w.inv.2 ceilings held)
+      let h = entry.requires in
+      let w = here.loop-i in
+      let says = c.split_zones-zones.ensures in
+      split_hold a.d a.c a.work.now w.work split _ w.i w.zones c.split_zones-zones.result
+      h.0 h.1 h.2 (turn read_at).loop-i-test.true w.invariant.1 read_at.row_costs-costs.ensures
+      says.0 says.1 says.2 ceilings (w.invariant.2 ceilings held)
 
-loop-again : tie.Need-loop-preserved invariant-loop decreases-loop
+loop-again : tie.Need-loop-i-preserved invariant-loop decreases-loop
 loop-again c =
     let done : Split = c.before.before in
     (omega arith, written done, hold done)
 
-pub split-all-spec : {M : Type 1} → statement M
-split-all-spec =
+pub split_all_spec : {M : Type 1} → statement M
+split_all_spec =
     tie.close
     (tie.spec
     invariant-loop
     decreases-loop
     loop-holds
     row-costs-requires
-    (λ c. omega (arith, memory (looping c)))  -- slice-relend-prefix-split-zones
+    (λ c. omega (arith, memory (looping c)))  -- slice_bounds-split_zones-end
     slice-aggregate-split-zones
     split-zones-requires
-    (λ c. search rules)  -- add-i
-    (λ c. search rules)  -- loop-less
+    (λ c. search rules)  -- overflow_add-i
+    (λ c. search rules)  -- loop-i-smaller
     loop-again
-    (λ c. c.before.loop.invariant.1.long)  -- same-length
-    (λ c. (c.before.loop.invariant.1, c.before.loop.invariant.2)))  -- returns
+    (λ c. c.loop-i.invariant.1.long)  -- shape_of-work
+    (λ c. (c.before.loop-i.invariant.1, c.before.loop-i.invariant.2)))  -- returns  -- returns

@@ -1,6 +1,6 @@
 -- `branch_search::take_leaf` meets its contract.
 use Rattle.std.proofs.Common.{◌≡◌, ℕ, ◌<◌, ◌≤◌, Bool, true, false, List, ◌++◌, length, get_or, take, drop, sym, ap, ◌∙◌, subst, arith, length-take-le, take-take, w64, rules}
-use borrow.Author.Tests.{not-true, not-false}
+use borrow.Author.Tests.{not-false}
 use Rattle.model.specs.Basics.{All}
 use Rattle.model.specs.Limits.{max_objectives}
 use Rattle.model.specs.Problems.{Word}
@@ -32,202 +32,202 @@ module _ (s : tie.Start) where
   ceilings = s.args.aim.task.ceilings
 
   abbrev few : s.args.aim.d.objectives ≤ max_objectives
-  few = s.pre.ready.planned.sensible.few
+  few = s.requires.ready.planned.sensible.few
 
   wide : max_directions ≡ length acc
-  wide = sym (array_length w64 max_directions acc _ s.good.1.0)
+  wide = sym (array_length w64 max_directions acc _ s.well_formed.1.0)
 
   long_ceilings : length (take p ceilings) ≡ p
   long_ceilings =
-      let four = aim_ceilings s.args.aim _ s.good.1.1.1.1.1.0 in
+      let four = aim_ceilings s.args.aim _ s.well_formed.1.1.1.1.1.0 in
       length-take-le p ceilings (omega (arith, few, four))
 
   -- what the archive has may be summed
   small : EachCost (λ a. a < core_sum_end) p s.args.work.now s.args.run.points
   small =
       let a = s.args in
-      let h = s.pre in
-      let four = aim_ceilings a.aim _ s.good.1.1.1.1.1.0 in
+      let h = s.requires in
+      let four = aim_ceilings a.aim _ s.well_formed.1.1.1.1.1.0 in
       archived_small a.aim.d a.aim.task a.sizes.now a.s.now a.work.now (omega (arith, few, four))
       h.ready.limited (length a.sizes.now) a.run.points a.work.now h.running.archived.reached
 
 -- the costs, which are the first numbers of the bound, were held to the ceilings
-module _ (c : tie.After-is-under) where
+module _ (c : tie.After-is_under) where
   abbrev front : List ℕ
-  front = c.before.front_of.result
+  front = c.front_of-costs.result
 
-  abbrev known : tie.After-slice-known
+  abbrev known : tie.After-slice_known-1
   known =
-      let copied = c.before.before in
-      copied.before.before.before
+      let copied = c in
+      copied.before.before.before.before.before
 
   abbrev entry : tie.Start
   entry = known.before.before.before
 
   costs : take (p entry) front ≡ take (p entry) (acc entry)
   costs =
-      ap (λ (u : List ℕ). take (p entry) u) c.before.front_of.ensures
+      ap (λ (u : List ℕ). take (p entry) u) c.front_of-costs.ensures
       ∙ take-take (p entry) max_objectives (acc entry) (few entry)
 
-  met : (t : Bool) → c.is-under.result ≡ t → under (take (p entry) (acc entry)) (take (p entry) (ceilings entry)) ≡ t
+  met : (t : Bool) → c.is_under.result ≡ t → under (take (p entry) (acc entry)) (take (p entry) (ceilings entry)) ≡ t
   met t is =
-      ap (λ (u : List ℕ). under u (take (p entry) (ceilings entry))) (sym costs) ∙ sym c.is-under.ensures ∙ is
+      ap (λ (u : List ℕ). under u (take (p entry) (ceilings entry))) (sym costs) ∙ sym c.is_under.ensures ∙ is
 
 -- it is under the ceilings and below the limit
-module _ (c : tie.Else2) where
-  abbrev tested : tie.After-is-under
+module _ (c : tie.Else-lead_of-run) where
+  abbrev tested : tie.After-is_under
   tested = c.before.before.before.before
 
   abbrev begun : tie.Start
   begun = entry tested
 
   allowed : under (take (p begun) (acc begun)) (take (p begun) (ceilings begun)) ≡ true
-  allowed = met tested true (not-false _ c.before.before.before.if1.false)
+  allowed = met tested true c.if-not-is_under.false
 
   early : get_or (acc begun) (lead_at begun.args.aim.d) 0 < begun.args.run.limit
-  early = omega (arith, c.before.before.lead_of.ensures, c.if2.false)
+  early = omega (arith, c.lead_of.ensures, c.if-lead_of-run.false)
 
   words : All Word (take (p begun) (front tested))
   words =
       let n = p begun in
-      let limits = all_take WordCeiling n (ceilings begun) begun.pre.ready.limited in
-      let long = leaf_wide begun.pre (wide begun) ∙ sym (long_ceilings begun) in
+      let limits = all_take WordCeiling n (ceilings begun) begun.requires.ready.limited in
+      let long = leaf_wide begun.requires (wide begun) ∙ sym (long_ceilings begun) in
       subst (All Word) (sym (costs tested))
       (under_ceilings (take n (acc begun)) (take n (ceilings begun)) long allowed limits)
 
 -- it was met by the archive
-module _ (c : tie.After-take-point) where
-  abbrev weights : tie.After-lead-weights
+module _ (c : tie.After-take_point-t) where
+  abbrev weights : tie.After-lead_weights-weights
   weights = c.before.before
 
-  abbrev taking : tie.Else2
+  abbrev taking : tie.Else-lead_of-run
   taking = weights.before.before.before
 
   abbrev start : tie.Start
   start = begun taking
 
   abbrev after : List ℕ
-  after = c.take-point.new.1.1.1.1.1.1.1.1.0
+  after = c.take_point-t.new.work
 
   memory : list_end ≤ length after
-  memory = omega (arith, start.pre.ready.long, c.take-point.ensures.frame.long)
+  memory = omega (arith, start.requires.ready.long, c.take_point-t.ensures.frame.long)
 
-returns : tie.Need-returns
+returns : tie.Need-returns-then-not-is_under
 returns c =
-    let t = c.before in
-    let s = entry t in
-    opened_same s.pre (λ some. over_covers s.pre (wide s) (met t false (not-true _ c.if1.true)))
+    let t = c in
+    let s = entry t.before in
+    opened_same s.requires (λ some. over_covers s.requires (wide s) (met t.before false c.if-not-is_under.true))
 
-returns-2 : tie.Need-returns-2
+returns-2 : tie.Need-returns-then-lead_of-run
 returns-2 c =
-    let h = (entry c.before.before.before.before).pre in
-    opened_same h (λ some. late_covers h (omega (arith, c.before.before.lead_of.ensures, c.if2.true)))
+    let h = (entry c.before.before.before.before).requires in
+    opened_same h (λ some. late_covers h (omega (arith, c.lead_of.ensures, c.if-lead_of-run.true)))
 
 -- no more may be met
-returns-3 : tie.Need-returns-3
+returns-3 : tie.Need-returns-then-run-eq0
 returns-3 c =
-    let e = c.before.before.before in
-    rw c.stop.ensures (opened_stopped (begun e).requires)
+    let e = c in
+    rw c.stop.ensures (opened_stopped (begun e.before.before.before).requires)
 
-take-point-requires : tie.Need-take-point-requires
+take-point-requires : tie.Need-take_point-t-requires
 take-point-requires c κs =
-    let w = c.before in
-    let e = w.before.before.before in
-    let s = begun e in
-    let h = s.pre in (
+    let w = c in
+    let e = w in
+    let s = begun e.before.before.before.before in
+    let h = s.requires in (
       omega (arith, h.ready.long),
       h.running.few,
       h.ready.room_small,
       few s,
       h.ready.planned.variables,
-      all_map Word (λ a. a < core_sum_end) (λ a l. omega arith) (take (p s) (front (tested e)))
-          (words e),
-      all_take (λ u. u ≤ max_weight) (p s) _ w.lead-weights.ensures.1,
+      all_map Word (λ a. a < core_sum_end) (λ a l. omega arith) (take (p s) (front (tested e.before.before.before.before)))
+          (words e.before.before.before.before),
+      all_take (λ u. u ≤ max_weight) (p s) _ w.lead_weights-weights.ensures.1,
       h.running.distinct,
       small s,
     )
 
 -- another may be met
-some_met : (c : tie.After-take-point) → 1 ≤ (start c).args.run.meets
-some_met c = omega (arith, (weights c).before.if3.false)
+some_met : (c : tie.After-take_point-t) → 1 ≤ (start c).args.run.meets
+some_met c = omega (arith, (weights c).if-run-eq0.false)
 
-count-met-requires : tie.Need-count-met-requires
+count-met-requires : tie.Need-count_met-requires
 count-met-requires c κs = some_met c.before.before.before.before
 
-returns-4 : tie.Need-returns-4
+returns-4 : tie.Need-returns-then-not-t
 returns-4 c =
-    let if4 = c.before in
-    let t = if4.before.before.before.before in
-    let e = taking t in
-    let s = start t in
-    let takes = weighed (weights t).lead-weights.ensures.0 t.take-point.ensures in
-    rw c.count-met.ensures
-    (leaf_kept s.pre (wide s) (allowed e) (early e) _ (costs (tested e))
-    t.take-point.result _ takes (some_met t))
+    let if4 = c in
+    let t = if4 in
+    let e = taking t.before.before.before.before.before in
+    let s = start t.before.before.before.before.before in
+    let takes = weighed (weights t.before.before.before.before.before).lead_weights-weights.ensures.0 t.take_point-t.ensures in
+    rw c.count_met.ensures
+    (leaf_kept s.requires (wide s) (allowed e) (early e) _ (costs (tested e))
+    t.take_point-t.result _ takes (some_met t.before.before.before.before.before))
 
-slice-relend-prefix-split-zones : tie.Need-slice-relend-prefix-split-zones
+slice-relend-prefix-split-zones : tie.Need-slice_bounds-split_zones-end
 slice-relend-prefix-split-zones c = omega (arith, memory c.before.before.before.before)
 
-slice-aggregate-split-zones : tie.Need-slice-aggregate-split-zones
+slice-aggregate-split-zones : tie.Need-slice_bounds-split_zones-end-2
 slice-aggregate-split-zones c =
-    let e = c.before in
-    let t = e.before.before.before.before in
-    sym (length-take-le zones_end (after t) (omega (arith, memory t)))
+    let e = c in
+    let t = e in
+    sym (length-take-le zones_end (after t.before.before.before.before.before) (omega (arith, memory t.before.before.before.before.before)))
 
-split-zones-requires : tie.Need-split-zones-requires
+split-zones-requires : tie.Need-split_zones-m-requires
 split-zones-requires c κs =
-    let e = c.before in
-    let t = e.before.before.before.before in
-    let h = (start t).requires in
-    let same = framed_zones t.take-point.ensures.frame in
-    (h.ready.planned.sensible, rw same h.running.measured, words (taking t))
+    let e = c in
+    let t = e in
+    let h = (start t.before.before.before.before.before).requires in
+    let same = framed_zones t.take_point-t.ensures.frame in
+    (h.ready.planned.sensible, rw same h.running.measured, words (taking t.before.before.before.before.before))
 
-count-met-requires-2 : tie.Need-count-met-requires-2
+count-met-requires-2 : tie.Need-count_met-requires-2
 count-met-requires-2 c κs =
-    let added = c.before.before.before.before in
-    some_met added.before.before.before.before
+    let added = c in
+    some_met added.before.before.before.before.before.before.before.before
 
-returns-5 : tie.Need-returns-5
+returns-5 : tie.Need-returns
 returns-5 c =
-    let split = c.before.before.before in
-    let z = split.split-zones.new.1.1.1.0 in
-    let m = split.split-zones.result in
-    let says = split.split-zones.ensures in
-    let added = split.before.before in
-    let t = added.before.before.before.before in
-    let e = taking t in
-    let s = start t in
+    let split = c in
+    let z = split.split_zones-m.new.zones in
+    let m = split.split_zones-m.result in
+    let says = split.split_zones-m.ensures in
+    let added = split in
+    let t = added in
+    let e = taking t.before.before.before.before.before.before.before.before.before in
+    let s = start t.before.before.before.before.before.before.before.before.before in
     let d = s.args.aim.d in
-    let work = after t in
-    let takes = weighed (weights t).lead-weights.ensures.0 t.take-point.ensures in
-    let long = lent_long d work z m says.1 (memory t) says.0 in
-    rw c.count-met2.ensures
-    (leaf_split s.pre (wide s) (allowed e) (early e) (front (tested e)) (costs (tested e))
-    t.take-point.result work takes (not-false _ added.if4.false) (z ++ drop zones_end work) m
-    (lent_same d work z m says.1 (memory t) says.0)
+    let work = after t.before.before.before.before.before.before.before.before.before in
+    let takes = weighed (weights t.before.before.before.before.before.before.before.before.before).lead_weights-weights.ensures.0 t.take_point-t.ensures in
+    let long = lent_long d work z m says.1 (memory t.before.before.before.before.before.before.before.before.before) says.0 in
+    rw c.count_met-2.ensures
+    (leaf_split s.requires (wide s) (allowed e) (early e) (front (tested e)) (costs (tested e))
+    t.take_point-t.result work takes (not-false _ added.if-not-t.false) (z ++ drop zones_end work) m
+    (lent_same d work z m says.1 (memory t.before.before.before.before.before.before.before.before.before) says.0)
     (lent_behind z (drop zones_end work) long)
-    (lent_measured d work z m says.1 (memory t) says.0)
-    (rw (lent_front z (drop zones_end work) long) says.2) (some_met t))
+    (lent_measured d work z m says.1 (memory t.before.before.before.before.before.before.before.before.before) says.0)
+    (rw (lent_front z (drop zones_end work) long) says.2) (some_met t.before.before.before.before.before.before.before.before.before))
 
-pub take-leaf-spec : {M : Type 1} → statement M
-take-leaf-spec =
+pub take_leaf_spec : {M : Type 1} → statement M
+take_leaf_spec =
     tie.close
     (tie.spec
-    (λ c κs. search rules)  -- front-of-requires
-    (λ c κs. search rules)  -- is-under-requires
+    (λ c κs. search rules)  -- front_of-costs-requires
+    (λ c κs. search rules)  -- is_under-requires
     returns
-    (λ c κs. search rules)  -- lead-of-requires
+    (λ c κs. search rules)  -- lead_of-requires
     returns-2
     (λ c κs. search rules)  -- stop-requires
     returns-3
-    (λ c κs. search rules)  -- lead-weights-requires
+    (λ c κs. search rules)  -- lead_weights-weights-requires
     take-point-requires
     count-met-requires
-    (λ c. search rules)  -- same-length
+    (λ c. search rules)  -- shape_of-work-then-not-t
     returns-4
     slice-relend-prefix-split-zones
     slice-aggregate-split-zones
     split-zones-requires
     count-met-requires-2
-    (λ c. search rules)  -- same-length-2
+    (λ c. search rules)  -- shape_of-work
     returns-5)
