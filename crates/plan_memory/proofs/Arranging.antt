@@ -49,7 +49,8 @@ module _ {r : ℕ} (few : r ≤ max_tables) where
   loose_arranged {a} {b} h =
       same_arranged h.long
       (sym (take-take r loose_at b (omega arith)) ∙ ap (take r) h.front ∙ take-take r loose_at a (omega arith))
-      (take_drop max_messages children_at b ∙ ap (drop children_at) h.front ∙ sym (take_drop max_messages children_at a))
+      (take_drop max_messages children_at b ∙ ap (drop children_at) h.front
+      ∙ sym (take_drop max_messages children_at a))
 
   -- and one after the other
   pub arranged_loose : {a b c : List ℕ} → Arranged r a b → Loose b c → Arranged r a c
@@ -89,13 +90,15 @@ module _ (r : ℕ) (few : r ≤ max_tables) (l : List ℕ) (long : loose_at ≤ 
             ) refl;
       }
 
-  pub slots_exchanged : i < max_messages → j < max_messages → Arranged r l (exchanged l (children_at + i) (children_at + j))
+  pub slots_exchanged : i < max_messages → j < max_messages
+      → Arranged r l (exchanged l (children_at + i) (children_at + j))
   slots_exchanged g h =
       let is : length (take max_messages (drop children_at l)) ≡ max_messages =
       length-take-le max_messages (drop children_at l) (omega (arith, length-drop children_at l)) in
       let part = exchange_part l children_at max_messages i j g h in
       let front : take r (exchanged l (children_at + i) (children_at + j)) ≡ take r l = take-set-le r
-      (set l (children_at + i) (get_or l (children_at + j) 0)) (children_at + j) (get_or l (children_at + i) 0) (omega arith)
+      (set l (children_at + i) (get_or l (children_at + j) 0)) (children_at + j) (get_or l (children_at + i) 0)
+      (omega arith)
       ∙ take-set-le r l (children_at + i) (get_or l (children_at + j) 0) (omega arith) in
       let gl : i < length (take max_messages (drop children_at l)) = omega arith in
       let hl : j < length (take max_messages (drop children_at l)) = omega arith in

@@ -32,16 +32,21 @@ module _ (w : List ℕ) (i : ℕ) (long : loose_at ≤ length w) where
 
 -- what stands before the slots is kept, and they hold the numbers
 module _ (w : List ℕ) (long : loose_at ≤ length w) where
-  pub filled_front : (r : ℕ) → r ≤ max_tables → take r (over w children_at (count_from 0 max_messages) loose_at) ≡ take r w
+  pub filled_front : (r : ℕ) → r ≤ max_tables
+      → take r (over w children_at (count_from 0 max_messages) loose_at) ≡ take r w
   filled_front r few =
-      over_front w children_at (count_from 0 max_messages) loose_at (omega (arith, count_from_length 0 max_messages)) long r
+      over_front w children_at (count_from 0 max_messages) loose_at (omega (arith, count_from_length 0 max_messages))
+      long r
       (omega arith)
 
   pub filled_slots :
-      take max_messages (drop children_at (over w children_at (count_from 0 max_messages) loose_at)) ≡ count_from 0 max_messages
+      take max_messages (drop children_at (over w children_at (count_from 0 max_messages) loose_at))
+      ≡ count_from 0 max_messages
   filled_slots =
       rw (count_from_length 0 max_messages)
-      at (over_here w children_at (count_from 0 max_messages) loose_at (omega (arith, count_from_length 0 max_messages)) long)
+      at
+      (over_here w children_at (count_from 0 max_messages) loose_at
+      (omega (arith, count_from_length 0 max_messages)) long)
 
 -- a plan whose slots are filled, and what is made of it
 module _ {d : DD.Directions} {r : ℕ} {ds s w b : List ℕ} (p : Planned d r ds s w)

@@ -9,37 +9,37 @@ use borrow.Author.Rules.{rules}
 use Rattle.plan_memory.proofs.gather_slots.Statement.{statement}
 use Rattle.plan_memory.proofs.gather_slots.Tie as tie
 
-abbrev invariant-loop : tie.invariant-loop
+abbrev invariant-loop : tie.invariant-loop-i
 invariant-loop needed allowed from to r plan₀ end₀ i₀ plan end i = Arranged r plan₀ plan × (end ≤ i)
 
-abbrev decreases-loop : tie.decreases-loop
+abbrev decreases-loop : tie.decreases-loop-i
 decreases-loop needed allowed from to r plan₀ end₀ i₀ plan end i = to - i
 
-loop-again : tie.Need-loop-preserved invariant-loop decreases-loop
+loop-again : tie.Need-loop-i-preserved invariant-loop decreases-loop
 loop-again c =
-    let w = c.before.before.before.before.before.before.before.before.loop in
+    let w = c.loop-i in
     ⊎_elim
-    (λ t. rw (t.5, t.6) (arranged_trans w.invariant.0 t.2.ensures, omega arith))
-    (λ t. rw (t.1, t.2) (w.invariant.0, omega arith))
-    c.if2.branch
+    (λ t. rw (t.plan-is, t.end-is) (arranged_trans w.invariant.0 t.exchange_slots.ensures, omega arith))
+    (λ t. rw (t.plan-is, t.end-is) (w.invariant.0, omega arith))
+    c.if-is_between.branch-raw
 
-pub gather-slots-spec : {M : Type 1} → statement M
-gather-slots-spec =
+pub gather_slots_spec : {M : Type 1} → statement M
+gather_slots_spec =
     tie.close
     (tie.spec
     invariant-loop
     decreases-loop
-    (λ c. (arranged_refl _ _, search rules))  -- loop-holds
-    (λ c. search rules)  -- same-length
-    (λ c. c.before.before.loop.invariant.0)  -- returns
-    (λ c. search rules)  -- add-number-at
-    (λ c κs. search rules)  -- number-at-requires
-    (λ c κs. search rules)  -- message-scope-requires
-    (λ c κs. search rules)  -- is-between-requires
-    (λ c κs. search rules)  -- exchange-slots-requires
-    (λ c. search rules)  -- add-end
-    (λ c. search rules)  -- add-i
-    (λ c. search rules)  -- loop-less
+    (λ c. (arranged_refl _ _, search rules))  -- loop-i-init
+    (λ c. search rules)  -- shape_of-plan-then-i-ge-MAX_MESSAGES
+    (λ c. c.loop-i.invariant.0)  -- returns-then-i-ge-MAX_MESSAGES
+    (λ c. search rules)  -- overflow_add-i
+    (λ c κs. search rules)  -- number_at-requires
+    (λ c κs. search rules)  -- message_scope-set-requires
+    (λ c κs. search rules)  -- is_between-requires
+    (λ c κs. search rules)  -- exchange_slots-requires
+    (λ c. search rules)  -- overflow_add-end
+    (λ c. search rules)  -- overflow_add-i-in-loop-i
+    (λ c. search rules)  -- loop-i-smaller
     loop-again
-    (λ c. search rules)  -- same-length-2
-    (λ c. search rules))  -- returns-2
+    (λ c. search rules)  -- shape_of-plan
+    (λ c. search rules))  -- returns

@@ -6,28 +6,29 @@ use borrow.Author.Rules.{rules}
 use Rattle.plan_order.proofs.best_of.Statement.{statement}
 use Rattle.plan_order.proofs.best_of.Tie as tie
 
-abbrev invariant-loop : tie.invariant-loop
+abbrev invariant-loop : tie.invariant-loop-v
 invariant-loop links left sizes kind n best₀ found₀ v₀ best found v = (best < 24) × (v ≤ n) × (n ≤ 24)
 
-abbrev decreases-loop : tie.decreases-loop
+abbrev decreases-loop : tie.decreases-loop-v
 decreases-loop links left sizes kind n best₀ found₀ v₀ best found v = n - v
 
-loop-again : tie.Need-loop-preserved invariant-loop decreases-loop
+loop-again : tie.Need-loop-v-preserved invariant-loop decreases-loop
 loop-again c =
-    let w = c.before.before.before.before.loop in
-    ⊎_elim (λ t. rw t.1 (omega arith, omega arith, w.invariant.2)) (λ t. rw t.1 (w.invariant.0, omega arith, w.invariant.2))
-    c.if1.branch
+    let w = c.loop-v in
+    ⊎_elim (λ t. rw t.best-is (omega arith, omega arith, w.invariant.2))
+    (λ t. rw t.best-is (w.invariant.0, omega arith, w.invariant.2))
+    c.if-is_better.branch-raw
 
-pub best-of-spec : {M : Type 1} → statement M
-best-of-spec =
+pub best_of_spec : {M : Type 1} → statement M
+best_of_spec =
     tie.close
     (tie.spec
     invariant-loop
     decreases-loop
-    (λ c. search rules)  -- loop-holds
-    (λ c κs. search rules)  -- score-of-requires
-    (λ c κs. search rules)  -- is-better-requires
-    (λ c. search rules)  -- add-v
-    (λ c. search rules)  -- loop-less
+    (λ c. search rules)  -- loop-v-init
+    (λ c κs. search rules)  -- score_of-score-requires
+    (λ c κs. search rules)  -- is_better-requires
+    (λ c. search rules)  -- overflow_add-v
+    (λ c. search rules)  -- loop-v-smaller
     loop-again
     (λ c. search rules))  -- returns

@@ -8,39 +8,39 @@ use borrow.Author.Rules.{rules}
 use Rattle.plan_order.proofs.fill_of.Statement.{statement}
 use Rattle.plan_order.proofs.fill_of.Tie as tie
 
-abbrev invariant-loop : tie.invariant-loop
+abbrev invariant-loop : tie.invariant-loop-v
 invariant-loop near sizes links fill₀ v₀ fill v = (length links ≡ 24) × (fill ≤ 1560600 * v) × (v ≤ 24)
 
-abbrev decreases-loop : tie.decreases-loop
+abbrev decreases-loop : tie.decreases-loop-v
 decreases-loop near sizes links fill₀ v₀ fill v = 24 - v
 
-product : (c : tie.After-sizes-of invariant-loop decreases-loop) → c.before.size_in.result * c.sizes_of_lem.result ≤ 1560600
-product c = mul-le-mul c.before.size_in.ensures c.sizes_of_lem.ensures
+product : (c : tie.After-sizes_of invariant-loop decreases-loop) → c.size_in.result * c.sizes_of.result ≤ 1560600
+product c = mul-le-mul c.size_in.ensures c.sizes_of.ensures
 
-mul-fill : tie.Need-overflow-mul-fill invariant-loop decreases-loop
+mul-fill : tie.Need-overflow_mul-fill invariant-loop decreases-loop
 mul-fill c = omega (arith, product c)
 
-add-fill : tie.Need-overflow-add-fill invariant-loop decreases-loop
+add-fill : tie.Need-overflow_add-fill invariant-loop decreases-loop
 add-fill c = omega (arith, product c)
 
-loop-again : tie.Need-loop-preserved invariant-loop decreases-loop
+loop-again : tie.Need-loop-v-preserved invariant-loop decreases-loop
 loop-again c = (search rules, omega (arith, product c), omega arith)
 
-pub fill-of-spec : {M : Type 1} → statement M
-fill-of-spec =
+pub fill_of_spec : {M : Type 1} → statement M
+fill_of_spec =
     tie.close
     (tie.spec
     invariant-loop
     decreases-loop
-    (λ c. search rules)  -- loop-holds
-    (λ c. search rules)  -- mul-apart
-    (λ c. search rules)  -- array-read-apart
+    (λ c. search rules)  -- loop-v-init
+    (λ c. search rules)  -- offset_bounds-links-v
+    (λ c. search rules)  -- bounds-links-v
     (λ c κs. search rules)  -- bit-requires
-    (λ c κs. search rules)  -- size-in-requires
-    (λ c κs. search rules)  -- sizes-of-requires
+    (λ c κs. search rules)  -- size_in-requires
+    (λ c κs. search rules)  -- sizes_of-requires
     mul-fill
     add-fill
-    (λ c. search rules)  -- add-v
-    (λ c. search rules)  -- loop-less
+    (λ c. search rules)  -- overflow_add-v
+    (λ c. search rules)  -- loop-v-smaller
     loop-again
     (λ c. search rules))  -- returns

@@ -6,25 +6,25 @@ use borrow.Author.Rules.{rules}
 use Rattle.plan_order.proofs.linked.Statement.{statement}
 use Rattle.plan_order.proofs.linked.Tie as tie
 
-abbrev invariant-loop : tie.invariant-loop
+abbrev invariant-loop : tie.invariant-loop-v
 invariant-loop set more₀ v₀ more v = (length more ≡ 24) × (v ≤ 24)
 
-abbrev decreases-loop : tie.decreases-loop
+abbrev decreases-loop : tie.decreases-loop-v
 decreases-loop set more₀ v₀ more v = 24 - v
 
-pub linked-spec : {M : Type 1} → statement M
-linked-spec =
+pub linked_spec : {M : Type 1} → statement M
+linked_spec =
     tie.close
     (tie.spec
     invariant-loop
     decreases-loop
-    (λ c. search rules)  -- loop-holds
-    (λ c. search rules)  -- mul-link
-    (λ c. search rules)  -- array-read-link
+    (λ c. search rules)  -- loop-v-init
+    (λ c. search rules)  -- offset_bounds-more-v
+    (λ c. search rules)  -- bounds-more-v
     (λ c κs. search rules)  -- link-requires
-    (λ c. search rules)  -- mul-more
-    (λ c. search rules)  -- array-write-more
-    (λ c. search rules)  -- add-v
-    (λ c. search rules)  -- loop-less
-    (λ c. search rules)  -- loop-again
+    (λ c. search rules)  -- offset_bounds-more-v-in-loop-v
+    (λ c. search rules)  -- bounds-more-v-in-loop-v
+    (λ c. search rules)  -- overflow_add-v
+    (λ c. search rules)  -- loop-v-smaller
+    (λ c. search rules)  -- loop-v-preserved
     (λ c. search rules))  -- returns

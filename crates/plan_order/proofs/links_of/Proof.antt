@@ -6,23 +6,23 @@ use borrow.Author.Rules.{rules}
 use Rattle.plan_order.proofs.links_of.Statement.{statement}
 use Rattle.plan_order.proofs.links_of.Tie as tie
 
-abbrev invariant-loop : tie.invariant-loop
+abbrev invariant-loop : tie.invariant-loop-i
 invariant-loop s r plan links₀ i₀ links i = (length links ≡ 24)
 
-abbrev decreases-loop : tie.decreases-loop
+abbrev decreases-loop : tie.decreases-loop-i
 decreases-loop s r plan links₀ i₀ links i = r - i
 
-pub links-of-spec : {M : Type 1} → statement M
-links-of-spec =
+pub links_of_spec : {M : Type 1} → statement M
+links_of_spec =
     tie.close
     (tie.spec
     invariant-loop
     decreases-loop
-    (λ c. search rules)  -- loop-holds
-    (λ c κs. search rules)  -- number-at-requires
-    (λ c κs. search rules)  -- record-scope-requires
-    (λ c κs. search rules)  -- linked-requires
-    (λ c. search rules)  -- add-i
-    (λ c. search rules)  -- loop-less
-    (λ c. search rules)  -- loop-again
+    (λ c. search rules)  -- loop-i-init
+    (λ c κs. search rules)  -- number_at-requires
+    (λ c κs. search rules)  -- record_scope-requires
+    (λ c κs. search rules)  -- linked-next-requires
+    (λ c. search rules)  -- overflow_add-i
+    (λ c. search rules)  -- loop-i-smaller
+    (λ c. search rules)  -- loop-i-preserved
     (λ c. search rules))  -- returns

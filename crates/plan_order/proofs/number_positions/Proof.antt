@@ -6,28 +6,28 @@ use borrow.Author.Rules.{rules}
 use Rattle.plan_order.proofs.number_positions.Statement.{statement}
 use Rattle.plan_order.proofs.number_positions.Tie as tie
 
-abbrev invariant-loop : tie.invariant-loop
+abbrev invariant-loop : tie.invariant-loop-v
 invariant-loop plan₀ v₀ plan v = Loose plan₀ plan × (v ≤ 24)
 
-abbrev decreases-loop : tie.decreases-loop
+abbrev decreases-loop : tie.decreases-loop-v
 decreases-loop plan₀ v₀ plan v = 24 - v
 
-loop-again : tie.Need-loop-preserved invariant-loop decreases-loop
+loop-again : tie.Need-loop-v-preserved invariant-loop decreases-loop
 loop-again c =
-    let w = c.before.before.before.before.before.loop in
-    (loose_trans w.invariant.0 c.before.before.put.ensures, search rules)
+    let w = c.loop-v in
+    (loose_trans w.invariant.0 c.put.ensures, search rules)
 
-pub number-positions-spec : {M : Type 1} → statement M
-number-positions-spec =
+pub number_positions_spec : {M : Type 1} → statement M
+number_positions_spec =
     tie.close
     (tie.spec
     invariant-loop
     decreases-loop
-    (λ c. (loose_refl _, search rules))  -- loop-holds
-    (λ c. search rules)  -- add-put
+    (λ c. (loose_refl _, search rules))  -- loop-v-init
+    (λ c. search rules)  -- overflow_add-v
     (λ c κs. search rules)  -- put-requires
-    (λ c. search rules)  -- add-v
-    (λ c. search rules)  -- loop-less
+    (λ c. search rules)  -- overflow_add-v-in-loop-v
+    (λ c. search rules)  -- loop-v-smaller
     loop-again
-    (λ c. search rules)  -- same-length
+    (λ c. search rules)  -- shape_of-plan
     (λ c. search rules))  -- returns

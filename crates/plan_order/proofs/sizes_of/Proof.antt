@@ -4,22 +4,22 @@ use borrow.Author.Rules.{rules}
 use Rattle.plan_order.proofs.sizes_of.Statement.{statement}
 use Rattle.plan_order.proofs.sizes_of.Tie as tie
 
-abbrev invariant-loop : tie.invariant-loop
+abbrev invariant-loop : tie.invariant-loop-v
 invariant-loop set sizes sum₀ v₀ sum v = (sum ≤ 255 * v) × (v ≤ 24)
 
-abbrev decreases-loop : tie.decreases-loop
+abbrev decreases-loop : tie.decreases-loop-v
 decreases-loop set sizes sum₀ v₀ sum v = 24 - v
 
-pub sizes-of-spec : {M : Type 1} → statement M
-sizes-of-spec =
+pub sizes_of_spec : {M : Type 1} → statement M
+sizes_of_spec =
     tie.close
     (tie.spec
     invariant-loop
     decreases-loop
-    (λ c. search rules)  -- loop-holds
-    (λ c κs. search rules)  -- size-in-requires
-    (λ c. search rules)  -- add-sum
-    (λ c. search rules)  -- add-v
-    (λ c. search rules)  -- loop-less
-    (λ c. search rules)  -- loop-again
+    (λ c. search rules)  -- loop-v-init
+    (λ c κs. search rules)  -- size_in-sum-requires
+    (λ c. search rules)  -- overflow_add-sum
+    (λ c. search rules)  -- overflow_add-v
+    (λ c. search rules)  -- loop-v-smaller
+    (λ c. search rules)  -- loop-v-preserved
     (λ c. search rules))  -- returns

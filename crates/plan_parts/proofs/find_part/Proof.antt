@@ -6,25 +6,25 @@ use borrow.Author.Rules.{rules}
 use Rattle.plan_parts.proofs.find_part.Statement.{statement}
 use Rattle.plan_parts.proofs.find_part.Tie as tie
 
-abbrev invariant-loop : tie.invariant-loop
+abbrev invariant-loop : tie.invariant-loop-g
 invariant-loop set join most count sets g₀ g = (length sets ≡ 64) × (g ≤ 64)
 
-abbrev decreases-loop : tie.decreases-loop
+abbrev decreases-loop : tie.decreases-loop-g
 decreases-loop set join most count sets g₀ g = 64 - g
 
-pub find-part-spec : {M : Type 1} → statement M
-find-part-spec =
+pub find_part_spec : {M : Type 1} → statement M
+find_part_spec =
     tie.close
     (tie.spec
     invariant-loop
     decreases-loop
-    (λ c. search rules)  -- loop-holds
-    (λ c. search rules)  -- returns
-    (λ c. search rules)  -- mul-is-part-for
-    (λ c. search rules)  -- array-read-is-part-for
-    (λ c κs. search rules)  -- is-part-for-requires
-    (λ c. search rules)  -- returns-2
-    (λ c. search rules)  -- add-g
-    (λ c. search rules)  -- loop-less
-    (λ c. search rules)  -- loop-again
-    (λ c. search rules))  -- returns-3
+    (λ c. search rules)  -- loop-g-init
+    (λ c. search rules)  -- returns-then-count-g
+    (λ c. search rules)  -- offset_bounds-sets-g
+    (λ c. search rules)  -- bounds-sets-g
+    (λ c κs. search rules)  -- is_part_for-requires
+    (λ c. search rules)  -- returns-then-is_part_for
+    (λ c. search rules)  -- overflow_add-g
+    (λ c. search rules)  -- loop-g-smaller
+    (λ c. search rules)  -- loop-g-preserved
+    (λ c. search rules))  -- returns
