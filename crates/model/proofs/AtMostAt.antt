@@ -16,7 +16,8 @@ at_most_each [] v e h = tt
 at_most_each (x ∷ u) [] e h = tt
 at_most_each (x ∷ u) (y ∷ v) e h = (h 0 (omega arith), at_most_each u v (omega arith) (λ j l. h (suc j) (omega arith)))
 
-pub at_most_at : (u v : List ℕ) → length u ≡ length v → AtMost u v → (j : ℕ) → j < length u → get_or u j 0 ≤ get_or v j 0
+pub at_most_at : (u v : List ℕ) → length u ≡ length v → AtMost u v → (j : ℕ) → j < length u
+    → get_or u j 0 ≤ get_or v j 0
 at_most_at [] v e h j l = absurd (omega arith)
 at_most_at (x ∷ u) [] e h j l = absurd (omega arith)
 at_most_at (x ∷ u) (y ∷ v) e h zero l = h.0

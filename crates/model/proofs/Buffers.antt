@@ -118,7 +118,8 @@ module _ (q : Problem) (ps : List Point) (v : Verdict) (right : v.number ≡ 0 �
   module _ (costs choices : List ℕ) (few : v.number ≡ 0 → length ps ≤ room_of q costs choices) where
     pub costs_left : Kept v costs_end costs (costs_after costs)
     costs_left =
-        kept v (flat_costs ps) costs_end costs (λ h. (costs_all h, rw h (costs_fit q costs choices (length ps) (few h))))
+        kept v (flat_costs ps) costs_end costs
+        (λ h. (costs_all h, rw h (costs_fit q costs choices (length ps) (few h))))
 
     pub choices_left : Kept v choices_end choices (choices_after choices)
     choices_left =

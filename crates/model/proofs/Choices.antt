@@ -31,7 +31,8 @@ first_in_lem v y [] m = absurd (in-none m)
 first_in_lem v y (c ∷ cs) m =
     ⊎_elim (λ e. (c, e, here refl)) (λ n. let (x, e, i) = first_in_lem v y cs n in (x, e, there i)) (in-cases m)
 
-in_firsts : (n v k : ℕ) {x : List ℕ} (cs : List (List ℕ)) → In x cs → k ≤ v → v < n + k → In (v ∷ x) (firsts_from n k cs)
+in_firsts : (n v k : ℕ) {x : List ℕ} (cs : List (List ℕ)) → In x cs → k ≤ v → v < n + k
+    → In (v ∷ x) (firsts_from n k cs)
 unfolding firsts_from
 in_firsts zero v k cs m h g = absurd (omega arith)
 in_firsts (suc n) v k {x} cs m h g =

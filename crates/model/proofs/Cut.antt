@@ -89,7 +89,8 @@ unfolding sides_ok
 sides_all q ss h = and_right (eqb (length ss) (length q.domains)) (all_sides ss) h
 
 -- the sides and the costs do not depend on the ceilings
-pub sides_with : (cs : List ℕ) (q : Problem) (ss : List ℕ) → sides_ok q ss ≡ true → sides_ok (with_ceilings cs q) ss ≡ true
+pub sides_with : (cs : List ℕ) (q : Problem) (ss : List ℕ) → sides_ok q ss ≡ true
+    → sides_ok (with_ceilings cs q) ss ≡ true
 unfolding sides_ok
 sides_with cs q ss h = h
 

@@ -9,7 +9,7 @@ use Rattle.model.specs.Basics.{pick}
 use Rattle.model.specs.Limits.{max_points}
 use Rattle.model.specs.Refusals.{work_short, bad_sides, linked, full, bad_prefix, Verdict, verdict, accepted, first}
 use Rattle.model.specs.Problems.{Problem}
-use Rattle.model.specs.Reading.{verdict_of, problem_of, places_of, head_tables, domains_of, tables_start}
+use Rattle.model.specs.Reading.{problem_of, places_of, head_tables, domains_of, tables_start}
 use Rattle.model.specs.Frontiers.{Point, frontier}
 use Rattle.model.specs.Bounds.{prefix_ok}
 use Rattle.model.specs.Cuts.{sides_ok, linked_verdict, half, cut_list, half_size}
@@ -129,7 +129,8 @@ bound_leaves s prefix =
     let own = bad_prefix ∷ [] in
     let ok = prefix_ok (problem_of s).domains prefix in
     record {
-      told = told s own [] (pick ok accepted (verdict bad_prefix 0)) (own_refuses own [] bad_prefix (here refl) refl ok);
+      told =
+          told s own [] (pick ok accepted (verdict bad_prefix 0)) (own_refuses own [] bad_prefix (here refl) refl ok);
       answered = λ h. rw h refl;
       refused = λ h. rw (refuses (bound_verdict s prefix) h) refl;
     }

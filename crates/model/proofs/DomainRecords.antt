@@ -94,7 +94,8 @@ domains_end (suc n) s at h e =
           both.1,
     )
 
-pub domain_sizes : (n : ℕ) (s : List ℕ) (at : ℕ) → (domains_verdict n s at).number ≡ 0 → All DomainSize (domains_at n s at)
+pub domain_sizes : (n : ℕ) (s : List ℕ) (at : ℕ) → (domains_verdict n s at).number ≡ 0
+    → All DomainSize (domains_at n s at)
 unfolding domains_verdict domains_at
 domain_sizes zero s at h = tt
 domain_sizes (suc n) s at h =

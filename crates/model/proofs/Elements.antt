@@ -63,7 +63,8 @@ module _ {A : Type 0} (P : A → Type 0) where
   all_set (y ∷ xs) (suc i) x h p = (h.0, all_set xs i x h.1 p)
 
   -- of a front, at a place; and of another list's front, place by place
-  pub front_each : (d : A) (p : ℕ) (xs : List A) → p ≤ length xs → All P (take p xs) → (i : ℕ) → i < p → P (get_or xs i d)
+  pub front_each : (d : A) (p : ℕ) (xs : List A) → p ≤ length xs → All P (take p xs) → (i : ℕ) → i < p
+      → P (get_or xs i d)
   front_each d p xs long h i l =
       rw (get_or-take p xs i d l) at (all_below (take p xs) h i d (omega (arith, length-take-le p xs long)))
 
@@ -88,4 +89,5 @@ module _ {A : Type 0} where
   pub in_at : {a : A} (xs : List A) (d : A) → In a xs → (i : ℕ) × (i < length xs) × (a ≡ get_or xs i d)
   in_at {a = a} [] d m = absurd (in-none m)
   in_at {a = a} (x ∷ xs) d m =
-      ⊎_elim (λ e. (0, omega arith, e)) (λ n. let (i, l, e) = in_at {a = a} xs d n in (suc i, omega arith, e)) (in-cases m)
+      ⊎_elim (λ e. (0, omega arith, e)) (λ n. let (i, l, e) = in_at {a = a} xs d n in (suc i, omega arith, e))
+      (in-cases m)

@@ -89,7 +89,8 @@ module _ (f g : List ℕ → Bool) (q r : Problem) where
   unfolding frontier_by
   frontier_agrees sizes same costs =
       let ds = q.domains in
-      ap best (points_agree (choices ds) (λ x m. same x (choices_in_lem ds x m)) (λ x m. costs x (choices_in_lem ds x m)))
+      ap best
+      (points_agree (choices ds) (λ x m. same x (choices_in_lem ds x m)) (λ x m. costs x (choices_in_lem ds x m)))
       ∙ ap (λ (es : List ℕ). best (points_by g r (choices es))) sizes
 
 -- what it is to be consistent: no forbidden entry is met, and the ceilings are kept

@@ -56,7 +56,8 @@ one_half ss a (v ∷ vs) h =
     (side_of ss a v)
   where
     both : {A : Type 0} (u w : ℕ) → In u (v ∷ vs) → In w (v ∷ vs) → get_or ss u 0 ≡ 0 → get_or ss w 0 ≡ 1 → A
-    both u w m n e d = absurd (true_false (and_both (has_side_lem 0 ss (v ∷ vs) u m e) (has_side_lem 1 ss (v ∷ vs) w n d)) h)
+    both u w m n e d =
+        absurd (true_false (and_both (has_side_lem 0 ss (v ∷ vs) u m e) (has_side_lem 1 ss (v ∷ vs) w n d)) h)
 
 -- the first of uncrossed records, and the others
 pub uncrossed_first : (ss : List ℕ) (t : Table) (ts : List Table) → uncrossed ss (t ∷ ts) ≡ true → crosses ss t ≡ false
@@ -90,7 +91,8 @@ module _ (ss : List ℕ) (all : all_sides ss ≡ true) (ds zs : List ℕ) (long 
   in_part k = cost_of (on_side k ss ds) (on_side k ss zs)
 
   total_parts : (o : ℕ) (ts : List Table) → uncrossed ss ts ≡ true
-      → total o (cost_of ds zs) ts ≡ total o (in_part 0) (half_tables 0 ss ts) + total o (in_part 1) (half_tables 1 ss ts)
+      → total o (cost_of ds zs) ts
+      ≡ total o (in_part 0) (half_tables 0 ss ts) + total o (in_part 1) (half_tables 1 ss ts)
   unfolding total half_tables crosses
   total_parts o [] h = refl
   total_parts o (t ∷ ts) h =

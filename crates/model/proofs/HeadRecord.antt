@@ -91,7 +91,8 @@ module _ (q : Problem) (rest : List ℕ) (rules : RecordRules q) where
 -- ## from bytes to fields
 
 fields_written : (s : List ℕ) → All Byte s → GoodHead s
-    → two_bytes (head_tables s) ++ word_bytes (words_in (head_objectives s) (drop 6 s)) ++ drop (head_length s) s ≡ drop 4 s
+    → two_bytes (head_tables s) ++ word_bytes (words_in (head_objectives s) (drop 6 s)) ++ drop (head_length s) s
+    ≡ drop 4 s
 fields_written s b g =
     let p = head_objectives s in
     let count : two_bytes (word2 0 (drop 4 s)) ++ drop 2 (drop 4 s) ≡ drop 4 s =

@@ -112,7 +112,8 @@ least_below ds pre t x c ag = rw (← least_whole ds x t c) (least_grows ds pre 
 
 -- only the sizes and values of a scope's variables matter to its entry
 pub entry_same : (ds es x y : List ℕ) (i : ℕ) (vs : List ℕ)
-    → All (λ v. (get_or ds v 0 ≡ get_or es v 0) × (get_or x v 0 ≡ get_or y v 0)) vs → entry_from i ds vs x ≡ entry_from i es vs y
+    → All (λ v. (get_or ds v 0 ≡ get_or es v 0) × (get_or x v 0 ≡ get_or y v 0)) vs
+    → entry_from i ds vs x ≡ entry_from i es vs y
 unfolding entry_from
 entry_same ds es x y i [] h = refl
 entry_same ds es x y i (v ∷ vs) h =

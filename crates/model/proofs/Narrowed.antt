@@ -76,7 +76,8 @@ narrowed_choice k (s ∷ ss) (d ∷ ds) (x ∷ y) e low c =
     (narrowed_choice k ss ds y (omega arith) low.1 (and_right (ltb x size) _ c))
 
 pub narrowed_part : (k : ℕ) (ss ds y : List ℕ) → length ds ≡ length ss → is_choice ds y ≡ true
-    → (z : List ℕ) × (is_choice (narrowed k ss ds) z ≡ true) × ((v : ℕ) → get_or ss v 0 ≡ k → get_or z v 0 ≡ get_or y v 0)
+    → (z : List ℕ) × (is_choice (narrowed k ss ds) z ≡ true)
+    × ((v : ℕ) → get_or ss v 0 ≡ k → get_or z v 0 ≡ get_or y v 0)
 narrowed_part k ss ds y long c =
     let part = spread_choice k ss ds (on_side k ss y) long (part_choice_lem k ss ds y c) in
     let z = spread k ss (on_side k ss y) in
@@ -99,13 +100,15 @@ module _ (ds es pre : List ℕ) (entry : ℕ → ℕ) where
       rw (le-ltb v (length pre) h.0.0, le-ltb v 0 (omega arith), h.0.1)
       (ap (least_to (get_or es v 0 - 1)) (fun_ext (λ a. from_same (i * get_or es v 0 + a) vs h.1)))
 
-pub least_same : (ds es pre : List ℕ) (t : Table) → All (λ v. (length pre ≤ v) × (get_or ds v 0 ≡ get_or es v 0)) t.scope
+pub least_same : (ds es pre : List ℕ) (t : Table)
+    → All (λ v. (length pre ≤ v) × (get_or ds v 0 ≡ get_or es v 0)) t.scope
     → least_of ds pre t ≡ least_of es [] t
 unfolding least_of
 least_same ds es pre t h = from_same ds es pre (λ i. get_or t.costs i 0) 0 t.scope h
 
 cost_same : (ds es x y : List ℕ) (t : Table)
-    → All (λ v. (get_or ds v 0 ≡ get_or es v 0) × (get_or x v 0 ≡ get_or y v 0)) t.scope → cost_of ds x t ≡ cost_of es y t
+    → All (λ v. (get_or ds v 0 ≡ get_or es v 0) × (get_or x v 0 ≡ get_or y v 0)) t.scope
+    → cost_of ds x t ≡ cost_of es y t
 unfolding cost_of
 cost_same ds es x y t h = ap (λ (i : ℕ). get_or t.costs i 0) (entry_same ds es x y 0 t.scope h)
 
@@ -122,5 +125,6 @@ module _ (k : ℕ) (ss ds : List ℕ) (long : length ds ≡ length ss) (t : Tabl
       → cost_of (narrowed k ss ds) z t ≡ cost_of ds y t
   narrowed_cost z y h =
       cost_same (narrowed k ss ds) ds z y t
-      (all_map (λ v. get_or ss v 0 ≡ k) (λ v. (get_or (narrowed k ss ds) v 0 ≡ get_or ds v 0) × (get_or z v 0 ≡ get_or y v 0))
+      (all_map (λ v. get_or ss v 0 ≡ k)
+      (λ v. (get_or (narrowed k ss ds) v 0 ≡ get_or ds v 0) × (get_or z v 0 ≡ get_or y v 0))
       (λ v e. (narrowed_at k ss ds long v e, h v e)) t.scope (within_all k ss t.scope inside))

@@ -19,7 +19,8 @@ choice_prefix [] (a ∷ x) h = h
 choice_prefix (d ∷ ds) [] h = refl
 choice_prefix (d ∷ ds) (a ∷ x) h = and_both (and_left (ltb a d) _ h) (choice_prefix ds x (and_right (ltb a d) _ h))
 
-pub prefix_below : (ds pre : List ℕ) → prefix_ok ds pre ≡ true → (v : ℕ) → v < length pre → get_or pre v 0 < get_or ds v 0
+pub prefix_below : (ds pre : List ℕ) → prefix_ok ds pre ≡ true → (v : ℕ) → v < length pre
+    → get_or pre v 0 < get_or ds v 0
 unfolding prefix_ok
 prefix_below ds [] h v l = absurd (omega arith)
 prefix_below [] (p ∷ pre) h v l = absurd (false≢true h)

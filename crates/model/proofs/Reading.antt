@@ -52,7 +52,8 @@ pub record Accepted (s : List ℕ) : Type 0 where
 pub accepted_parts : (s : List ℕ) → (verdict_of s).number ≡ 0 → Accepted s
 unfolding verdict_of body_verdict
 accepted_parts s h =
-    let whole = test_accepts (ltb max_bytes (length s)) oversize 0 (first (refused_at 0 (head_number s)) (body_verdict s))
+    let whole =
+    test_accepts (ltb max_bytes (length s)) oversize 0 (first (refused_at 0 (head_number s)) (body_verdict s))
     refl h in
     let head = record_accepts 0 (head_number s) (body_verdict s) whole.1 in
     let body = first_accepts (domains_verdict (head_variables s) s (head_length s))

@@ -63,7 +63,8 @@ pub record Joined (ss ds xs ys : List ℕ) : Type 0 where
   pub zero_part : on_side 0 ss (merged ss xs ys) ≡ xs
   pub one_part : on_side 1 ss (merged ss xs ys) ≡ ys
 
-pub joined : (ss ds xs ys : List ℕ) → all_sides ss ≡ true → length ds ≡ length ss → is_choice (on_side 0 ss ds) xs ≡ true
+pub joined : (ss ds xs ys : List ℕ) → all_sides ss ≡ true → length ds ≡ length ss
+    → is_choice (on_side 0 ss ds) xs ≡ true
     → is_choice (on_side 1 ss ds) ys ≡ true → Joined ss ds xs ys
 unfolding on_side is_choice merged
 joined [] [] [] [] a e h k = record { whole = refl; zero_part = refl; one_part = refl }

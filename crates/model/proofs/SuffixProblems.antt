@@ -169,4 +169,5 @@ suffix_gains q o k gains low below wide others early later =
     go i j m l (inr a) (inl b) =
         let e : i ≡ o = omega (arith, ltb-false i o a) in
         rw e
-        (later_gain q o k below low j (get_or (gains j) o 0) (omega (arith, ltb-true k j b)) (later j (ltb-true k j b) l))
+        (later_gain q o k below low j (get_or (gains j) o 0) (omega (arith, ltb-true k j b))
+        (later j (ltb-true k j b) l))

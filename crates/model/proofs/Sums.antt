@@ -21,7 +21,8 @@ added_length (a ∷ xs) [] e = absurd (omega arith)
 added_length (a ∷ xs) (b ∷ bs) e = ap suc (added_length xs bs (omega arith))
 
 -- number by number, of two vectors in a row, and the first p
-pub added_at : (xs bs : List ℕ) → length xs ≡ length bs → (j : ℕ) → get_or (added xs bs) j 0 ≡ get_or xs j 0 + get_or bs j 0
+pub added_at : (xs bs : List ℕ) → length xs ≡ length bs → (j : ℕ)
+    → get_or (added xs bs) j 0 ≡ get_or xs j 0 + get_or bs j 0
 unfolding added
 added_at [] [] e j = refl
 added_at [] (b ∷ bs) e j = absurd (omega arith)
@@ -87,7 +88,8 @@ added_tie (suc n) (a ∷ xs) (b ∷ bs) (c ∷ cs) (d ∷ ds) u v w x h k e =
     (cc, cc)
 
 -- what is under the ceilings is below each of them
-pub under_at : (xs cs : List ℕ) (i : ℕ) → i < length xs → i < length cs → under xs cs ≡ true → get_or xs i 0 < get_or cs i 0
+pub under_at : (xs cs : List ℕ) (i : ℕ) → i < length xs → i < length cs → under xs cs ≡ true
+    → get_or xs i 0 < get_or cs i 0
 unfolding under
 under_at [] cs i l m u = absurd (omega arith)
 under_at (x ∷ xs) [] i l m u = absurd (omega arith)

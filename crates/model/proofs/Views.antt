@@ -31,7 +31,8 @@ use Rattle.model.proofs.Cut.{sides_long, sides_all}
 all_on_lem : (k : ℕ) (ss vs : List ℕ) → OnSide k ss vs → all_on k ss vs ≡ true
 unfolding all_on
 all_on_lem k ss [] o = refl
-all_on_lem k ss (v ∷ vs) o = and_both (eq-eqb (get_or ss v 0) k (o v (here refl))) (all_on_lem k ss vs (λ w m. o w (there m)))
+all_on_lem k ss (v ∷ vs) o =
+    and_both (eq-eqb (get_or ss v 0) k (o v (here refl))) (all_on_lem k ss vs (λ w m. o w (there m)))
 
 half_side : (k : ℕ) (ss vs : List ℕ) → InOne ss vs → in_half k ss vs ≡ true → OnSide k ss vs
 unfolding in_half
@@ -86,7 +87,8 @@ module _ (q : Problem) (ss : List ℕ) (sides : sides_ok q ss ≡ true) (free : 
   long : length q.domains ≡ length ss
   long = sides_long q ss sides
 
-  costs_view : (zs : List ℕ) → length zs ≡ length ss → costs_of (view k q ss) zs ≡ costs_of (half k q ss) (on_side k ss zs)
+  costs_view : (zs : List ℕ) → length zs ≡ length ss
+      → costs_of (view k q ss) zs ≡ costs_of (half k q ss) (on_side k ss zs)
   unfolding costs_of totals view half
   costs_view zs wide =
       totals_view ss (sides_all q ss sides) q.domains zs long wide k q.objectives 0 q.tables free

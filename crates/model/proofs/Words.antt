@@ -65,7 +65,8 @@ unfolding words_in
 length_words_in zero s = refl
 length_words_in (suc n) s = ap suc (length_words_in n (drop 4 s))
 
-pub words_written : (n : ℕ) (s : List ℕ) → 4 * n ≤ length s → All Byte s → word_bytes (words_in n s) ++ drop (4 * n) s ≡ s
+pub words_written : (n : ℕ) (s : List ℕ) → 4 * n ≤ length s → All Byte s
+    → word_bytes (words_in n s) ++ drop (4 * n) s ≡ s
 unfolding word_bytes words_in
 words_written zero s l h = refl
 words_written (suc n) s l h =

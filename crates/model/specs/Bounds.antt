@@ -1,5 +1,6 @@
 -- The bound of a prefix: for each objective the sum of its records' least entries that agree with the prefix.
-use Rattle.std.specs.Prelude.{Bool, true, false, ◌&&◌, List, [], ◌∷◌, ℕ, zero, suc, ◌+◌, ◌-◌, ◌*◌, min, eqb, ltb, length, get_or}
+use Rattle.std.specs.Prelude.{Bool, true, false, ◌&&◌, List, [], ◌∷◌, ℕ, zero, suc, ◌+◌, ◌-◌, ◌*◌, min, eqb, ltb}
+use Rattle.std.specs.Prelude.{length, get_or}
 use Rattle.model.specs.Basics.{pick}
 use Rattle.model.specs.Problems.{Table, Problem}
 use Rattle.model.specs.Costs.{totals}

@@ -1,6 +1,7 @@
 -- What each public call answers and leaves in the lent buffers, for every input:
 -- nothing of it depends on what they held.
-use Rattle.std.specs.Prelude.{Bool, ◌||◌, List, [], ◌∷◌, ◌++◌, ℕ, zero, suc, ◌-◌, ◌/◌, min, eqb, ltb, length, drop, replicate}
+use Rattle.std.specs.Prelude.{Bool, ◌||◌, List, [], ◌∷◌, ◌++◌, ℕ, zero, suc, ◌-◌, ◌/◌, min, eqb, ltb, length, drop}
+use Rattle.std.specs.Prelude.{replicate}
 use Rattle.model.specs.Basics.{pick}
 use Rattle.model.specs.Limits.{max_variables, max_objectives, max_points, work_need}
 use Rattle.model.specs.Refusals.{work_short, bad_sides, full, bad_prefix, Verdict, verdict, accepted, first}
@@ -65,7 +66,8 @@ pub record SolveOutcome : Type 0 where
   pub work : List ℕ
 
 unfoldable pub solve_verdict : List ℕ → List ℕ → ℕ → Verdict
-solve_verdict s work room = first (verdict_of s) (first (work_verdict work) (room_verdict room (frontier (problem_of s))))
+solve_verdict s work room =
+    first (verdict_of s) (first (work_verdict work) (room_verdict room (frontier (problem_of s))))
 
 unfoldable pub solve_outcome : List ℕ → List ℕ → List ℕ → List ℕ → SolveOutcome
 solve_outcome s costs choices work =

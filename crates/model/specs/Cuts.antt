@@ -1,6 +1,7 @@
 -- The cut: sides, halves, and the list that is made from the halves' frontier lists.
 -- The reference, section 10, says it in words.
-use Rattle.std.specs.Prelude.{Bool, true, false, ◌&&◌, ◌||◌, not, List, [], ◌∷◌, ◌++◌, ℕ, zero, suc, ◌+◌, eqb, leb, length, get_or, drop}
+use Rattle.std.specs.Prelude.{Bool, true, false, ◌&&◌, ◌||◌, not, List, [], ◌∷◌, ◌++◌, ℕ, zero, suc, ◌+◌, eqb, leb}
+use Rattle.std.specs.Prelude.{length, get_or, drop}
 use Rattle.model.specs.Basics.{pick, when, keep_if}
 use Rattle.model.specs.Refusals.{linked, Verdict, verdict, accepted}
 use Rattle.model.specs.Problems.{Table, Problem}

@@ -1,6 +1,7 @@
 -- The demands as statements over the definitions: the three demands, what every call leaves of the buffers that it is
 -- lent, and the laws of the bound. proofs/Demands.antt, Buffers.antt and Agreement.antt prove them.
-use Rattle.std.specs.Prelude.{◌≡◌, Bool, true, false, ◌&&◌, ◌||◌, ℕ, ◌*◌, ◌≤◌, ◌<◌, min, eqb, leb, length, take, drop, replicate}
+use Rattle.std.specs.Prelude.{◌≡◌, Bool, true, false, ◌&&◌, ◌||◌, ℕ, ◌*◌, ◌≤◌, ◌<◌, min, eqb, leb, length, take, drop}
+use Rattle.std.specs.Prelude.{replicate}
 use mathlib.Core.List.{List, [], ◌∷◌, ◌++◌, Memᴰ as In}
 use Rattle.model.specs.Basics.{All}
 use Rattle.model.specs.Limits.{max_objectives, max_points, work_need, sum_end}

@@ -1,5 +1,6 @@
 -- Problems: ceilings, domains, cost tables; and the rules that a problem's records keep.
-use Rattle.std.specs.Prelude.{◌≡◌, Bool, true, false, not, ◌&&◌, ◌||◌, List, [], ◌∷◌, ℕ, ◌*◌, ◌≤◌, ◌<◌, eqb, ltb, length, get_or}
+use Rattle.std.specs.Prelude.{◌≡◌, Bool, true, false, not, ◌&&◌, ◌||◌, List, [], ◌∷◌, ℕ, ◌*◌, ◌≤◌, ◌<◌, eqb, ltb}
+use Rattle.std.specs.Prelude.{length, get_or}
 use Rattle.model.specs.Basics.{All}
 use Rattle.model.specs.Limits.{max_variables, max_objectives, max_tables, max_domain, max_arity, word_end}
 

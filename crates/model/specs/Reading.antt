@@ -1,6 +1,7 @@
 -- Reading bytes as a problem: numbers 1 to 11 with their places, in the order of the reference, section 6,
 -- and the problem that the records hold.
-use Rattle.std.specs.Prelude.{Bool, ◌&&◌, ◌||◌, not, List, [], ◌∷◌, ℕ, zero, suc, ◌+◌, ◌*◌, eqb, ltb, leb, length, get_or, take, drop}
+use Rattle.std.specs.Prelude.{Bool, ◌&&◌, ◌||◌, not, List, [], ◌∷◌, ℕ, zero, suc, ◌+◌, ◌*◌, eqb, ltb, leb, length}
+use Rattle.std.specs.Prelude.{get_or, take, drop}
 use Rattle.model.specs.Basics.{pick, when, first_of}
 use Rattle.model.specs.Limits.{max_bytes, max_variables, max_objectives, max_tables, max_domain, max_arity}
 use Rattle.model.specs.Limits.{byte_end, short_end}
@@ -130,7 +131,8 @@ body_verdict s =
 
 -- numbers 1 to 11 with their places
 unfoldable pub verdict_of : List ℕ → Verdict
-verdict_of s = pick (ltb max_bytes (length s)) (verdict oversize 0) (first (refused_at 0 (head_number s)) (body_verdict s))
+verdict_of s =
+    pick (ltb max_bytes (length s)) (verdict oversize 0) (first (refused_at 0 (head_number s)) (body_verdict s))
 
 -- the problem that the bytes hold, where the verdict does not refuse; and where its cost records start
 unfoldable pub problem_of : List ℕ → Problem

@@ -1,7 +1,8 @@
 -- The problem of the last variables in one objective (in the field a Russian doll),
 -- and what its least cost adds to a bound.
 -- Nobody has to believe it: proofs/Suffixes.antt shows that the sharper bound is still below every completion's cost.
-use Rattle.std.specs.Prelude.{Bool, ◌&&◌, List, [], ◌∷◌, ◌++◌, ℕ, suc, ◌+◌, ◌-◌, ◌≤◌, ◌≡◌, true, eqb, length, get_or, replicate}
+use Rattle.std.specs.Prelude.{Bool, ◌&&◌, List, [], ◌∷◌, ◌++◌, ℕ, suc, ◌+◌, ◌-◌, ◌≤◌, ◌≡◌, true, eqb, length, get_or}
+use Rattle.std.specs.Prelude.{replicate}
 use Rattle.model.specs.Problems.{Table, Problem}
 use Rattle.model.specs.Vectors.{added}
 use Rattle.model.specs.Costs.{is_choice, cost_of, total}

@@ -4,7 +4,6 @@
 use Rattle.std.specs.Prelude.{Bool, true, ◌&&◌, List, [], ◌∷◌, ℕ, eqb, get_or, drop}
 use Rattle.model.specs.Basics.{pick, keep_if}
 use Rattle.model.specs.Problems.{Table, Problem}
-use Rattle.model.specs.Vectors.{added}
 use Rattle.model.specs.Frontiers.{Point, point}
 use Rattle.model.specs.Cuts.{in_half}
 
