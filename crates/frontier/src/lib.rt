@@ -1,4 +1,4 @@
-// The public calls, and their exports for C; the version.
+// The public calls, and each as C calls it, with a place for every number of its answer; the version.
 #![tactic(auto)]
 
 ghost use Rattle.std.specs.Prelude.{◌≡◌};
@@ -19,8 +19,7 @@ const VERSION_MINOR: u32 = 1;
 
 const VERSION_PATCH: u32 = 0;
 
-#[unsafe(no_mangle)]
-pub extern "C" fn frontier_version() -> u32
+pub fn frontier_version() -> u32
     ensures { result ≡ version }
 {
     VERSION_MAJOR * 1000000 + VERSION_MINOR * 1000 + VERSION_PATCH
@@ -72,8 +71,7 @@ pub fn solve_by_passes(
     solved.answer
 }
 
-#[unsafe(no_mangle)]
-pub extern "C" fn frontier_solve(
+pub fn frontier_solve(
     problem: &[u8],
     costs: &mut [u32],
     choices: &mut [u8],
@@ -89,8 +87,7 @@ pub extern "C" fn frontier_solve(
     answers::tell(answer, place, count)
 }
 
-#[unsafe(no_mangle)]
-pub extern "C" fn frontier_solve_by_passes(
+pub fn frontier_solve_by_passes(
     problem: &[u8],
     costs: &mut [u32],
     choices: &mut [u8],
@@ -108,8 +105,7 @@ pub extern "C" fn frontier_solve_by_passes(
 
 // The plain call, and what its search took, of which nothing is promised: which form answered, plans, those of them
 // that failed their test, passes, and opened partial choices.
-#[unsafe(no_mangle)]
-pub extern "C" fn frontier_solve_measured(
+pub fn frontier_solve_measured(
     problem: &[u8],
     costs: &mut [u32],
     choices: &mut [u8],
@@ -129,7 +125,7 @@ pub extern "C" fn frontier_solve_measured(
     answers::tell(answer, place, count)
 }
 
-// The frontier list as point records. Proved by hand, thin over functions on plain slices.
+// The frontier list as point records.
 pub fn list_points(problem: &[u8], points: &mut [model::Point], work: &mut [u32]) -> answers::Answer
     ensures { ListExports problem.now
         (list_outcome problem.now (as_points points.old) work.old)
@@ -140,8 +136,7 @@ pub fn list_points(problem: &[u8], points: &mut [model::Point], work: &mut [u32]
     answers::settle(found, work)
 }
 
-#[unsafe(no_mangle)]
-pub extern "C" fn frontier_points(
+pub fn frontier_points(
     problem: &[u8],
     points: &mut [model::Point],
     work: &mut [u32],
@@ -164,8 +159,7 @@ pub fn bound_prefix(problem: &[u8], prefix: &[u8]) -> bound_call::Least
     bound_call::bound_of(problem, prefix)
 }
 
-#[unsafe(no_mangle)]
-pub extern "C" fn frontier_bound(
+pub fn frontier_bound(
     problem: &[u8],
     prefix: &[u8],
     least: &mut [u64; 4],
@@ -195,8 +189,7 @@ pub fn solve_cut(
     cut_call::cut_problem(problem, sides, costs, choices, work)
 }
 
-#[unsafe(no_mangle)]
-pub extern "C" fn frontier_cut(
+pub fn frontier_cut(
     problem: &[u8],
     sides: &[u8],
     costs: &mut [u32],
@@ -225,8 +218,7 @@ pub fn problem_to_text(problem: &[u8], text: &mut [u8]) -> text_networks::Conver
     text_writing::to_text(problem, text)
 }
 
-#[unsafe(no_mangle)]
-pub extern "C" fn frontier_to_text(
+pub fn frontier_to_text(
     problem: &[u8],
     text: &mut [u8],
     place: &mut u32,
@@ -247,8 +239,7 @@ pub fn problem_from_text(text: &[u8], problem: &mut [u8]) -> text_networks::Conv
     text_reading::from_text(text, problem)
 }
 
-#[unsafe(no_mangle)]
-pub extern "C" fn frontier_from_text(
+pub fn frontier_from_text(
     text: &[u8],
     problem: &mut [u8],
     place: &mut u32,
@@ -270,8 +261,7 @@ pub fn problem_canonical(problem: &[u8], form: &mut [u8]) -> form_canonical::Can
     form_call::canonical_form(problem, form)
 }
 
-#[unsafe(no_mangle)]
-pub extern "C" fn frontier_canonical(
+pub fn frontier_canonical(
     problem: &[u8],
     form: &mut [u8],
     place: &mut u32,
@@ -303,8 +293,7 @@ pub fn solve_cached(
     cache_call::solve_cached(problem, costs, choices, work, store)
 }
 
-#[unsafe(no_mangle)]
-pub extern "C" fn frontier_solve_cached(
+pub fn frontier_solve_cached(
     problem: &[u8],
     costs: &mut [u32],
     choices: &mut [u8],
@@ -341,8 +330,7 @@ pub fn solve_batch(
     batch_call::solve_batch(batch, costs, choices, results, work)
 }
 
-#[unsafe(no_mangle)]
-pub extern "C" fn frontier_batch(
+pub fn frontier_batch(
     batch: &[u8],
     costs: &mut [u32],
     choices: &mut [u8],
