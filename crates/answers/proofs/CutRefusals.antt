@@ -8,9 +8,9 @@ use native.Mathlib.Omega.{arith}
 use lib.Dec.{eqb}
 use lib.ListN.{length, get_or, take, drop}
 use borrow.Author.Tests.{ne_eqb, eq-eqb}
-use Rattle.model.specs.Basics.{pick, All}
+use Rattle.model.specs.Basics.{All}
 use Rattle.model.specs.Limits.{max_bytes, work_need}
-use Rattle.model.specs.Refusals.{bad_sides, Verdict, verdict, accepted, first}
+use Rattle.model.specs.Refusals.{bad_sides, Verdict, first}
 use Rattle.model.specs.Problems.{Table}
 use Rattle.model.specs.Reading.{head_tables, domains_of, tables_start, tables_at, places_at, verdict_of, problem_of, places_of}
 use Rattle.model.specs.Cuts.{all_sides, sides_ok, crosses, linked_verdict, uncrossed}

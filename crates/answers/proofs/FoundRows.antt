@@ -1,6 +1,6 @@
 -- Rows that a search left in work memory, and none where their list is too long: how many, which points, and that they
 -- may be copied to the flat buffers.
-use mathlib.Core.Path.{◌≡◌, refl, sym, ap, ap₂, ◌∙◌}
+use mathlib.Core.Path.{◌≡◌, refl, sym, ap₂}
 use mathlib.Core.Bool.{Bool, true, false, not}
 use mathlib.Core.List.{List, []}
 use Prim.Native.Nat.{ℕ, ◌≤◌}
@@ -13,7 +13,7 @@ use Rattle.model.specs.Limits.{max_points}
 use Rattle.model.specs.Encoding.{Byte}
 use Rattle.model.specs.Reading.{problem_of}
 use Rattle.model.specs.Frontiers.{Point, frontier}
-use Rattle.model.specs.Calls.{divided, room_of}
+use Rattle.model.specs.Calls.{room_of}
 use Rattle.model.proofs.Elements.{all_in}
 use Rattle.model.proofs.Flat.{divided_fits}
 use Rattle.model.proofs.Frontier.{listed_words}

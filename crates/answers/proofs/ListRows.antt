@@ -9,7 +9,7 @@ use lib.ListN.{length, replicate, length-replicate}
 use borrow.Author.Tests.{ne_eqb}
 use Rattle.model.specs.Basics.{All, pick}
 use Rattle.model.specs.Limits.{max_points, work_need}
-use Rattle.model.specs.Refusals.{full, Verdict, verdict, accepted}
+use Rattle.model.specs.Refusals.{full, verdict, accepted}
 use Rattle.model.specs.Encoding.{Byte}
 use Rattle.model.specs.Reading.{problem_of}
 use Rattle.model.specs.Frontiers.{Point, frontier}

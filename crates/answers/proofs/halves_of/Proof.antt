@@ -4,14 +4,14 @@ use Rattle.answers.proofs.halves_of.Statement.{statement}
 use Rattle.answers.proofs.halves_of.Tie as tie
 
 returns : tie.Need-returns
-returns c = rw c.before.before.before.full-number.ensures
+returns c = rw c.full_number.ensures
 
-pub halves-of-spec : {M : Type 1} → statement M
-halves-of-spec =
+pub halves_of_spec : {M : Type 1} → statement M
+halves_of_spec =
     tie.close
     (tie.spec
-    (λ c κs. search rules)  -- full-number-requires
-    (λ c. search rules)  -- cast-t3
-    (λ c. search rules)  -- cast-t4
-    (λ c. search rules)  -- cast-t5
+    (λ c κs. search rules)  -- full_number-requires
+    (λ c. search rules)  -- overflow_cast-result
+    (λ c. search rules)  -- overflow_cast-result-2
+    (λ c. search rules)  -- overflow_cast-result-3
     returns)

@@ -32,4 +32,4 @@ sharper_bound_spec =
     (λ c. search rules)  -- overflow_add-len
     (λ c κs. search rules)  -- numbers_at-gains-requires
     sum-requires
-    (λ c. rw c.before.numbers_at-gains.ensures at c.sum.ensures))  -- returns  -- returns
+    (λ c. rw c.before.numbers_at-gains.ensures at c.sum.ensures))  -- returns

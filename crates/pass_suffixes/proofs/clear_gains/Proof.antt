@@ -32,4 +32,4 @@ clear_gains_spec =
     (λ c. omega arith)  -- loop-at-smaller
     (λ c. filling_next c.loop-at.invariant (omega arith))  -- loop-at-preserved
     (λ c. filling_length c.loop-at.invariant)  -- shape_of-work
-    (λ c. filling_end c.before.loop-at.invariant (omega arith)))  -- returns  -- returns
+    (λ c. filling_end c.before.loop-at.invariant (omega arith)))  -- returns
