@@ -5,21 +5,20 @@ use Rattle.model.proofs.Numbers.{product_small}
 use Rattle.plan_shapes.proofs.product.Statement.{statement}
 use Rattle.plan_shapes.proofs.product.Tie as tie
 
-mul-at-most : tie.Need-overflow-mul-at-most
+mul-at-most : tie.Need-overflow_mul-at_most
 mul-at-most c =
-    let limited = c.before in
     omega (
       arith,
-      product_small 512 512 limited.at_most.result c.at-most2.result limited.at_most.ensures
-          c.at-most2.ensures,
+      product_small 512 512 c.at_most.result c.at_most-2.result c.at_most.ensures
+          c.at_most-2.ensures,
     )
 
-pub product-spec : {M : Type 1} → statement M
-product-spec =
+pub product_spec : {M : Type 1} → statement M
+product_spec =
     tie.close
     (tie.spec
-    (λ c κs. search rules)  -- at-most-requires
-    (λ c κs. search rules)  -- at-most-requires-2
+    (λ c κs. search rules)  -- at_most-requires
+    (λ c κs. search rules)  -- at_most-requires-2
     mul-at-most
-    (λ c κs. search rules)  -- at-most-requires-3
+    (λ c κs. search rules)  -- at_most-requires-3
     (λ c. search rules))  -- returns

@@ -4,40 +4,34 @@ use borrow.Author.Rules.{rules}
 use Rattle.plan_shapes.proofs.put_message.Statement.{statement}
 use Rattle.plan_shapes.proofs.put_message.Tie as tie
 
-returns : tie.Need-returns
+returns : tie.Need-returns-then-g-lt-MAX_MESSAGES
 returns c =
-    let slots = c.before.before in
-    let records = slots.before.before.before.before in
-    let third = records.before.before.before.before in
-    let second = third.before.before.before.before in
-    let first = second.before.before.before.before in
-    let place = first.before.before.before.before in
     loose_trans (loose_trans (loose_trans
-    (loose_trans (loose_trans place.put.ensures first.put-variable.ensures) second.put-variable2.ensures)
-    third.put-variable3.ensures)
-    records.put2.ensures)
-    slots.put3.ensures
+    (loose_trans (loose_trans c.put.ensures c.put_variable.ensures) c.put_variable-then-g-lt-MAX_MESSAGES.ensures)
+    c.put_variable-then-g-lt-MAX_MESSAGES-2.ensures)
+    c.put-then-g-lt-MAX_MESSAGES.ensures)
+    c.put-then-g-lt-MAX_MESSAGES-2.ensures
 
-pub put-message-spec : {M : Type 1} → statement M
-put-message-spec =
+pub put_message_spec : {M : Type 1} → statement M
+put_message_spec =
     tie.close
     (tie.spec
-    (λ c. search rules)  -- mul-at
-    (λ c. search rules)  -- add-at
+    (λ c. search rules)  -- overflow_mul-at
+    (λ c. search rules)  -- overflow_add-at
     (λ c κs. search rules)  -- put-requires
-    (λ c. search rules)  -- add-put-variable
-    (λ c. search rules)  -- array-read-put-variable
-    (λ c κs. search rules)  -- put-variable-requires
-    (λ c. search rules)  -- add-put-variable-2
-    (λ c. search rules)  -- array-read-put-variable-2
-    (λ c κs. search rules)  -- put-variable-requires-2
-    (λ c. search rules)  -- add-put-variable-3
-    (λ c. search rules)  -- array-read-put-variable-3
-    (λ c κs. search rules)  -- put-variable-requires-3
-    (λ c. search rules)  -- add-put
-    (λ c κs. search rules)  -- put-requires-2
-    (λ c. search rules)  -- add-put-2
-    (λ c κs. search rules)  -- put-requires-3
-    (λ c. search rules)  -- same-length
+    (λ c. search rules)  -- overflow_add-at-then-g-lt-MAX_MESSAGES
+    (λ c. search rules)  -- bounds-strides-0
+    (λ c κs. search rules)  -- put_variable-requires
+    (λ c. search rules)  -- overflow_add-at-then-g-lt-MAX_MESSAGES-2
+    (λ c. search rules)  -- bounds-strides-1
+    (λ c κs. search rules)  -- put_variable-requires-then-g-lt-MAX_MESSAGES
+    (λ c. search rules)  -- overflow_add-at-then-g-lt-MAX_MESSAGES-3
+    (λ c. search rules)  -- bounds-strides-2
+    (λ c κs. search rules)  -- put_variable-requires-then-g-lt-MAX_MESSAGES-2
+    (λ c. search rules)  -- overflow_add-at-then-g-lt-MAX_MESSAGES-4
+    (λ c κs. search rules)  -- put-requires-then-g-lt-MAX_MESSAGES
+    (λ c. search rules)  -- overflow_add-at-then-g-lt-MAX_MESSAGES-5
+    (λ c κs. search rules)  -- put-requires-then-g-lt-MAX_MESSAGES-2
+    (λ c. search rules)  -- shape_of-plan
     returns
-    (λ c. search rules))  -- returns-2
+    (λ c. search rules))  -- returns-else-g-lt-MAX_MESSAGES

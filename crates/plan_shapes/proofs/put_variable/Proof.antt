@@ -6,16 +6,14 @@ use Rattle.plan_shapes.proofs.put_variable.Tie as tie
 
 returns : tie.Need-returns
 returns c =
-    let second = c.before.before in
-    let first = second.before.before.before.before in
-    loose_trans first.put.ensures second.put2.ensures
+    loose_trans c.put.ensures c.put-2.ensures
 
-pub put-variable-spec : {M : Type 1} → statement M
-put-variable-spec =
+pub put_variable_spec : {M : Type 1} → statement M
+put_variable_spec =
     tie.close
     (tie.spec
     (λ c κs. search rules)  -- put-requires
-    (λ c. search rules)  -- add-put
+    (λ c. search rules)  -- overflow_add-at
     (λ c κs. search rules)  -- put-requires-2
-    (λ c. search rules)  -- same-length
+    (λ c. search rules)  -- shape_of-plan
     returns)
