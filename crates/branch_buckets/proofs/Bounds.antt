@@ -175,7 +175,8 @@ module _ {d : DD.Directions} {r : ℕ} {ds s source plan : List ℕ} (w : Sound 
   balanced zero l = balanced_first
   balanced (suc k) l = rw (← add-one k) (balanced_next k l (balanced k (omega arith)))
 
-  whole_exact : bound_at d ds s plan r (length ds) y j ≡ get_or (directions_of d (costs_over d ds s (take r plan) y)) j 0
+  whole_exact : bound_at d ds s plan r (length ds) y j
+      ≡ get_or (directions_of d (costs_over d ds s (take r plan) y)) j 0
   unfolding sum_over count_from
   whole_exact =
       let ends = w.tested.ends in

@@ -32,7 +32,9 @@ use Rattle.branch_buckets.proofs.RowSteps.{Filling, filling_start, filling_next}
 -- the four totals of value a
 module _ (totals : List ℕ) (a : ℕ) where
   abbrev pub four : List ℕ
-  four = get_or totals (4 * a) 0 ∷ get_or totals (4 * a + 1) 0 ∷ get_or totals (4 * a + 2) 0 ∷ get_or totals (4 * a + 3) 0 ∷ []
+  four =
+      get_or totals (4 * a) 0 ∷ get_or totals (4 * a + 1) 0 ∷ get_or totals (4 * a + 2) 0 ∷ get_or totals (4 * a + 3) 0
+      ∷ []
 
   pub four_small : (p : ℕ) → ((o : ℕ) → o < 4 → get_or totals (4 * a + o) 0 < core_sum_end)
       → All (λ c. c < core_sum_end) (take p four)
@@ -47,7 +49,8 @@ module _ (totals : List ℕ) (a : ℕ) where
   unfolding totals_from
   four_totals f ts p few inside is =
       let none : get_or totals (4 * a) 0 ≡ total 0 f ts = rw add-zero at (is 0 (omega arith)) in
-      let all : take 4 (drop (4 * a) totals) ≡ totals_from max_objectives 0 f ts = sym (four_read 0 totals (4 * a) inside)
+      let all : take 4 (drop (4 * a) totals)
+      ≡ totals_from max_objectives 0 f ts = sym (four_read 0 totals (4 * a) inside)
       ∙ rw (none, is 1 (omega arith), is 2 (omega arith), is 3 (omega arith)) refl in
       rw all (take_totals f ts p max_objectives 0 few)
 
@@ -92,11 +95,13 @@ module _ (x y z u : ℕ) where
       (record { one = when (ltb 0 p) x; two = when (ltb 1 p) y; three = when (ltb 2 p) z; four = when (ltb 3 p) u })
       i ≡ weighted (take p (drop (4 * i) ws)) (fore p)
   sum_counted p h ws i l =
-      let row : take p (get_or ws (4 * i) 0 ∷ get_or ws (4 * i + 1) 0 ∷ get_or ws (4 * i + 2) 0 ∷ get_or ws (4 * i + 3) 0 ∷ [])
+      let row : take p
+      (get_or ws (4 * i) 0 ∷ get_or ws (4 * i + 1) 0 ∷ get_or ws (4 * i + 2) 0 ∷ get_or ws (4 * i + 3) 0 ∷ [])
       ≡ take p (drop (4 * i) ws) =
       rw (four_read 0 ws (4 * i) l) (take-take p 4 (drop (4 * i) ws) h) in
       rw (← row)
-      (counted_sum p h (get_or ws (4 * i) 0) (get_or ws (4 * i + 1) 0) (get_or ws (4 * i + 2) 0) (get_or ws (4 * i + 3) 0))
+      (counted_sum p h (get_or ws (4 * i) 0) (get_or ws (4 * i + 1) 0) (get_or ws (4 * i + 2) 0)
+      (get_or ws (4 * i + 3) 0))
 
 -- a row with the costs in front and the sums behind them
 module _ (d : DD.Directions) (v : List ℕ) (all : length v ≡ d.objectives) (few : d.objectives ≤ 4)

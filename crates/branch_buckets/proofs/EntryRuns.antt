@@ -89,7 +89,8 @@ module _ (ds s : List ℕ) (at v : ℕ) (x : List ℕ) where
                 ));
           }
 
-      pub entry_end_lem : table_arity (drop at s) ≡ k → EntrySays ds s at v x (record { first = first; stride = stride })
+      pub entry_end_lem : table_arity (drop at s) ≡ k
+          → EntrySays ds s at v x (record { first = first; stride = stride })
       unfolding entry_from
       entry_end_lem e =
           λ a h. (

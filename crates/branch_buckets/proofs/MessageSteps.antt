@@ -82,7 +82,8 @@ pub record Sending (w : ℕ) (plan : List ℕ) (from to : ℕ) (y : List ℕ) (i
 pub sending_start : (w : ℕ) (plan : List ℕ) (from to : ℕ) (y : List ℕ) → from ≤ to
     → Sending w plan from to y from (replicate 8 0)
 sending_start w plan from to y h =
-    let none : (j : ℕ) → j < 8 → ◌≡◌ {A = ℕ} (get_or (replicate 8 0) j 0) 0 = λ j l. get_or-replicate {A = ℕ} 8 j 0 0 l in
+    let none : (j : ℕ) → j < 8
+    → ◌≡◌ {A = ℕ} (get_or (replicate 8 0) j 0) 0 = λ j l. get_or-replicate {A = ℕ} 8 j 0 0 l in
     record {
       behind = omega arith;
       ahead = h;

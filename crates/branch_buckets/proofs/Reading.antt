@@ -53,7 +53,8 @@ module _ (P : ℕ → Type 0) (x y : List ℕ) (same : (v : ℕ) → P v → get
   messages_read : (w : ℕ) (plan : List ℕ) (j : ℕ) (gs : List ℕ) → All (Reads P plan) gs
       → All (λ g. message_at w plan x j g ≡ message_at w plan y j g) gs
   messages_read w plan j gs h =
-      all_map (Reads P plan) (λ g. message_at w plan x j g ≡ message_at w plan y j g) (λ g. message_reads w plan j g) gs h
+      all_map (Reads P plan) (λ g. message_at w plan x j g ≡ message_at w plan y j g) (λ g. message_reads w plan j g) gs
+      h
 
   pub sent_reads : (w : ℕ) (plan : List ℕ) (from to : ℕ) → All (Reads P plan) (count_from from (to - from)) → (j : ℕ)
       → sent_over w plan from to x j ≡ sent_over w plan from to y j

@@ -24,7 +24,8 @@ use Rattle.branch_buckets.proofs.Sums.{share_of, total_over, totals_same}
 abbrev pub exchanged : List ℕ → ℕ → ℕ → List ℕ
 exchanged l i j = set (set l i (get_or l j 0)) j (get_or l i 0)
 
-sum_set : (f : ℕ → ℕ) (l : List ℕ) (i a : ℕ) → i < length l → sum_over f (set l i a) + f (get_or l i 0) ≡ sum_over f l + f a
+sum_set : (f : ℕ → ℕ) (l : List ℕ) (i a : ℕ) → i < length l
+    → sum_over f (set l i a) + f (get_or l i 0) ≡ sum_over f l + f a
 unfolding sum_over
 sum_set f [] i a h = absurd (omega arith)
 sum_set f (x ∷ l) zero a h = omega arith

@@ -57,7 +57,8 @@ module _ {own : ℕ} {f : ℕ → ℕ} {before : List ℕ} {a : ℕ} {totals : L
       go true e =
           let same : own ≡ o = eqb-true own o e in
           let same_place : 4 * a + own ≡ 4 * a + o = omega arith in
-          let p : get_or next (4 * a + own) 0 ≡ get_or before (4 * a + own) 0 + cost = get_or-set_same totals (4 * a + own) _
+          let p : get_or next (4 * a + own) 0
+          ≡ get_or before (4 * a + own) 0 + cost = get_or-set_same totals (4 * a + own) _
           0 (omega (arith, u.long))
           ∙ ap (λ (n : ℕ). n + cost) (u.rest (4 * a + own) (omega arith)) in
           let q : get_or next (4 * a + o) 0 ≡ get_or before (4 * a + o) 0 + cost = rw (← same_place) p in

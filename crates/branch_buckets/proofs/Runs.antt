@@ -47,29 +47,31 @@ sum_grows a f g p q = omega (arith, mul-add a p q)
 module _ (w : ℕ) (plan : List ℕ) (g n u t u' t' u'' t'' : ℕ)
     (start : n ≡ get_or plan (messages_at + message_width * g) 0)
     (one : u ≡ field_in plan g 1) (one-stride : t ≡ field_in plan g 2) (two : u' ≡ field_in plan g 3)
-    (two-stride : t' ≡ field_in plan g 4) (three : u'' ≡ field_in plan g 5) (three-stride : t'' ≡ field_in plan g 6) where
-  pub message_start_is : (y : List ℕ) (p q r : ℕ) → p ≡ get_or y u 0 → q ≡ get_or y u' 0 → r ≡ get_or y u'' 0
-      → n + w * (p * t + q * t' + r * t'') ≡ message_start w plan g y
-  message_start_is y p q r e h k =
-      let first : field_in plan g 0 ≡ get_or plan (messages_at + message_width * g) 0 = rw add-zero refl in
-      cc
+    (two-stride : t' ≡ field_in plan g 4) (three : u'' ≡ field_in plan g 5) (three-stride : t'' ≡ field_in plan g 6)
+  where
+    pub message_start_is : (y : List ℕ) (p q r : ℕ) → p ≡ get_or y u 0 → q ≡ get_or y u' 0 → r ≡ get_or y u'' 0
+        → n + w * (p * t + q * t' + r * t'') ≡ message_start w plan g y
+    message_start_is y p q r e h k =
+        let first : field_in plan g 0 ≡ get_or plan (messages_at + message_width * g) 0 = rw add-zero refl in
+        cc
 
-  pub message_runs :
-      n < word_end → t < word_end → t' < word_end → t'' < word_end → w ≤ 8 → (v : ℕ) (x : List ℕ) (a b c : DP.Progression)
-      → TermSays u t v x a → TermSays u' t' v x b → TermSays u'' t'' v x c
-      → MessageSays w plan g v x
-      (record { first = n + w * (a.first + b.first + c.first); stride = w * (a.stride + b.stride + c.stride) })
-  message_runs small narrow narrow' narrow'' few v x a b c p q r =
-      record {
-        start = λ k.
-            let y = set x v k in
-            sym (message_start_is y (get_or y u 0) (get_or y u' 0) (get_or y u'' 0) refl refl refl)
-            ∙ rw (p.term k, q.term k, r.term k, sum_grows k a.first b.first a.stride b.stride)
-            (multiple_grows n w k (a.first + b.first) c.first (a.stride + b.stride) c.stride);
-        low =
-            start_small w n t t' t'' small narrow narrow' narrow'' few a.first b.first c.first p.low q.low
-            r.low;
-        flat =
-            stride_small w n t t' t'' small narrow narrow' narrow'' few a.stride b.stride c.stride p.flat
-            q.flat r.flat;
-      }
+    pub message_runs :
+        n < word_end → t < word_end → t' < word_end → t'' < word_end → w ≤ 8
+        → (v : ℕ) (x : List ℕ) (a b c : DP.Progression)
+        → TermSays u t v x a → TermSays u' t' v x b → TermSays u'' t'' v x c
+        → MessageSays w plan g v x
+        (record { first = n + w * (a.first + b.first + c.first); stride = w * (a.stride + b.stride + c.stride) })
+    message_runs small narrow narrow' narrow'' few v x a b c p q r =
+        record {
+          start = λ k.
+              let y = set x v k in
+              sym (message_start_is y (get_or y u 0) (get_or y u' 0) (get_or y u'' 0) refl refl refl)
+              ∙ rw (p.term k, q.term k, r.term k, sum_grows k a.first b.first a.stride b.stride)
+              (multiple_grows n w k (a.first + b.first) c.first (a.stride + b.stride) c.stride);
+          low =
+              start_small w n t t' t'' small narrow narrow' narrow'' few a.first b.first c.first p.low q.low
+              r.low;
+          flat =
+              stride_small w n t t' t'' small narrow narrow' narrow'' few a.stride b.stride c.stride p.flat
+              q.flat r.flat;
+        }

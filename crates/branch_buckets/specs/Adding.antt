@@ -54,7 +54,8 @@ RowFilled f at before after = PartFilled f at 8 before after
 
 -- eight numbers of the plan were added to a row
 abbrev pub RowAdded : List ℕ → ℕ → ℕ → List ℕ → List ℕ → Type 0
-RowAdded plan start at before after = RowFilled (λ j. get_or before (at + j) 0 + get_or plan (start + j) 0) at before after
+RowAdded plan start at before after =
+    RowFilled (λ j. get_or before (at + j) 0 + get_or plan (start + j) 0) at before after
 
 -- numbers in the rows of `size` values that can be added to
 abbrev pub Addable : ℕ → List ℕ → Type 0
@@ -76,7 +77,8 @@ abbrev pub RecordAdded : (ds s : List ℕ) (at v : ℕ) (x before after : List �
 RecordAdded ds s at v x before after =
     (a o : ℕ) → a < get_or ds v 0 → o < 4
     → (get_or after (4 * a + o) 0
-    ≡ get_or before (4 * a + o) 0 + when (eqb (table_objective (drop at s)) o) (cost_of ds (set x v a) (table_at ds s at)))
+    ≡ get_or before (4 * a + o) 0 + when (eqb (table_objective (drop at s)) o)
+    (cost_of ds (set x v a) (table_at ds s at)))
     × (get_or after (4 * a + o) 0 < get_or before (4 * a + o) 0 + entry_end)
 
 -- zeros alone

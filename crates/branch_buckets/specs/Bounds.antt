@@ -50,7 +50,8 @@ base_at d ds s plan r y j = content_over d ds s plan (base_span plan r) y j
 
 unfoldable pub bound_at : (d : DD.Directions) (ds s plan : List ℕ) (r k : ℕ) (y : List ℕ) (j : ℕ) → ℕ
 bound_at d ds s plan r zero y j = base_at d ds s plan r y j
-bound_at d ds s plan r (suc k) y j = bound_at d ds s plan r k y j + (content_at d ds s plan k y j - sent_at d plan k y j)
+bound_at d ds s plan r (suc k) y j =
+    bound_at d ds s plan r k y j + (content_at d ds s plan k y j - sent_at d plan k y j)
 
 -- two choices agree at the first k positions
 abbrev pub Agree : List ℕ → ℕ → List ℕ → List ℕ → Type 0

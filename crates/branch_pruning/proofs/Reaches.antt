@@ -48,7 +48,8 @@ module _ (d : DD.Directions) (sensible : Sensible d) (b b' : List ℕ) (long : m
   exceeds_rises v e f =
       not_true_false (at_most (take (width_of d) b') (directions_of d v)) λ t.
       let all = directions_length d v e in
-      let above = at_most_at (take (width_of d) b') (directions_of d v) (wide b' long' ∙ sym all) (at_most_true _ _ t) in
+      let above =
+      at_most_at (take (width_of d) b') (directions_of d v) (wide b' long' ∙ sym all) (at_most_true _ _ t) in
       let below = at_most_each (take (width_of d) b) (directions_of d v) (wide b long ∙ sym all) (λ j l.
       let m : j < width_of d = omega (arith, wide b long) in
       omega (

@@ -1,5 +1,6 @@
 -- The costs of archived points are words: they are under the ceilings, which are. So no sum of theirs is large.
-use Rattle.std.proofs.Common.{◌≡◌, ℕ, ◌*◌, ◌<◌, ◌≤◌, List, length, take, drop, sym, ◌∙◌, mul-le-mul_right, arith, length-take-le}
+use Rattle.std.proofs.Common.{◌≡◌, ℕ, ◌*◌, ◌<◌, ◌≤◌, List, length, take, drop, sym, ◌∙◌, mul-le-mul_right, arith}
+use Rattle.std.proofs.Common.{length-take-le}
 use mathlib.Core.List.{Memᴰ as In}
 use Rattle.model.specs.Basics.{All}
 use Rattle.model.specs.Limits.{word_end}
@@ -40,7 +41,8 @@ module _ (d : DD.Directions) (task : DT.Task) (ds s was : List ℕ) (wide : d.ob
 
   -- so that their sums do not wrap
   pub archived_small : EachCost (λ a. a < core_sum_end) p work c
-  archived_small i l = all_map Word (λ a. a < core_sum_end) (λ a h. omega arith) (costs_in p work i) (archived_words i l)
+  archived_small i l =
+      all_map Word (λ a. a < core_sum_end) (λ a h. omega arith) (costs_in p work i) (archived_words i l)
 
 -- no leading sum of words is as large as the limit that is none
 pub words_below :

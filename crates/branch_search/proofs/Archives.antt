@@ -1,6 +1,7 @@
 -- The archive between passes and between searches: no point at all is one, it stays where its rows and the problem's
 -- records stay, and with the weights and the limit of any search it is an archive of that search.
-use Rattle.std.proofs.Common.{◌≡◌, ℕ, ◌+◌, ◌-◌, ◌*◌, ◌<◌, ◌≤◌, List, length, take, drop, sym, ap, ◌∙◌, subst, arith, take-take}
+use Rattle.std.proofs.Common.{◌≡◌, ℕ, ◌+◌, ◌-◌, ◌*◌, ◌<◌, ◌≤◌, List, length, take, drop, sym, ap, ◌∙◌, subst, arith}
+use Rattle.std.proofs.Common.{take-take}
 use mathlib.Core.List.Memᴰ.{not-nil as in-none}
 use Rattle.model.specs.Limits.{max_objectives, max_variables, max_points}
 use Rattle.model.specs.Problems.{Problem}

@@ -1,5 +1,6 @@
 -- The completions of a partial choice: none is earlier than it, and none costs less than its bound in any direction.
-use Rattle.std.proofs.Common.{◌≡◌, ℕ, ◌<◌, ◌≤◌, true, false, ltb, List, length, get_or, take, sym, refl, ◌∙◌, ⊎_elim, arith, length-take-le, get_or-take, ltb-false, ltb-true}
+use Rattle.std.proofs.Common.{◌≡◌, ℕ, ◌<◌, ◌≤◌, true, false, ltb, List, length, get_or, take, sym, refl, ◌∙◌, ⊎_elim}
+use Rattle.std.proofs.Common.{arith, length-take-le, get_or-take, ltb-false, ltb-true}
 use Rattle.model.specs.Costs.{is_choice, cost_of, totals, costs_of}
 use Rattle.model.specs.Vectors.{earlier}
 use Rattle.model.proofs.Bits.{test}
@@ -53,7 +54,8 @@ module _ {d : DD.Directions} {r : ℕ} {ds s source plan : List ℕ} (w : Sound 
       not_later_trans c' x y (not_earlier x c' (choice_length ds x h.choice ∙ sym e) f)
       (at_most_not_later x y long (at_most_each x y long value_below))
 
-  pub completion_bound : (j : ℕ) → j < width_of d → get_or acc j 0 ≤ get_or (directions_of d (costs_over d ds s source y)) j 0
+  pub completion_bound : (j : ℕ) → j < width_of d
+      → get_or acc j 0 ≤ get_or (directions_of d (costs_over d ds s source y)) j 0
   completion_bound j l =
       omega (
         arith,

@@ -1,5 +1,6 @@
 -- A complete choice: its bound is its costs, it is the only completion of itself, and taking it in covers it.
-use Rattle.std.proofs.Common.{◌≡◌, ℕ, ◌<◌, ◌≤◌, true, false, List, length, get_or, take, drop, sym, refl, ap, ◌∙◌, subst, arith, length-take-le, get_or-take, take-take, ext_get_or}
+use Rattle.std.proofs.Common.{◌≡◌, ℕ, ◌<◌, ◌≤◌, true, false, List, length, get_or, take, drop, sym, refl, ap, ◌∙◌}
+use Rattle.std.proofs.Common.{subst, arith, length-take-le, get_or-take, take-take, ext_get_or}
 use mathlib.Core.List.{Memᴰ as In}
 use Rattle.model.specs.Problems.{Problem}
 use Rattle.model.specs.Costs.{is_choice, cost_of, costs_of}
@@ -122,7 +123,8 @@ module _
       exact_at (lead_at d) (lead_inside d sensible) ∙ directions_lead d source_costs sensible source_wide
       ∙ ap (λ (u : List ℕ). weighted (lead_weights d) u) (sym in_front)
 
-  only_choice : (y : List ℕ) → is_choice ds y ≡ true → Completes (plan_in work) (length ds) (leaf ds values acc) y → x ≡ y
+  only_choice : (y : List ℕ) → is_choice ds y ≡ true → Completes (plan_in work) (length ds) (leaf ds values acc) y
+      → x ≡ y
   only_choice y c g =
       let long = choice_length ds x h.partial.choice in
       ext_get_or 0 x y (long ∙ sym (choice_length ds y c))
@@ -148,7 +150,8 @@ module _
   -- over a ceiling
   pub over_covers :
       under (take d.objectives acc) ceilings ≡ false →
-      AllCovered problem d (Completes (plan_in work) (length ds) (leaf ds values acc)) (archive_in d (length ds) work run)
+      AllCovered problem d (Completes (plan_in work) (length ds) (leaf ds values acc))
+      (archive_in d (length ds) work run)
       run.limit
   over_covers o = leaf_covers _ _ (λ m. absurd (true_false (core_under problem (point costs x) m) o))
 

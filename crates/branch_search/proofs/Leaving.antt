@@ -1,5 +1,6 @@
 -- What the tests leave out is covered: a partial choice that is dead has no completion that is sought.
-use Rattle.std.proofs.Common.{◌≡◌, ℕ, ◌<◌, ◌≤◌, List, length, get_or, take, sym, refl, ap, ◌∙◌, subst, inl, inr, arith, length-take-le}
+use Rattle.std.proofs.Common.{◌≡◌, ℕ, ◌<◌, ◌≤◌, List, length, get_or, take, sym, refl, ap, ◌∙◌, subst, inl, inr, arith}
+use Rattle.std.proofs.Common.{length-take-le}
 use mathlib.Core.List.{Memᴰ as In}
 use Rattle.model.specs.Limits.{max_points}
 use Rattle.model.specs.Problems.{Problem}

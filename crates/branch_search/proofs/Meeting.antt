@@ -7,7 +7,8 @@ pub meeting_refl : (work : List ℕ) (run : DP.Progress) → Meeting work run wo
 meeting_refl work run = record { fewer = omega arith; idle = λ e. (refl, refl, refl) }
 
 pub meeting_trans : {work : List ℕ} {run : DP.Progress} {work' : List ℕ} {run' : DP.Progress} {work'' : List ℕ}
-    {run'' : DP.Progress} → Meeting work run work' run' → Meeting work' run' work'' run'' → Meeting work run work'' run''
+    {run'' : DP.Progress} → Meeting work run work' run' → Meeting work' run' work'' run''
+    → Meeting work run work'' run''
 meeting_trans {work} {run} {work'} {run'} {work''} {run''} f g =
     record {
       fewer = omega (arith, f.fewer, g.fewer);

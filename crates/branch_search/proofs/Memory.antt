@@ -1,6 +1,7 @@
 -- What stays of work memory where only rows of the archive, or only zones, are written; and what a search relies on
 -- stays with it.
-use Rattle.std.proofs.Common.{◌≡◌, ℕ, ◌+◌, ◌-◌, ◌≤◌, List, ◌++◌, length, take, drop, sym, refl, ap, ◌∙◌, subst, arith, drop-drop, take_at, drop_at}
+use Rattle.std.proofs.Common.{◌≡◌, ℕ, ◌+◌, ◌-◌, ◌≤◌, List, ◌++◌, length, take, drop, sym, refl, ap, ◌∙◌, subst, arith}
+use Rattle.std.proofs.Common.{drop-drop, take_at, drop_at}
 use Rattle.model.specs.Limits.{max_tables}
 use Rattle.model.specs.Problems.{Problem}
 use Rattle.model.proofs.Lists.{take_rest}

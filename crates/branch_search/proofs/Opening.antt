@@ -1,5 +1,6 @@
 -- Opening a position: the partial choice with each value of its variable, its bound, and its completions by that value.
-use Rattle.std.proofs.Common.{◌≡◌, ℕ, ◌+◌, ◌*◌, ◌<◌, ◌≤◌, true, false, ltb, List, length, get_or, set, sym, ap, ◌∙◌, subst, ⊎_elim, arith, length-set, get_or-set_other, get_or-set_same, ltb-false, ltb-true}
+use Rattle.std.proofs.Common.{◌≡◌, ℕ, ◌+◌, ◌*◌, ◌<◌, ◌≤◌, true, false, ltb, List, length, get_or, set, sym, ap, ◌∙◌}
+use Rattle.std.proofs.Common.{subst, ⊎_elim, arith, length-set, get_or-set_other, get_or-set_same, ltb-false, ltb-true}
 use Rattle.model.specs.Limits.{byte_end}
 use Rattle.model.specs.Costs.{is_choice}
 use Rattle.model.proofs.Bits.{test}

@@ -1,6 +1,7 @@
 -- A pass begins at the empty choice, which every choice completes; and what is left after one: the frontier, or more of
 -- it than there is room for.
-use Rattle.std.proofs.Common.{◌≡◌, ℕ, ◌*◌, ◌<◌, ◌≤◌, true, false, List, length, get_or, take, drop, replicate, sym, refl, ap, ◌∙◌, subst, arith, length-take-le, le-ltb, lt-ltb}
+use Rattle.std.proofs.Common.{◌≡◌, ℕ, ◌*◌, ◌<◌, ◌≤◌, true, false, List, length, get_or, take, drop, replicate, sym}
+use Rattle.std.proofs.Common.{refl, ap, ◌∙◌, subst, arith, length-take-le, le-ltb, lt-ltb}
 use Rattle.model.specs.Basics.{All}
 use Rattle.model.specs.Limits.{max_variables, byte_end}
 use Rattle.model.specs.Problems.{Problem, Word}

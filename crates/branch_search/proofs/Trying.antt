@@ -1,5 +1,6 @@
 -- Trying the values of a position's variable: each is covered, or its bound is still to be looked at.
-use Rattle.std.proofs.Common.{◌≡◌, ℕ, zero, suc, ◌+◌, ◌<◌, ◌≤◌, ltb, ◌⊎◌, List, [], ◌∷◌, length, get_or, set, sym, ◌∙◌, subst, inl, inr, ⊎_elim, arith, length-set, get_or-set_other, lt-ltb}
+use Rattle.std.proofs.Common.{◌≡◌, ℕ, zero, suc, ◌+◌, ◌<◌, ◌≤◌, ltb, ◌⊎◌, List, [], ◌∷◌, length, get_or, set, sym, ◌∙◌}
+use Rattle.std.proofs.Common.{subst, inl, inr, ⊎_elim, arith, length-set, get_or-set_other, lt-ltb}
 use Rattle.model.specs.Basics.{when}
 use Rattle.model.specs.Limits.{max_domain}
 use Rattle.model.specs.Problems.{Problem}

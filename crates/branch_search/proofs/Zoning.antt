@@ -1,5 +1,6 @@
 -- The zones in memory: the first one, and splitting them at archived points.
-use Rattle.std.proofs.Common.{◌≡◌, ℕ, ◌+◌, ◌<◌, ◌≤◌, List, ◌++◌, length, take, drop, sym, ◌∙◌, subst, inl, inr, ⊎_elim, arith, length-append, length-drop, length-take-le, get_or-take}
+use Rattle.std.proofs.Common.{◌≡◌, ℕ, ◌+◌, ◌<◌, ◌≤◌, List, ◌++◌, length, take, drop, sym, ◌∙◌, subst, inl, inr, ⊎_elim}
+use Rattle.std.proofs.Common.{arith, length-append, length-drop, length-take-le, get_or-take}
 use mathlib.Core.List.{Memᴰ as In}
 use Rattle.model.specs.Basics.{All}
 use Rattle.model.specs.Limits.{max_objectives, max_points}
@@ -70,7 +71,8 @@ first_hold d c ceilings rows work z m e memory long measured first n limit ws =
     (first_zoned d.objectives ceilings z m long first ws (list_in d.objectives n rows 0 c) limit)
 
 -- the same points in memory of which only zones were written
-pub hold_rows : (d : DD.Directions) (c : ℕ) (ceilings work work' work'' : List ℕ) (m t : ℕ) → ZonesWritten d work work' m
+pub hold_rows : (d : DD.Directions) (c : ℕ) (ceilings work work' work'' : List ℕ) (m t : ℕ)
+    → ZonesWritten d work work' m
     → ZonesHold d c ceilings work' work'' t → ZonesHold d c ceilings work work'' t
 hold_rows d c ceilings work work' work'' m t w h n limit ws =
     rw (zones_rows work work' w.long w.behind d.objectives n 0 c) at (h n limit ws)

@@ -1,6 +1,7 @@
 -- What the second form of the search relies on and ensures. Work memory: zones, the places of the problem's records,
 -- the archive, and the plan.
-use Rattle.std.specs.Prelude.{◌≡◌, ℕ, ◌+◌, ◌-◌, ◌<◌, ◌≤◌, true, false, not, List, length, take, drop, nat_lt, slice_index, slice_range, slice_set}
+use Rattle.std.specs.Prelude.{◌≡◌, ℕ, ◌+◌, ◌-◌, ◌<◌, ◌≤◌, true, false, not, List, length, take, drop, nat_lt}
+use Rattle.std.specs.Prelude.{slice_index, slice_range, slice_set}
 use mathlib.Core.List.{Memᴰ as In}
 use Rattle.model.specs.Basics.{All, when}
 use Rattle.model.specs.Limits.{max_points}

@@ -14,7 +14,8 @@ wide_end = 18446744073709551616
 -- in w directions no more was sent than the bucket holds with value a, and nothing wraps
 abbrev pub Holding : ℕ → List ℕ → List ℕ → List ℕ → ℕ → Type 0
 Holding w acc away rows a =
-    (j : ℕ) → j < w → (get_or away j 0 ≤ get_or rows (8 * a + j) 0) × (get_or acc j 0 + get_or rows (8 * a + j) 0 < wide_end)
+    (j : ℕ) → j < w
+    → (get_or away j 0 ≤ get_or rows (8 * a + j) 0) × (get_or acc j 0 + get_or rows (8 * a + j) 0 < wide_end)
 
 -- the bound with value a, in direction j
 abbrev pub next_bound : List ℕ → List ℕ → List ℕ → ℕ → ℕ → ℕ

@@ -1,5 +1,6 @@
 -- The largest number of a list below a ceiling: it is found one number at a time, and none below the ceiling is larger.
-use Rattle.std.proofs.Common.{◌≡◌, ℕ, zero, suc, ◌+◌, ◌<◌, ◌≤◌, max, List, [], ◌∷◌, length, get_or, drop, refl, ◌∙◌, add-one, arith, drop_of_length-le, drop-cons, le-ltb, lt-ltb}
+use Rattle.std.proofs.Common.{◌≡◌, ℕ, zero, suc, ◌+◌, ◌<◌, ◌≤◌, max, List, [], ◌∷◌, length, get_or, drop, refl, ◌∙◌}
+use Rattle.std.proofs.Common.{add-one, arith, drop_of_length-le, drop-cons, le-ltb, lt-ltb}
 use Rattle.model.specs.Problems.{size_of}
 use Rattle.model.specs.Reading.{table_arity, table_scope, table_of}
 use Rattle.model.specs.Core.{entry_end}

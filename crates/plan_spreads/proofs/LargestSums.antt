@@ -1,5 +1,6 @@
 -- The sums of largest entries limit what choices under a ceiling cost: each entry that a sum below it has is below it.
-use Rattle.std.proofs.Common.{◌≡◌, ℕ, ◌<◌, ◌≤◌, Bool, true, false, eqb, List, [], ◌∷◌, length, get_or, refl, ap, ◌∙◌, zero-add, arith, eqb-true}
+use Rattle.std.proofs.Common.{◌≡◌, ℕ, ◌<◌, ◌≤◌, Bool, true, false, eqb, List, [], ◌∷◌, length, get_or, refl, ap, ◌∙◌}
+use Rattle.std.proofs.Common.{zero-add, arith, eqb-true}
 use Rattle.model.specs.Basics.{when}
 use Rattle.model.specs.Limits.{max_objectives}
 use Rattle.model.specs.Problems.{Table}

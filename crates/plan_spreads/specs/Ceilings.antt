@@ -8,4 +8,5 @@ FittedTo ceiling most fitted = (fitted ≤ ceiling) × ((x : ℕ) → x < ceilin
 
 pub record Fitted (ceilings mosts fitted : List ℕ) : Type 0 where
   pub long : length fitted ≡ max_objectives
-  pub each : (o : ℕ) → o < max_objectives → FittedTo (slice_index ceilings o) (slice_index mosts o) (slice_index fitted o)
+  pub each : (o : ℕ) → o < max_objectives
+      → FittedTo (slice_index ceilings o) (slice_index mosts o) (slice_index fitted o)

@@ -25,13 +25,12 @@ cast-rows c =
 
 add-rows-3 : tie.Need-overflow_add-rows-in-loop-j-2 invariant-loop decreases-loop
 add-rows-3 c =
-    let s = c in
     let w = c.loop-j in
     omega (
       arith,
       filling_same w.invariant,
-      s.requires.2 w.j (omega arith),
-      c.shared_slice_known-1.given (s.args.start + w.j),
+      c.requires.2 w.j (omega arith),
+      c.shared_slice_known-1.given (c.args.start + w.j),
     )
 
 slice-write-rows : tie.Need-bounds-rows-at-in-loop-j invariant-loop decreases-loop
@@ -39,10 +38,9 @@ slice-write-rows c = omega (arith, c.loop-j.invariant.long)
 
 loop-again : tie.Need-loop-j-preserved invariant-loop decreases-loop
 loop-again c =
-    let s = c in
     let w = c.loop-j in
-    filling_next w.invariant s.requires.1 (omega arith) _
-    (ap (λ n. n + get_or s.args.plan.now (s.args.start + w.j) 0) (filling_same w.invariant)) _ refl
+    filling_next w.invariant c.requires.1 (omega arith) _
+    (ap (λ n. n + get_or c.args.plan.now (c.args.start + w.j) 0) (filling_same w.invariant)) _ refl
 
 pub add_inside_spec : {M : Type 1} → statement M
 add_inside_spec =
@@ -66,4 +64,4 @@ add_inside_spec =
     (λ c. omega arith)  -- loop-j-smaller
     loop-again
     (λ c. c.loop-j.invariant.long)  -- shape_of-rows
-    (λ c. filling_end c.before.loop-j.invariant (omega arith)))  -- returns  -- returns
+    (λ c. filling_end c.before.loop-j.invariant (omega arith)))  -- returns

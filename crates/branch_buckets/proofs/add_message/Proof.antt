@@ -17,7 +17,8 @@ use Rattle.branch_buckets.proofs.message_run.Reads as message-run-reads
 
 abbrev invariant-loop : tie.invariant-loop-a
 invariant-loop g v size choice width plan rows₀ first stride a₀ rows a =
-    (a ≤ size) × RowsFilled (λ b j. get_or rows₀ (8 * b + j) 0 + message_at width plan (set choice v b) j g) rows₀ a rows
+    (a ≤ size)
+    × RowsFilled (λ b j. get_or rows₀ (8 * b + j) 0 + message_at width plan (set choice v b) j g) rows₀ a rows
 
 abbrev decreases-loop : tie.decreases-loop-a
 decreases-loop g v size choice width plan rows₀ first stride a₀ rows a = size - a
@@ -42,23 +43,21 @@ fits c =
 
 add-row-requires : tie.Need-add_row-requires invariant-loop decreases-loop
 add-row-requires c κs =
-    let s = c in
     let w = c.loop-a in (
       fits c.before,
-      omega (arith, w.invariant.1.long, s.requires),
-      λ j l. rw (w.invariant.1.rest (8 * w.a + j) (omega arith)) (s.requires.4.1 w.a j (omega arith) l),
+      omega (arith, w.invariant.1.long, c.requires),
+      λ j l. rw (w.invariant.1.rest (8 * w.a + j) (omega arith)) (c.requires.4.1 w.a j (omega arith) l),
     )
 
 loop-again : tie.Need-loop-a-preserved invariant-loop decreases-loop
 loop-again c =
-    let s = c in
     let w = c.loop-a in
     let r = c.add_row in
     let m = c.message_run-r in (
       omega arith,
       rows_next w.invariant.1 r.ensures r.auto.rows
           (λ j l. ap₂ ◌+◌ (w.invariant.1.rest (8 * w.a + j) (omega arith))
-          (ap (λ (n : ℕ). get_or s.args.plan.now (n + j) 0) (sym (m.ensures.start w.a)))),
+          (ap (λ (n : ℕ). get_or c.args.plan.now (n + j) 0) (sym (m.ensures.start w.a)))),
     )
 
 pub add_message_spec : {M : Type 1} → statement M
@@ -77,4 +76,4 @@ add_message_spec =
     (λ c. omega arith)  -- loop-a-smaller
     loop-again
     (λ c. c.loop-a.invariant.1.long)  -- shape_of-rows
-    (λ c b j h l. c.before.loop-a.invariant.1.done b j (omega arith) l))  -- returns  -- returns
+    (λ c b j h l. c.before.loop-a.invariant.1.done b j (omega arith) l))  -- returns

@@ -18,18 +18,16 @@ decreases-loop start at plan rows₀ j₀ rows j = 8 - j
 
 add-rows-2 : tie.Need-overflow_add-rows-in-loop-j invariant-loop decreases-loop
 add-rows-2 c =
-    let s = c in
     let w = c.loop-j in
-    omega (arith, filling_same w.invariant, s.requires.2 w.j (omega arith), c.number_at.ensures)
+    omega (arith, filling_same w.invariant, c.requires.2 w.j (omega arith), c.number_at.ensures)
 
 slice-write-rows : tie.Need-bounds-rows-at-in-loop-j invariant-loop decreases-loop
 slice-write-rows c = omega (arith, c.loop-j.invariant.long)
 
 loop-again : tie.Need-loop-j-preserved invariant-loop decreases-loop
 loop-again c =
-    let s = c in
     let w = c.loop-j in
-    filling_next w.invariant s.requires.1 (omega arith) _ (ap₂ ◌+◌ (filling_same w.invariant) c.number_at.ensures.0) _
+    filling_next w.invariant c.requires.1 (omega arith) _ (ap₂ ◌+◌ (filling_same w.invariant) c.number_at.ensures.0) _
     refl
 
 pub add_partly_spec : {M : Type 1} → statement M
@@ -52,4 +50,4 @@ add_partly_spec =
     (λ c. omega arith)  -- loop-j-smaller
     loop-again
     (λ c. c.loop-j.invariant.long)  -- shape_of-rows
-    (λ c. filling_end c.before.loop-j.invariant (omega arith)))  -- returns  -- returns
+    (λ c. filling_end c.before.loop-j.invariant (omega arith)))  -- returns

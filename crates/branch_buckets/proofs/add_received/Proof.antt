@@ -19,9 +19,8 @@ cast-g c = omega (arith, c.shared_slice_known-in-loop-i-1.given (256 + c.loop-i.
 
 add-message-requires : tie.Need-add_message-requires invariant-loop decreases-loop
 add-message-requires c κs =
-    let at-loop = c in
-    let q = at-loop.requires in
-    let w = at-loop.loop-i in
+    let q = c.requires in
+    let w = c.loop-i in
     let u = w.invariant in (
       omega (arith, c.shared_slice_known-in-loop-i-1.given (256 + w.i)),
       q.3,
@@ -35,19 +34,14 @@ add-message-requires c κs =
 
 loop-again : tie.Need-loop-i-preserved invariant-loop decreases-loop
 loop-again c =
-    let added = c in
-    let at_arg = added in
-    let at-loop = at_arg in
-    let known = at-loop in
-    let q = known.requires in
-    let r = added.add_message in
-    receiving_next at-loop.loop-i.invariant q.1 (omega arith) q.2
-    (λ k. omega (arith, known.shared_slice_known-2-1.given k)) _ r.auto.rows r.ensures
+    let q = c.requires in
+    let r = c.add_message in
+    receiving_next c.loop-i.invariant q.1 (omega arith) q.2
+    (λ k. omega (arith, c.shared_slice_known-2-1.given k)) _ r.auto.rows r.ensures
 
 returns : tie.Need-returns invariant-loop decreases-loop
 returns c =
-    let at-loop = c in
-    receiving_end at-loop.loop-i.invariant at-loop.requires.1 (omega arith)
+    receiving_end c.loop-i.invariant c.requires.1 (omega arith)
 
 pub add_received_spec : {M : Type 1} → statement M
 add_received_spec =

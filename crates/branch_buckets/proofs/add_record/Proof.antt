@@ -84,8 +84,7 @@ entry-run-requires c κs =
 
 slice-read-totals : tie.Need-bounds-totals-place invariant-loop decreases-loop
 slice-read-totals c =
-    let t = c in
-    omega (arith, value t.before, t.loop-a.invariant.1.long, (start t.before).requires)
+    omega (arith, value c.before, c.loop-a.invariant.1.long, (start c.before).requires)
 
 add-totals : tie.Need-overflow_add-totals invariant-loop decreases-loop
 add-totals c =
@@ -144,4 +143,4 @@ add_record_spec =
     (λ c. omega arith)  -- loop-a-smaller
     loop-again
     (λ c. c.loop-a.invariant.1.long)  -- shape_of-totals
-    (λ c a o h l. c.before.loop-a.invariant.1.done a (omega arith) o l))  -- returns  -- returns
+    (λ c a o h l. c.before.loop-a.invariant.1.done a (omega arith) o l))  -- returns

@@ -13,8 +13,7 @@ cast-size c = omega (arith, c.shared_slice_known-5-1.given c.args.v)
 
 fill-totals-requires : tie.Need-fill_totals-requires
 fill-totals-requires c κs =
-    let known = c in
-    let q = known.requires in (
+    let q = c.requires in (
       q.0.small,
       q.1.records,
       q.0.few,
@@ -28,12 +27,9 @@ fill-totals-requires c κs =
 
 put-rows-requires : tie.Need-put_rows-requires
 put-rows-requires c κs =
-    let filled = c in
-    let known = filled in
-    let s = known in
-    let t = filled.fill_totals in
-    let domain = (domain_size_lem s.args.sizes.now s.requires.0.small s.args.v s.requires.2).1 in (
-      s.requires.0.sensible,
+    let t = c.fill_totals in
+    let domain = (domain_size_lem c.args.sizes.now c.requires.0.small c.args.v c.requires.2).1 in (
+      c.requires.0.sensible,
       domain,
       omega (arith, t.auto.totals),
       λ a o h l. (t.ensures a o h l).1,
@@ -43,14 +39,10 @@ put-rows-requires c κs =
 
 add-received-requires : tie.Need-add_received-requires
 add-received-requires c κs =
-    let directed = c in
-    let filled = directed in
-    let known = filled in
-    let s = known in
-    let q = s.requires in
-    let a = s.args in
-    let t = filled.fill_totals in
-    let r = directed.put_rows in
+    let q = c.requires in
+    let a = c.args in
+    let t = c.fill_totals in
+    let r = c.put_rows in
     let small =
     directed_small q.0 a.span a.v a.choice.now t.new.totals r.new.rows
     q.2 (omega (arith, t.auto.totals)) t.ensures r.ensures in
@@ -68,17 +60,12 @@ add-received-requires c κs =
 
 returns : tie.Need-returns
 returns c =
-    let added = c in
-    let directed = added in
-    let filled = directed in
-    let known = filled in
-    let s = known in
-    let q = s.requires in
-    let a = s.args in
-    let t = filled.fill_totals in
-    let r = directed.put_rows in
+    let q = c.requires in
+    let a = c.args in
+    let t = c.fill_totals in
+    let r = c.put_rows in
     content_filled q.0 a.span a.v a.choice.now t.new.totals r.new.rows
-    q.2 (omega (arith, t.auto.totals)) t.ensures r.ensures _ added.add_received.ensures
+    q.2 (omega (arith, t.auto.totals)) t.ensures r.ensures _ c.add_received.ensures
 
 pub content_spec : {M : Type 1} → statement M
 content_spec =

@@ -8,4 +8,4 @@ counted_spec =
     tie.close
     (tie.spec
     (λ c. simp (lt-ltb _ _ c.if-o-p.true))  -- returns-then-o-p
-    (λ c. simp (le-ltb _ _ c.if-o-p.false)))  -- returns  -- returns-2
+    (λ c. simp (le-ltb _ _ c.if-o-p.false)))  -- returns

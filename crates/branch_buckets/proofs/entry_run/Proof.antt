@@ -89,8 +89,7 @@ fits c =
 
 arity-at-requires : tie.Need-arity_at-a-requires invariant-loop decreases-loop
 arity-at-requires c κs =
-    let s = c in
-    whole_inside s.args.sizes.now s.args.s.now s.args.at s.requires.0
+    whole_inside c.args.sizes.now c.args.s.now c.args.at c.requires.0
 
 loop-holds : tie.Need-loop-k-init invariant-loop decreases-loop
 loop-holds c =
@@ -104,21 +103,19 @@ scope-at-requires c κs =
 
 shared-slice-read-d : tie.Need-bounds-sizes-u invariant-loop decreases-loop
 shared-slice-read-d c =
-    let r = c in
-    let s = start (head r.before.before) in
-    rw r.scope_at-u.ensures
-    (variable_exists s.args.sizes.now s.args.s.now s.args.at s.requires.0 r.loop-k.k
-    (more r.before.before))
+    let s = start (head c.before.before) in
+    rw c.scope_at-u.ensures
+    (variable_exists s.args.sizes.now s.args.s.now s.args.at s.requires.0 c.loop-k.k
+    (more c.before.before))
 
 cast-d : tie.Need-overflow_cast-d invariant-loop decreases-loop
 cast-d c =
-    let r = c in
-    let s = start (head r.before.before) in
+    let s = start (head c.before.before) in
     omega (
       arith,
-      rw (← r.scope_at-u.ensures)
+      rw (← c.scope_at-u.ensures)
           at (variable_size s.args.sizes.now s.args.s.now s.args.at s.requires.0
-          r.loop-k.k (more r.before.before) s.requires.1),
+          c.loop-k.k (more c.before.before) s.requires.1),
     )
 
 term-of-requires : tie.Need-term_of-t-requires invariant-loop decreases-loop
@@ -133,11 +130,10 @@ add-k c =
 
 returns : tie.Need-returns invariant-loop decreases-loop
 returns c =
-    let h = c in
-    let s = start h.before.before in
+    let s = start c.before.before in
     let a = s.args in
     entry_end_lem a.sizes.now a.s.now a.at a.v a.choice.now s.requires.0 s.requires.1 s.requires.2
-    s.requires.3 c.loop-k.invariant.1 (omega (arith, h.arity_at-a.ensures))
+    s.requires.3 c.loop-k.invariant.1 (omega (arith, c.arity_at-a.ensures))
 
 pub entry_run_spec : {M : Type 1} → statement M
 entry_run_spec =

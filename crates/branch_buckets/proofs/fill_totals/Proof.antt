@@ -16,8 +16,7 @@ decreases-loop s sizes span v choice plan totals₀ i₀ totals i = span.to - i
 
 loop-holds : tie.Need-loop-i-init invariant-loop decreases-loop
 loop-holds c =
-    let known = c in
-    let q = known.requires in
+    let q = c.requires in
     (totalling_start _ _ _ _ _ _ _ q.1 q.7 q.8, refl)
 
 cast-at : tie.Need-overflow_cast-at invariant-loop decreases-loop
@@ -25,10 +24,8 @@ cast-at c = omega (arith, c.shared_slice_known-in-loop-i-1.given c.loop-i.i)
 
 add-record-requires : tie.Need-add_record-requires invariant-loop decreases-loop
 add-record-requires c κs =
-    let at-loop = c in
-    let known = at-loop in
-    let q = known.requires in
-    let w = at-loop.loop-i in
+    let q = c.requires in
+    let w = c.loop-i in
     let u = w.invariant.0 in (
       q.4 w.i (omega arith),
       q.0,
@@ -40,21 +37,15 @@ add-record-requires c κs =
 
 loop-again : tie.Need-loop-i-preserved invariant-loop decreases-loop
 loop-again c =
-    let added = c in
-    let at_arg = added in
-    let at-loop = at_arg in
-    let known = at-loop in
-    let q = known.requires in
-    let w = at-loop.loop-i in
-    let r = added.add_record in
+    let q = c.requires in
+    let w = c.loop-i in
+    let r = c.add_record in
     let kept = r.auto.totals in
     (totalling_next w.invariant.0 q.2 (omega arith) q.3 _ kept r.ensures, kept ∙ w.invariant.1)
 
 returns : tie.Need-returns invariant-loop decreases-loop
 returns c =
-    let at-loop = c in
-    let known = at-loop in
-    totalling_end at-loop.loop-i.invariant.0 known.requires.2 (omega arith)
+    totalling_end c.loop-i.invariant.0 c.requires.2 (omega arith)
 
 pub fill_totals_spec : {M : Type 1} → statement M
 fill_totals_spec =

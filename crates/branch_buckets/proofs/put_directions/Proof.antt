@@ -11,20 +11,14 @@ use Rattle.branch_buckets.proofs.put_directions.Tie as tie
 
 put-sums-requires : tie.Need-put_sums-requires
 put-sums-requires c κs =
-    let fourth = c in
-    let third = fourth in
-    let second = third in
-    let first = second in
-    let known = first in
-    let start = known in
-    let q = start.requires in
-    let p = start.args.p in
+    let q = c.requires in
+    let p = c.args.p in
     let small : Small _ =
     record {
-      one = counted_small 0 p _ _ first.counted-one.ensures (rw add-zero at (q.1 0 (omega arith)));
-      two = counted_small 1 p _ _ second.counted-two.ensures (q.1 1 (omega arith));
-      three = counted_small 2 p _ _ third.counted-three.ensures (q.1 2 (omega arith));
-      four = counted_small 3 p _ _ fourth.counted-four.ensures (q.1 3 (omega arith));
+      one = counted_small 0 p _ _ c.counted-one.ensures (rw add-zero at (q.1 0 (omega arith)));
+      two = counted_small 1 p _ _ c.counted-two.ensures (q.1 1 (omega arith));
+      three = counted_small 2 p _ _ c.counted-three.ensures (q.1 2 (omega arith));
+      four = counted_small 3 p _ _ c.counted-four.ensures (q.1 3 (omega arith));
     } in
     (omega (arith, q.3, q.4), q.5, small, simp length-set (omega (arith, q)))
 
@@ -33,19 +27,12 @@ same_length c = c.put_sums.auto.rows ∙ simp length-set
 
 returns : tie.Need-returns
 returns c =
-    let put = c in
-    let fourth = put in
-    let third = fourth in
-    let second = third in
-    let first = second in
-    let known = first in
-    let start = known in
-    let a = start.args in
-    let q = start.requires in
+    let a = c.args in
+    let q = c.requires in
     value_directed a.p a.sums a.weights.now a.totals.now a.a a.rows.now _ _
     q.2 q.3 q.4 q.0 q.6 q.7
-    first.counted-one.ensures second.counted-two.ensures third.counted-three.ensures fourth.counted-four.ensures
-    put.put_sums.ensures
+    c.counted-one.ensures c.counted-two.ensures c.counted-three.ensures c.counted-four.ensures
+    c.put_sums.ensures
 
 pub put_directions_spec : {M : Type 1} → statement M
 put_directions_spec =

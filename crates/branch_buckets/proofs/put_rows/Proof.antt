@@ -14,7 +14,8 @@ abbrev invariant-loop : tie.invariant-loop-a
 invariant-loop totals size rows₀ p sums weights a₀ rows a =
     (a ≤ size)
     × RowsFilled (λ b j. get_or
-    (directions_of (record { objectives = p; sums = sums; weights = weights }) (take p (take 4 (drop (4 * b) totals)))) j
+    (directions_of (record { objectives = p; sums = sums; weights = weights }) (take p (take 4 (drop (4 * b) totals))))
+    j
     0)
     rows₀ a rows
 
@@ -23,19 +24,17 @@ decreases-loop totals size rows₀ p sums weights a₀ rows a = size - a
 
 slice-aggregate-put-directions : tie.Need-slice_bounds-put_directions-end invariant-loop decreases-loop
 slice-aggregate-put-directions c =
-    let s = c in
-    sym (weights_long s.args.d _ s.well_formed.1.1.0)
+    sym (weights_long c.args.d _ c.well_formed.1.1.0)
 
 put-directions-requires : tie.Need-put_directions-requires invariant-loop decreases-loop
 put-directions-requires c κs =
-    let s = c in
-    let q = s.requires in
+    let q = c.requires in
     let w = c.loop-a in (
       omega (arith, q.1, q.2),
       λ o l. q.3 w.a o (omega arith) l,
       q.0.few,
       q.0.few_sums,
-      omega (arith, weights_long s.args.d _ s.well_formed.1.1.0),
+      omega (arith, weights_long c.args.d _ c.well_formed.1.1.0),
       q.0.small,
       omega (arith, w.invariant.1.long, q.4, q.1),
       λ i h. w.invariant.1.rest i h ∙ q.5 i,
@@ -60,4 +59,4 @@ put_rows_spec =
     (λ c. omega arith)  -- loop-a-smaller
     loop-again
     (λ c. c.loop-a.invariant.1.long)  -- shape_of-rows
-    (λ c a j h l. c.before.loop-a.invariant.1.done a j (omega arith) l))  -- returns  -- returns
+    (λ c a j h l. c.before.loop-a.invariant.1.done a j (omega arith) l))  -- returns

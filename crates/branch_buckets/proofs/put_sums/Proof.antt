@@ -42,4 +42,4 @@ put_sums_spec =
     (λ c. omega arith)  -- loop-i-smaller
     loop-again
     (λ c. c.loop-i.invariant.long)  -- shape_of-rows
-    (λ c. filling_end c.before.loop-i.invariant (omega arith)))  -- returns  -- returns
+    (λ c. filling_end c.before.loop-i.invariant (omega arith)))  -- returns

@@ -16,9 +16,8 @@ decreases-loop from to choice width plan t₀ g₀ t g = to - g
 
 loop-holds : tie.Need-loop-g-init invariant-loop decreases-loop
 loop-holds c =
-    let s = c in
-    sending_start s.args.width s.args.plan.now s.args.from s.args.to s.args.choice.now
-    s.requires.0
+    sending_start c.args.width c.args.plan.now c.args.from c.args.to c.args.choice.now
+    c.requires.0
 
 message-start-requires : tie.Need-message_start-requires invariant-loop decreases-loop
 message-start-requires c κs = (omega arith, c.requires.2)
@@ -43,11 +42,10 @@ add-row-requires c κs =
 
 loop-again : tie.Need-loop-g-preserved invariant-loop decreases-loop
 loop-again c =
-    let s = c in
     let w = c.loop-g in
     let r = c.add_row in
     let start = c.message_start in
-    let row = subst (λ (n : ℕ). RowAdded s.args.plan.now n 0 w.t r.new.rows) start.ensures.0
+    let row = subst (λ (n : ℕ). RowAdded c.args.plan.now n 0 w.t r.new.rows) start.ensures.0
     r.ensures in
     sending_next w.invariant (omega arith)
     (λ k. omega (arith, c.shared_slice_known-2-1.given k)) _
@@ -55,8 +53,7 @@ loop-again c =
 
 returns : tie.Need-returns invariant-loop decreases-loop
 returns c =
-    let s = c in
-    sending_end c.loop-g.invariant s.requires.2 s.requires.1 (omega arith)
+    sending_end c.loop-g.invariant c.requires.2 c.requires.1 (omega arith)
 
 pub sent_spec : {M : Type 1} → statement M
 sent_spec =

@@ -42,4 +42,4 @@ span_at_spec =
     (λ c. search rules)  -- offset_bounds-plan-k-4
     (λ c. search rules)  -- bounds-plan-k-4
     cast-last
-    (λ c. search rules))  -- returns  -- returns
+    (λ c. search rules))  -- returns

@@ -26,42 +26,31 @@ small s =
 
 mul-result-2 : tie.Need-overflow_mul-result
 mul-result-2 c =
-    let start = c in
-    omega (arith, small start.before.before, start.requires.2)
+    omega (arith, small c.before.before, c.requires.2)
 
 mul-result-4 : tie.Need-overflow_mul-result-2
 mul-result-4 c =
-    let start = c in
-    omega (arith, small start.before.before.before.before, start.requires.2)
+    omega (arith, small c.before.before.before.before, c.requires.2)
 
 add-result-2 : tie.Need-overflow_add-result-2
 add-result-2 c =
-    let start = c in
-    omega (arith, small start.before.before.before.before, start.requires.2)
+    omega (arith, small c.before.before.before.before, c.requires.2)
 
 mul-result-6 : tie.Need-overflow_mul-result-3
 mul-result-6 c =
-    let second = c in
-    let start = second in
-    omega (arith, small start.before.before.before.before.before.before, start.requires.2)
+    omega (arith, small c.before.before.before.before.before.before, c.requires.2)
 
 add-result-4 : tie.Need-overflow_add-result-4
 add-result-4 c =
-    let second = c in
-    let start = second in
-    omega (arith, small start.before.before.before.before.before.before, start.requires.2)
+    omega (arith, small c.before.before.before.before.before.before, c.requires.2)
 
 mul-result-8 : tie.Need-overflow_mul-result-4
 mul-result-8 c =
-    let second = c in
-    let start = second in
-    omega (arith, small start.before.before.before.before.before.before.before.before, start.requires.2)
+    omega (arith, small c.before.before.before.before.before.before.before.before, c.requires.2)
 
 add-result-6 : tie.Need-overflow_add-result-6
 add-result-6 c =
-    let second = c in
-    let start = second in
-    omega (arith, small start.before.before.before.before.before.before.before.before, start.requires.2)
+    omega (arith, small c.before.before.before.before.before.before.before.before, c.requires.2)
 
 pub sum_at_spec : {M : Type 1} → statement M
 sum_at_spec =
@@ -86,4 +75,4 @@ sum_at_spec =
     (λ c. search rules)  -- bounds-weights-at-4
     mul-result-8
     add-result-6
-    (λ c. search rules))  -- returns  -- returns
+    (λ c. search rules))  -- returns

@@ -8,19 +8,16 @@ use Rattle.branch_buckets.proofs.term_of.Tie as tie
 
 returns : tie.Need-returns-then-u-v
 returns c =
-    let s = c in
-    own_term s.args.u s.args.t s.args.v s.args.choice.now c.if-u-v.true s.requires.1
+    own_term c.args.u c.args.t c.args.v c.args.choice.now c.if-u-v.true c.requires.1
 
 mul-t7 : tie.Need-overflow_mul-result
 mul-t7 c =
-    let s = c in
-    omega (arith, s.requires, c.byte_at.ensures, byte_times c.byte_at.result s.args.t c.byte_at.ensures.1)
+    omega (arith, c.requires, c.byte_at.ensures, byte_times c.byte_at.result c.args.t c.byte_at.ensures.1)
 
 returns-2 : tie.Need-returns
 returns-2 c =
-    let s = c in
     let y = c.byte_at in
-    other_term s.args.u s.args.t s.args.v s.args.choice.now y.result c.if-u-v.false
+    other_term c.args.u c.args.t c.args.v c.args.choice.now y.result c.if-u-v.false
     y.ensures.0 (omega (arith, y.ensures))
 
 pub term_of_spec : {M : Type 1} → statement M

@@ -12,4 +12,4 @@ with_value_spec =
     (λ c. omega arith)  -- overflow_cast-y
     (λ c. omega arith)  -- bounds-y-v
     (λ c. refl)  -- returns-then-v-lt24
-    (λ c. sym (set_out _ _ _ (omega arith))))  -- returns-else-v-lt24  -- returns-2
+    (λ c. sym (set_out _ _ _ (omega arith))))  -- returns-else-v-lt24

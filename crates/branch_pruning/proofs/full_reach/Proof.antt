@@ -6,21 +6,18 @@ use Rattle.branch_pruning.proofs.full_reach.Statement.{statement}
 use Rattle.branch_pruning.proofs.full_reach.Tie as tie
 
 slice-aggregate-all-rows : tie.Need-slice_bounds-all_rows-end-2
-slice-aggregate-all-rows c = let s = c in sym (zones_long s.args.to.now s.requires.2)
+slice-aggregate-all-rows c = sym (zones_long c.args.to.now c.requires.2)
 
 all-rows-requires : tie.Need-all_rows-requires
-all-rows-requires c κs = let s = c in (s.requires.0, zones_long s.args.to.now s.requires.2)
+all-rows-requires c κs = (c.requires.0, zones_long c.args.to.now c.requires.2)
 
 returns : tie.Need-returns
 returns c =
-    let second = c in
-    let first = second in
-    let s = first in
-    let one = first.all_rows.ensures in
-    let two = second.all_rows-2.ensures in
+    let one = c.all_rows.ensures in
+    let two = c.all_rows-2.ensures in
     record {
-      zones = zones_back_lem s.args.to.now s.requires.2 one two;
-      ties = ties_back s.args.to.now s.requires.2 one two;
+      zones = zones_back_lem c.args.to.now c.requires.2 one two;
+      ties = ties_back c.args.to.now c.requires.2 one two;
     }
 
 pub full_reach_spec : {M : Type 1} → statement M

@@ -20,21 +20,18 @@ returns c = λ e. inl (omega (arith, c.lead_of.ensures, c.if-lead_of-run.true))
 
 slice-aggregate-is-reached-2 : tie.Need-slice_bounds-is_reached-end-2
 slice-aggregate-is-reached-2 c =
-    let s = c in
-    sym (length-take-le zones_end s.args.work.now (omega (arith, s.requires.0.long)))
+    sym (length-take-le zones_end c.args.work.now (omega (arith, c.requires.0.long)))
 
 is-tied-requires : tie.Need-is_tied-requires
 is-tied-requires c κs =
-    let s = c in
-    let h = s.requires.0 in
-    let old = subst (Sifted s.args.run.points (Surpassed s.args.d s.args.work.now s.args.b))
-    (sym (ties_lent_lem s.args.reach.now)) s.requires.2.ties in
-    (h.sensible, h.long, h.few, s.requires.1, h.small, old)
+    let h = c.requires.0 in
+    let old = subst (Sifted c.args.run.points (Surpassed c.args.d c.args.work.now c.args.b))
+    (sym (ties_lent_lem c.args.reach.now)) c.requires.2.ties in
+    (h.sensible, h.long, h.few, c.requires.1, h.small, old)
 
 returns-3 : tie.Need-returns
 returns-3 c =
-    let if2 = c in
-    λ e. inr (if2.is_reached.ensures if2.if-is_reached.false, c.is_tied.ensures e)
+    λ e. inr (c.is_reached.ensures c.if-is_reached.false, c.is_tied.ensures e)
 
 pub is_alive_spec : {M : Type 1} → statement M
 is_alive_spec =

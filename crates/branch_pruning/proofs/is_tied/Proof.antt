@@ -46,17 +46,16 @@ shared-slice-read-is-tied-at : tie.Need-bounds-from-j invariant-loop decreases-l
 shared-slice-read-is-tied-at c = let s = start c.before.before in omega (arith, s.requires.5.few, s.requires.5.long)
 
 cast-is-tied-at : tie.Need-overflow_cast-from invariant-loop decreases-loop
-cast-is-tied-at c = let w = c in omega (arith, inside w.before.before (omega arith), (start w.before.before).requires.2)
+cast-is-tied-at c = omega (arith, inside c.before.before (omega arith), (start c.before.before).requires.2)
 
 is-tied-at-requires : tie.Need-is_tied_at-requires invariant-loop decreases-loop
 is-tied-at-requires c κs =
-    let w = c in
-    let s = start w.before.before in
-    let below = inside w.before.before (omega arith) in
+    let s = start c.before.before in
+    let below = inside c.before.before (omega arith) in
     (s.requires.0, s.requires.1, omega (arith, below, s.requires.2), s.requires.3, s.requires.4 _ below)
 
 add-j : tie.Need-overflow_add-j invariant-loop decreases-loop
-add-j c = let w = c in omega (arith, (start w.before.before.before.before).requires.5.few)
+add-j c = omega (arith, (start c.before.before.before.before).requires.5.few)
 
 loop-again : tie.Need-loop-j-preserved invariant-loop decreases-loop
 loop-again c =

@@ -20,39 +20,30 @@ wide s = omega (arith, array_length w64 max_directions s.args.b _ s.well_formed.
 
 returns : tie.Need-returns-then-not-is_at_most
 returns c =
-    let tested = c in
-    let read = tested in
-    let s = read in
-    let a = s.args in
-    let costs = row_test a.d.objectives a.work.now a.i read.row_costs-costs.result s.requires.0.few
-    read.row_costs-costs.ensures (at_most (take a.d.objectives a.b)) _ _ c.if-not-is_at_most.true
-    tested.is_at_most.ensures in
+    let a = c.args in
+    let costs = row_test a.d.objectives a.work.now a.i c.row_costs-costs.result c.requires.0.few
+    c.row_costs-costs.ensures (at_most (take a.d.objectives a.b)) _ _ c.if-not-is_at_most.true
+    c.is_at_most.ensures in
     λ e. untied a.d a.n a.work.now a.x a.b a.i
-    (surpassed_costs a.d a.work.now a.b a.i (wide s.before.before.before.before.before.before) costs)
+    (surpassed_costs a.d a.work.now a.b a.i (wide c.before.before.before.before.before.before) costs)
 
 returns-2 : tie.Need-returns-then-not-is_earlier_at
 returns-2 c = λ e t. sym c.is_earlier_at.ensures ∙ c.if-not-is_earlier_at.true
 
 is-within-requires : tie.Need-is_within-requires
 is-within-requires c κs =
-    let tested = c in
-    let read = tested in
-    let s = read in
-    let a = s.args in
-    let front = front_costs a.d.objectives a.work.now _ a.i s.requires.0.few read.row_costs-costs.ensures in
-    (s.requires.0, rw front s.requires.4)
+    let a = c.args in
+    let front = front_costs a.d.objectives a.work.now _ a.i c.requires.0.few c.row_costs-costs.ensures in
+    (c.requires.0, rw front c.requires.4)
 
 returns-3 : tie.Need-returns
 returns-3 c =
-    let tested = c in
-    let read = tested in
-    let s = read in
-    let a = s.args in
+    let a = c.args in
     let d = a.d in
     λ e. untied d a.n a.work.now a.x a.b a.i
-    (surpassed_sums d a.work.now a.b a.i (wide s.before.before.before.before.before.before.before.before.before)
-    (row_test d.objectives a.work.now a.i read.row_costs-costs.result s.requires.0.few
-    read.row_costs-costs.ensures
+    (surpassed_sums d a.work.now a.b a.i (wide c.before.before.before.before.before.before.before.before.before)
+    (row_test d.objectives a.work.now a.i c.row_costs-costs.result c.requires.0.few
+    c.row_costs-costs.ensures
     (λ u. at_most (take d.sums (drop d.objectives a.b)) (sums_from d d.sums 0 u)) _ _ e
     c.is_within.ensures))
 

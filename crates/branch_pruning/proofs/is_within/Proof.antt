@@ -14,15 +14,13 @@ use Rattle.branch_pruning.proofs.is_within.Tie as tie
 
 returns : tie.Need-returns
 returns c =
-    let summed = c in
-    let s = summed in
-    let d = s.args.d in
+    let d = c.args.d in
     let p = d.objectives in
-    let behind = take-take d.sums (max_directions - p) (drop p s.args.b)
-    (omega (arith, s.requires.0.few, s.requires.0.few_sums)) in
-    let costs = take p s.args.costs in
+    let behind = take-take d.sums (max_directions - p) (drop p c.args.b)
+    (omega (arith, c.requires.0.few, c.requires.0.few_sums)) in
+    let costs = take p c.args.costs in
     c.is_at_most.ensures
-    ∙ rw (summed.sums_of-sums.ensures, sums_front d d.sums max_sums 0 costs s.requires.0.few_sums)
+    ∙ rw (c.sums_of-sums.ensures, sums_front d d.sums max_sums 0 costs c.requires.0.few_sums)
     (ap (λ (u : List ℕ). at_most u (sums_from d d.sums 0 costs)) behind)
 
 pub is_within_spec : {M : Type 1} → statement M

@@ -12,7 +12,8 @@ use Rattle.branch_pruning.proofs.points_above.Statement.{statement}
 use Rattle.branch_pruning.proofs.points_above.Tie as tie
 
 abbrev invariant-loop : tie.invariant-loop-j
-invariant-loop b from c d work to₀ count kept₀ j₀ to kept j = (j ≤ count) × Sifting c (Surpassed d work b) from j to kept
+invariant-loop b from c d work to₀ count kept₀ j₀ to kept j = (j ≤ count)
+    × Sifting c (Surpassed d work b) from j to kept
 
 abbrev decreases-loop : tie.decreases-loop-j
 decreases-loop b from c d work to₀ count kept₀ j₀ to kept j = count - j
@@ -48,27 +49,29 @@ shared-slice-read-i : tie.Need-bounds-from-j invariant-loop decreases-loop
 shared-slice-read-i c = let s = start c.before.before in omega (arith, s.requires.4.few, s.requires.4.long)
 
 cast-is-above-at : tie.Need-overflow_cast-i invariant-loop decreases-loop
-cast-is-above-at c = let w = c in omega (arith, inside w.before.before (omega arith), (start w.before.before).requires.2)
+cast-is-above-at c = omega (arith, inside c.before.before (omega arith), (start c.before.before).requires.2)
 
 is-above-at-requires : tie.Need-is_above_at-requires invariant-loop decreases-loop
 is-above-at-requires c κs =
-    let w = c in
-    let s = start w.before.before in
-    let below = inside w.before.before (omega arith) in
+    let s = start c.before.before in
+    let below = inside c.before.before (omega arith) in
     (s.requires.0, s.requires.1, omega (arith, below, s.requires.2), s.requires.3 _ below)
 
 slice-write-to : tie.Need-bounds-to-kept invariant-loop decreases-loop
 slice-write-to c =
-    let w = c in
-    omega (arith, (start w.before.before.before.before).requires.4.few, w.loop-j.invariant.1.fewer, w.loop-j.invariant.1.long)
+    omega (
+      arith,
+      (start c.before.before.before.before).requires.4.few,
+      c.loop-j.invariant.1.fewer,
+      c.loop-j.invariant.1.long,
+    )
 
 add_kept : tie.Need-overflow_add-kept invariant-loop decreases-loop
 add_kept c =
-    let w = c in
-    omega (arith, (start w.before.before.before.before).requires.4.few, w.loop-j.invariant.1.fewer)
+    omega (arith, (start c.before.before.before.before).requires.4.few, c.loop-j.invariant.1.fewer)
 
 add-j : tie.Need-overflow_add-j invariant-loop decreases-loop
-add-j c = let w = c in omega (arith, (start w.before.before.before.before).requires.4.few)
+add-j c = omega (arith, (start c.before.before.before.before).requires.4.few)
 
 loop-again : tie.Need-loop-j-preserved invariant-loop decreases-loop
 loop-again c =
@@ -83,7 +86,7 @@ loop-again c =
     c.if-is_above_at.branch-raw
 
 cast-to : tie.Need-overflow_cast-to invariant-loop decreases-loop
-cast-to c = let w = c in omega (arith, (start w.before).requires.4.few, w.loop-j.invariant.1.fewer)
+cast-to c = omega (arith, (start c.before).requires.4.few, c.loop-j.invariant.1.fewer)
 
 slice-write-to-2 : tie.Need-bounds-to-128 invariant-loop decreases-loop
 slice-write-to-2 c = omega (arith, c.loop-j.invariant.1.long)

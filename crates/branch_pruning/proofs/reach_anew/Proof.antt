@@ -6,10 +6,7 @@ use Rattle.branch_pruning.proofs.reach_anew.Tie as tie
 
 sift-requires : tie.Need-sift-requires
 sift-requires c κs =
-    let full = c in
-    let tested = full in
-    let s = tested in
-    (s.requires.0, reached_full full.full_reach-2.ensures, s.requires.1)
+    (c.requires.0, reached_full c.full_reach-2.ensures, c.requires.1)
 
 pub reach_anew_spec : {M : Type 1} → statement M
 reach_anew_spec =
@@ -24,4 +21,4 @@ reach_anew_spec =
     (λ c. search rules)  -- slice_bounds-sift-end
     sift-requires
     (λ c. search rules)  -- shape_of-to
-    (λ c. search rules))  -- returns  -- returns-2
+    (λ c. search rules))  -- returns

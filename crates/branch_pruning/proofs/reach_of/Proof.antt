@@ -14,4 +14,4 @@ reach_of_spec =
     (λ c. reached_full c.full_reach.ensures)  -- returns-then-has_few
     (λ c κs. search rules)  -- sift-requires
     (λ c. search rules)  -- shape_of-to
-    (λ c. search rules))  -- returns  -- returns-2
+    (λ c. search rules))  -- returns

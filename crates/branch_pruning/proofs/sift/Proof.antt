@@ -15,37 +15,30 @@ use Rattle.branch_pruning.proofs.sift.Tie as tie
 
 slice-aggregate-reached-zones-2 : tie.Need-slice_bounds-reached_zones-end-2
 slice-aggregate-reached-zones-2 c =
-    let s = c in
-    sym (length-take-le zones_end s.args.work.now (omega (arith, s.requires.0.long)))
+    sym (length-take-le zones_end c.args.work.now (omega (arith, c.requires.0.long)))
 
 slice-aggregate-reached-zones-3 : tie.Need-slice_bounds-reached_zones-end-4
-slice-aggregate-reached-zones-3 c = let s = c in sym (zones_long s.args.to.now s.requires.2)
+slice-aggregate-reached-zones-3 c = sym (zones_long c.args.to.now c.requires.2)
 
 reached-zones-requires : tie.Need-reached_zones-requires
 reached-zones-requires c κs =
-    let s = c in
-    (s.requires.0.sensible, s.requires.0.measured, s.requires.1.zones, zones_long s.args.to.now s.requires.2)
+    (c.requires.0.sensible, c.requires.0.measured, c.requires.1.zones, zones_long c.args.to.now c.requires.2)
 
 points-above-requires : tie.Need-points_above-requires
 points-above-requires c κs =
-    let z = c in
-    let s = z in
-    let h = s.requires.0 in
-    let one = z.reached_zones.ensures in
-    let old = subst (Sifted s.args.run.points (Surpassed s.args.d s.args.work.now s.args.b))
-    (sym (ties_lent_lem s.args.from.now)) s.requires.1.ties in
-    (h.sensible, h.long, h.few, h.small, old, ties_long s.args.to.now s.requires.2 one)
+    let h = c.requires.0 in
+    let one = c.reached_zones.ensures in
+    let old = subst (Sifted c.args.run.points (Surpassed c.args.d c.args.work.now c.args.b))
+    (sym (ties_lent_lem c.args.from.now)) c.requires.1.ties in
+    (h.sensible, h.long, h.few, h.small, old, ties_long c.args.to.now c.requires.2 one)
 
 returns : tie.Need-returns
 returns c =
-    let second = c in
-    let z = second in
-    let s = z in
-    let one = z.reached_zones.ensures in
-    let two = second.points_above.ensures in
+    let one = c.reached_zones.ensures in
+    let two = c.points_above.ensures in
     record {
-      zones = zones_back_lem s.args.to.now s.requires.2 one two;
-      ties = ties_back s.args.to.now s.requires.2 one two;
+      zones = zones_back_lem c.args.to.now c.requires.2 one two;
+      ties = ties_back c.args.to.now c.requires.2 one two;
     }
 
 pub sift_spec : {M : Type 1} → statement M

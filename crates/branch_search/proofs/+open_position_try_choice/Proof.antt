@@ -1,7 +1,8 @@
 -- The cycle of `branch_search::open_position` and `branch_search::try_choice` meets its contracts: every completion of
 -- a partial choice is covered.
 -- The invariant of the loop over values, `Trying`. The measure is two for each variable without a value.
-use Rattle.std.proofs.Common.{◌≡◌, ℕ, ◌+◌, ◌-◌, ◌*◌, ◌<◌, ◌≤◌, List, length, get_or, take, drop, sym, refl, ◌∙◌, subst, ⊎_elim, arith, length-drop, length-take-le, rules}
+use Rattle.std.proofs.Common.{◌≡◌, ℕ, ◌+◌, ◌-◌, ◌*◌, ◌<◌, ◌≤◌, List, length, get_or, take, drop, sym, refl, ◌∙◌, subst}
+use Rattle.std.proofs.Common.{⊎_elim, arith, length-drop, length-take-le, rules}
 use Rattle.model.specs.Limits.{max_objectives, max_domain, byte_end}
 use Rattle.model.specs.Problems.{DomainSize}
 use Rattle.model.proofs.Elements.{all_below}
@@ -139,7 +140,8 @@ module _ (t : ℕ) where
 
   -- and what the types of its slices say
   abbrev Known : Type 0
-  Known = open-lts.After-slice_known-1 (open_calls t) (open_position_at t) open-position.Post invariant-loop decreases-loop
+  Known =
+      open-lts.After-slice_known-1 (open_calls t) (open_position_at t) open-position.Post invariant-loop decreases-loop
 
   -- the pass is not given up
   abbrev Going : Type 0
@@ -155,31 +157,39 @@ module _ (t : ℕ) where
 
   -- its next variable is known
   abbrev Named : Type 0
-  Named = open-lts.After-variable_at-v (open_calls t) (open_position_at t) open-position.Post invariant-loop decreases-loop
+  Named =
+      open-lts.After-variable_at-v (open_calls t) (open_position_at t) open-position.Post invariant-loop decreases-loop
 
   -- and how many values that has
   abbrev Sized : Type 0
-  Sized = open-lts.After-shared_slice_known-4-1 (open_calls t) (open_position_at t) open-position.Post invariant-loop decreases-loop
+  Sized =
+      open-lts.After-shared_slice_known-4-1 (open_calls t) (open_position_at t) open-position.Post invariant-loop
+      decreases-loop
 
   -- what the bucket holds for each of them
   abbrev Filled : Type 0
-  Filled = open-lts.After-bucket_at-rows (open_calls t) (open_position_at t) open-position.Post invariant-loop decreases-loop
+  Filled =
+      open-lts.After-bucket_at-rows (open_calls t) (open_position_at t) open-position.Post invariant-loop decreases-loop
 
   -- and what was sent
   abbrev Sent : Type 0
-  Sent = open-lts.After-away_at-away (open_calls t) (open_position_at t) open-position.Post invariant-loop decreases-loop
+  Sent =
+      open-lts.After-away_at-away (open_calls t) (open_position_at t) open-position.Post invariant-loop decreases-loop
 
   -- the leading sum of each
   abbrev Led : Type 0
-  Led = open-lts.After-leads_of-leads (open_calls t) (open_position_at t) open-position.Post invariant-loop decreases-loop
+  Led =
+      open-lts.After-leads_of-leads (open_calls t) (open_position_at t) open-position.Post invariant-loop decreases-loop
 
   -- this one counts as opened
   abbrev Spent : Type 0
-  Spent = open-lts.After-count_opened-t (open_calls t) (open_position_at t) open-position.Post invariant-loop decreases-loop
+  Spent =
+      open-lts.After-count_opened-t (open_calls t) (open_position_at t) open-position.Post invariant-loop decreases-loop
 
   -- and what it may reach is known
   abbrev Reaching : Type 0
-  Reaching = open-lts.After-reach_of (open_calls t) (open_position_at t) open-position.Post invariant-loop decreases-loop
+  Reaching =
+      open-lts.After-reach_of (open_calls t) (open_position_at t) open-position.Post invariant-loop decreases-loop
 
   -- in the loop over values
   abbrev Looping : Type 0
@@ -207,11 +217,14 @@ module _ (t : ℕ) where
 
   -- which was tried
   abbrev Tried : Type 0
-  Tried = open-lts.After-try_choice-t (open_calls t) (open_position_at t) open-position.Post invariant-loop decreases-loop
+  Tried =
+      open-lts.After-try_choice-t (open_calls t) (open_position_at t) open-position.Post invariant-loop decreases-loop
 
   -- and counted where it is finished
   abbrev Counted : Type 0
-  Counted = open-lts.After-add_finished-finished (open_calls t) (open_position_at t) open-position.Post invariant-loop decreases-loop
+  Counted =
+      open-lts.After-add_finished-finished (open_calls t) (open_position_at t) open-position.Post invariant-loop
+      decreases-loop
 
   -- ## the way back from each to an earlier one
 
@@ -435,80 +448,91 @@ module _ (t : ℕ) where
   -- ## open_position
 
   open_position_returns :
-      open-lts.Need-returns-then-run-eq0 (open_calls t) (open_position_at t) open-position.Post invariant-loop decreases-loop
+      open-lts.Need-returns-then-run-eq0 (open_calls t) (open_position_at t) open-position.Post invariant-loop
+      decreases-loop
   open_position_returns c =
       let b = start c.before.before in
       opened_same b.requires.1.0 (λ some. absurd (omega (arith, c.if-run-eq0.true)))
 
   open_position_take_leaf_requires :
-      open-lts.Need-take_leaf-requires (open_calls t) (open_position_at t) open-position.Post invariant-loop decreases-loop
+      open-lts.Need-take_leaf-requires (open_calls t) (open_position_at t) open-position.Post invariant-loop
+      decreases-loop
   open_position_take_leaf_requires c κs =
-      let whole = c in
-      let b = start (known whole.before.before.before.before) in
-      leaf_standing b.requires.1.0 whole.if-k-n.true
+      let b = start (known c.before.before.before.before) in
+      leaf_standing b.requires.1.0 c.if-k-n.true
 
   open_position_same_length :
-      open-lts.Need-shape_of-work-then-k-n (open_calls t) (open_position_at t) open-position.Post invariant-loop decreases-loop
+      open-lts.Need-shape_of-work-then-k-n (open_calls t) (open_position_at t) open-position.Post invariant-loop
+      decreases-loop
   open_position_same_length c = c.take_leaf.ensures.still.long
 
   open_position_returns_2 :
-      open-lts.Need-returns-then-k-n (open_calls t) (open_position_at t) open-position.Post invariant-loop decreases-loop
+      open-lts.Need-returns-then-k-n (open_calls t) (open_position_at t) open-position.Post invariant-loop
+      decreases-loop
   open_position_returns_2 c =
-      let called = c in
-      let whole = called in
-      let b = start (known whole.before.before.before.before.before.before.before) in
+      let b = start (known c.before.before.before.before.before.before.before) in
       leaf_opened b.args.aim.d b.args.aim.task (ds b) b.args.s.now b.args.work.now b.args.run
-      _ called.take_leaf.result b.args.node whole.if-k-n.true called.take_leaf.ensures
+      _ c.take_leaf.result b.args.node c.if-k-n.true c.take_leaf.ensures
 
   open_position_sub_variable_at :
-      open-lts.Need-slice_bounds-variable_at-count (open_calls t) (open_position_at t) open-position.Post invariant-loop decreases-loop
+      open-lts.Need-slice_bounds-variable_at-count (open_calls t) (open_position_at t) open-position.Post invariant-loop
+      decreases-loop
   open_position_sub_variable_at c = memory (opening c.before)
 
   open_position_part_variable_at_start :
-      open-lts.Need-slice_bounds-variable_at-start (open_calls t) (open_position_at t) open-position.Post invariant-loop decreases-loop
+      open-lts.Need-slice_bounds-variable_at-start (open_calls t) (open_position_at t) open-position.Post invariant-loop
+      decreases-loop
   open_position_part_variable_at_start c = memory (opening c.before)
 
   open_position_part_variable_at_end :
-      open-lts.Need-slice_bounds-variable_at-end (open_calls t) (open_position_at t) open-position.Post invariant-loop decreases-loop
+      open-lts.Need-slice_bounds-variable_at-end (open_calls t) (open_position_at t) open-position.Post invariant-loop
+      decreases-loop
   open_position_part_variable_at_end c = search rules
 
   open_position_variable_at_requires :
-      open-lts.Need-variable_at-v-requires (open_calls t) (open_position_at t) open-position.Post invariant-loop decreases-loop
+      open-lts.Need-variable_at-v-requires (open_calls t) (open_position_at t) open-position.Post invariant-loop
+      decreases-loop
   open_position_variable_at_requires c κs =
-      let i = c in
-      let b = opening i.before.before in
-      omega (arith, inside i.before.before, b.requires.1.0.ready.planned.variables)
+      let b = opening c.before.before in
+      omega (arith, inside c.before.before, b.requires.1.0.ready.planned.variables)
 
   open_position_shared_slice_read_size :
       open-lts.Need-bounds-sizes-v (open_calls t) (open_position_at t) open-position.Post invariant-loop decreases-loop
   open_position_shared_slice_read_size c = variable_below c.before
 
   open_position_cast_size :
-      open-lts.Need-overflow_cast-size (open_calls t) (open_position_at t) open-position.Post invariant-loop decreases-loop
+      open-lts.Need-overflow_cast-size (open_calls t) (open_position_at t) open-position.Post invariant-loop
+      decreases-loop
   open_position_cast_size c = omega (arith, size (named c))
 
   open_position_array_share_prefix_x :
-      open-lts.Need-slice_bounds-x-end (open_calls t) (open_position_at t) open-position.Post invariant-loop decreases-loop
+      open-lts.Need-slice_bounds-x-end (open_calls t) (open_position_at t) open-position.Post invariant-loop
+      decreases-loop
   open_position_array_share_prefix_x c = long_choice (begun (named c))
 
   open_position_slice_aggregate_bucket_at :
-      open-lts.Need-slice_bounds-bucket_at-end (open_calls t) (open_position_at t) open-position.Post invariant-loop decreases-loop
+      open-lts.Need-slice_bounds-bucket_at-end (open_calls t) (open_position_at t) open-position.Post invariant-loop
+      decreases-loop
   open_position_slice_aggregate_bucket_at c = lent_choice (begun (named c.before))
 
   open_position_sub_bucket_at :
-      open-lts.Need-slice_bounds-bucket_at-count (open_calls t) (open_position_at t) open-position.Post invariant-loop decreases-loop
+      open-lts.Need-slice_bounds-bucket_at-count (open_calls t) (open_position_at t) open-position.Post invariant-loop
+      decreases-loop
   open_position_sub_bucket_at c = memory (begun (named c.before))
 
   open_position_part_bucket_at_start :
-      open-lts.Need-slice_bounds-bucket_at-start (open_calls t) (open_position_at t) open-position.Post invariant-loop decreases-loop
+      open-lts.Need-slice_bounds-bucket_at-start (open_calls t) (open_position_at t) open-position.Post invariant-loop
+      decreases-loop
   open_position_part_bucket_at_start c = memory (begun (named c.before))
 
   open_position_part_bucket_at_end :
-      open-lts.Need-slice_bounds-bucket_at-end-2 (open_calls t) (open_position_at t) open-position.Post invariant-loop decreases-loop
+      open-lts.Need-slice_bounds-bucket_at-end-2 (open_calls t) (open_position_at t) open-position.Post invariant-loop
+      decreases-loop
   open_position_part_bucket_at_end c = search rules
 
   open_position_bucket_at_requires :
-      open-lts.Need-bucket_at-rows-requires (open_calls t) (open_position_at t) open-position.Post invariant-loop decreases-loop
+      open-lts.Need-bucket_at-rows-requires (open_calls t) (open_position_at t) open-position.Post invariant-loop
+      decreases-loop
   open_position_bucket_at_requires c κs =
       let n = named c.before.before in
       let b = begun n in
@@ -523,40 +547,47 @@ module _ (t : ℕ) where
       )
 
   open_position_array_share_prefix_x_2 :
-      open-lts.Need-slice_bounds-x-end-2 (open_calls t) (open_position_at t) open-position.Post invariant-loop decreases-loop
+      open-lts.Need-slice_bounds-x-end-2 (open_calls t) (open_position_at t) open-position.Post invariant-loop
+      decreases-loop
   open_position_array_share_prefix_x_2 c = long_choice (begun (named (sized c)))
 
   open_position_slice_aggregate_away_at :
-      open-lts.Need-slice_bounds-away_at-end (open_calls t) (open_position_at t) open-position.Post invariant-loop decreases-loop
+      open-lts.Need-slice_bounds-away_at-end (open_calls t) (open_position_at t) open-position.Post invariant-loop
+      decreases-loop
   open_position_slice_aggregate_away_at c = lent_choice (begun (named (sized c.before)))
 
   open_position_sub_away_at :
-      open-lts.Need-slice_bounds-away_at-count (open_calls t) (open_position_at t) open-position.Post invariant-loop decreases-loop
+      open-lts.Need-slice_bounds-away_at-count (open_calls t) (open_position_at t) open-position.Post invariant-loop
+      decreases-loop
   open_position_sub_away_at c = memory (begun (named (sized c.before)))
 
   open_position_part_away_at_start :
-      open-lts.Need-slice_bounds-away_at-start (open_calls t) (open_position_at t) open-position.Post invariant-loop decreases-loop
+      open-lts.Need-slice_bounds-away_at-start (open_calls t) (open_position_at t) open-position.Post invariant-loop
+      decreases-loop
   open_position_part_away_at_start c = memory (begun (named (sized c.before)))
 
   open_position_part_away_at_end :
-      open-lts.Need-slice_bounds-away_at-end-2 (open_calls t) (open_position_at t) open-position.Post invariant-loop decreases-loop
+      open-lts.Need-slice_bounds-away_at-end-2 (open_calls t) (open_position_at t) open-position.Post invariant-loop
+      decreases-loop
   open_position_part_away_at_end c = search rules
 
   open_position_away_at_requires :
-      open-lts.Need-away_at-away-requires (open_calls t) (open_position_at t) open-position.Post invariant-loop decreases-loop
+      open-lts.Need-away_at-away-requires (open_calls t) (open_position_at t) open-position.Post invariant-loop
+      decreases-loop
   open_position_away_at_requires c κs =
       let n = named (sized c.before.before) in
       let b = begun n in
       (planned b, tested b, long_plan b, inside (inner n))
 
   open_position_leads_of_requires :
-      open-lts.Need-leads_of-leads-requires (open_calls t) (open_position_at t) open-position.Post invariant-loop decreases-loop
+      open-lts.Need-leads_of-leads-requires (open_calls t) (open_position_at t) open-position.Post invariant-loop
+      decreases-loop
   open_position_leads_of_requires c κs =
-      let w = c in
-      ((entry w.before).requires.1.0.ready.planned.sensible, (size (naming w.before)).1, holding w.before)
+      ((entry c.before).requires.1.0.ready.planned.sensible, (size (naming c.before)).1, holding c.before)
 
   open_position_least_value_requires :
-      open-lts.Need-least_value-a-requires (open_calls t) (open_position_at t) open-position.Post invariant-loop decreases-loop
+      open-lts.Need-least_value-a-requires (open_calls t) (open_position_at t) open-position.Post invariant-loop
+      decreases-loop
   open_position_least_value_requires c κs = size (naming (sent c.before))
 
   -- one partial choice less may be opened, and this is it
@@ -564,7 +595,8 @@ module _ (t : ℕ) where
   some_left c = omega (arith, (going (inner c)).if-run-eq0.false)
 
   open_position_count_opened_requires :
-      open-lts.Need-count_opened-t-requires (open_calls t) (open_position_at t) open-position.Post invariant-loop decreases-loop
+      open-lts.Need-count_opened-t-requires (open_calls t) (open_position_at t) open-position.Post invariant-loop
+      decreases-loop
   open_position_count_opened_requires c κs = some_left (naming (sent c.before.before))
 
   -- the search of the values starts with what is left then
@@ -589,25 +621,25 @@ module _ (t : ℕ) where
     tests w = running_searched first.requires.1.0.ready four w.still w.running
 
   open_position_slice_aggregate_reach_of :
-      open-lts.Need-slice_bounds-reach_of-end (open_calls t) (open_position_at t) open-position.Post invariant-loop decreases-loop
+      open-lts.Need-slice_bounds-reach_of-end (open_calls t) (open_position_at t) open-position.Post invariant-loop
+      decreases-loop
   open_position_slice_aggregate_reach_of c = search rules
 
   open_position_reach_of_requires :
-      open-lts.Need-reach_of-requires (open_calls t) (open_position_at t) open-position.Post invariant-loop decreases-loop
+      open-lts.Need-reach_of-requires (open_calls t) (open_position_at t) open-position.Post invariant-loop
+      decreases-loop
   open_position_reach_of_requires c κs =
-      let o = c in
-      let b = first o.before in
-      let h = starts o.before in (
-        running_searched h.ready (four o.before) (still_refl b.args.aim.task b.args.work.now) h.running,
-        reached_spent o.count_opened-t.ensures b.requires.1.1,
+      let b = first c.before in
+      let h = starts c.before in (
+        running_searched h.ready (four c.before) (still_refl b.args.aim.task b.args.work.now) h.running,
+        reached_spent c.count_opened-t.ensures b.requires.1.1,
         refl,
       )
 
   open_position_loop_holds :
       open-lts.Need-loop-leads-init (open_calls t) (open_position_at t) open-position.Post invariant-loop decreases-loop
   open_position_loop_holds c =
-      let r = c in
-      let o = spending r.before in
+      let o = spending c.before in
       let leads = led o in
       let w = sent leads in
       let read = leads.leads_of-leads.ensures in
@@ -616,12 +648,13 @@ module _ (t : ℕ) where
         least.0,
         least.1,
         all (λ a l. read.1 a (rw (← is_variable (naming w)) at l) ∙ lead_is w a l),
-        reached_long r.reach_of.ensures,
-        λ same. r.reach_of.ensures,
+        reached_long c.reach_of.ensures,
+        λ same. c.reach_of.ensures,
       )
 
   open_position_mul_if3 :
-      open-lts.Need-offset_bounds-leads-a (open_calls t) (open_position_at t) open-position.Post invariant-loop decreases-loop
+      open-lts.Need-offset_bounds-leads-a (open_calls t) (open_position_at t) open-position.Post invariant-loop
+      decreases-loop
   open_position_mul_if3 c = omega (arith, value_few c)
 
   open_position_array_read_if3 :
@@ -629,11 +662,13 @@ module _ (t : ℕ) where
   open_position_array_read_if3 c = omega (arith, value_few c)
 
   open_position_slice_aggregate_reach_anew :
-      open-lts.Need-slice_bounds-reach_anew-end (open_calls t) (open_position_at t) open-position.Post invariant-loop decreases-loop
+      open-lts.Need-slice_bounds-reach_anew-end (open_calls t) (open_position_at t) open-position.Post invariant-loop
+      decreases-loop
   open_position_slice_aggregate_reach_anew c = sym (renewing c.before).loop-leads.invariant.3
 
   open_position_reach_anew_requires :
-      open-lts.Need-reach_anew-requires (open_calls t) (open_position_at t) open-position.Post invariant-loop decreases-loop
+      open-lts.Need-reach_anew-requires (open_calls t) (open_position_at t) open-position.Post invariant-loop
+      decreases-loop
   open_position_reach_anew_requires c κs =
       let w = renewing c.before in
       (tests (opened w) w.loop-leads.invariant.2, w.loop-leads.invariant.3)
@@ -643,7 +678,8 @@ module _ (t : ℕ) where
   ReachedIn c =
       Reached (first (opened c)).args.aim.d c.loop-leads.work c.loop-leads.t (first (opened c)).args.node.bound
 
-  reach_known : (c : Renewed) → ReachedIn (again c) c.if-seen-t.reach × (c.if-seen-t.seen ≡ (again c).loop-leads.t.meets)
+  reach_known : (c : Renewed)
+      → ReachedIn (again c) c.if-seen-t.reach × (c.if-seen-t.seen ≡ (again c).loop-leads.t.meets)
   reach_known c =
       let w = (again c).loop-leads in
       ⊎_elim
@@ -660,7 +696,8 @@ module _ (t : ℕ) where
       omega (arith, width_few b.args.aim.d b.requires.1.0.ready.planned.sensible)
 
   open_position_row_of_requires :
-      open-lts.Need-row_of-b-requires (open_calls t) (open_position_at t) open-position.Post invariant-loop decreases-loop
+      open-lts.Need-row_of-b-requires (open_calls t) (open_position_at t) open-position.Post invariant-loop
+      decreases-loop
   open_position_row_of_requires c κs =
       let w = again c.before.before in
       let b = entry (sending w) in
@@ -668,28 +705,30 @@ module _ (t : ℕ) where
       (value_few w, few, holding (sending w) w.loop-leads.a w.loop-leads.invariant.0)
 
   open_position_with_requires :
-      open-lts.Need-with-next-requires (open_calls t) (open_position_at t) open-position.Post invariant-loop decreases-loop
+      open-lts.Need-with-next-requires (open_calls t) (open_position_at t) open-position.Post invariant-loop
+      decreases-loop
   open_position_with_requires c κs =
       let n = naming (sending (turn c)) in
       let few = (begun n).requires.1.0.ready.planned.variables in
       (omega (arith, inside (inner n), few), omega (arith, variable_below n, few), value_few (turn c))
 
   open_position_slice_aggregate_try_choice :
-      open-lts.Need-slice_bounds-try_choice-end (open_calls t) (open_position_at t) open-position.Post invariant-loop decreases-loop
+      open-lts.Need-slice_bounds-try_choice-end (open_calls t) (open_position_at t) open-position.Post invariant-loop
+      decreases-loop
   open_position_slice_aggregate_try_choice c =
       let r = renewed (bounded c.before) in
       sym (reached_long (reach_known r).0)
 
   open_position_try_choice_requires :
-      open-lts.Need-try_choice-t-requires (open_calls t) (open_position_at t) open-position.Post invariant-loop decreases-loop
+      open-lts.Need-try_choice-t-requires (open_calls t) (open_position_at t) open-position.Post invariant-loop
+      decreases-loop
   open_position_try_choice_requires c κs =
-      let g = c in
-      let r = bounded g.before.before in
+      let r = bounded c.before.before in
       let w = (turn r).loop-leads in
       let b = origin r in
-      let e = next_extends g.before.before in
+      let e = next_extends c.before.before in
       let o = opened (turn r) in
-      let next = trying_standing (starts o) w.invariant.2 w.a r.row_of-b.result g.with-next.result e (next_is r) in
+      let next = trying_standing (starts o) w.invariant.2 w.a r.row_of-b.result c.with-next.result e (next_is r) in
       let may = reached_rises b.args.aim.d b.requires.1.0.ready.planned.sensible b.args.node.bound
       r.row_of-b.result (bound_long b.args.node _ b.well_formed.0) (sym r.row_of-b.ensures.0)
       (λ j l. omega (arith, r.row_of-b.ensures.1 j l))
@@ -697,33 +736,41 @@ module _ (t : ℕ) where
       (omega (arith, e.deeper, inside (inner (naming (sending (turn r)))), b.requires.0), (next, rw e.bounded may))
 
   open_position_add_finished_requires :
-      open-lts.Need-add_finished-finished-requires (open_calls t) (open_position_at t) open-position.Post invariant-loop decreases-loop
+      open-lts.Need-add_finished-finished-requires (open_calls t) (open_position_at t) open-position.Post invariant-loop
+      decreases-loop
   open_position_add_finished_requires c κs = search rules
 
   open_position_mul_leads :
-      open-lts.Need-offset_bounds-leads-a-in-loop-leads (open_calls t) (open_position_at t) open-position.Post invariant-loop decreases-loop
+      open-lts.Need-offset_bounds-leads-a-in-loop-leads (open_calls t) (open_position_at t) open-position.Post
+      invariant-loop decreases-loop
   open_position_mul_leads c = omega (arith, value_few (turn (bounded (growing c))))
 
   open_position_array_write_leads :
-      open-lts.Need-bounds-leads-a-in-loop-leads (open_calls t) (open_position_at t) open-position.Post invariant-loop decreases-loop
+      open-lts.Need-bounds-leads-a-in-loop-leads (open_calls t) (open_position_at t) open-position.Post invariant-loop
+      decreases-loop
   open_position_array_write_leads c = omega (arith, value_few (turn (bounded (growing c))))
 
   open_position_least_value_requires_2 :
-      open-lts.Need-least_value-a-requires-in-loop-leads (open_calls t) (open_position_at t) open-position.Post invariant-loop decreases-loop
+      open-lts.Need-least_value-a-requires-in-loop-leads (open_calls t) (open_position_at t) open-position.Post
+      invariant-loop decreases-loop
   open_position_least_value_requires_2 c κs =
       let w = turn (bounded (growing c.before)) in
       size (naming (sending w))
 
   open_position_loop_less :
-      open-lts.Need-loop-leads-smaller (open_calls t) (open_position_at t) open-position.Post invariant-loop decreases-loop
+      open-lts.Need-loop-leads-smaller (open_calls t) (open_position_at t) open-position.Post invariant-loop
+      decreases-loop
   open_position_loop_less c =
       let x = trial (renewed (bounded (growing c.before.before))) in
       let w = looping x in
-      let below : w.loop-leads.a < length w.loop-leads.leads = omega (arith, value_few w, w.loop-leads.invariant.2.long) in
-      tried_fewer w.loop-leads.leads w.loop-leads.a below (omega (arith, x.loop-leads-test.true, x.struct_known-in-loop-leads-1.given))
+      let below : w.loop-leads.a < length w.loop-leads.leads =
+      omega (arith, value_few w, w.loop-leads.invariant.2.long) in
+      tried_fewer w.loop-leads.leads w.loop-leads.a below
+      (omega (arith, x.loop-leads-test.true, x.struct_known-in-loop-leads-1.given))
 
   open_position_loop_again :
-      open-lts.Need-loop-leads-preserved (open_calls t) (open_position_at t) open-position.Post invariant-loop decreases-loop
+      open-lts.Need-loop-leads-preserved (open_calls t) (open_position_at t) open-position.Post invariant-loop
+      decreases-loop
   open_position_loop_again c =
       let called = (tried c.before.before).try_choice-t in
       let g = growing c.before.before in
@@ -740,7 +787,8 @@ module _ (t : ℕ) where
       )
 
   open_position_part_done_requires :
-      open-lts.Need-part_done-requires (open_calls t) (open_position_at t) open-position.Post invariant-loop decreases-loop
+      open-lts.Need-part_done-requires (open_calls t) (open_position_at t) open-position.Post invariant-loop
+      decreases-loop
   open_position_part_done_requires c κs = (size (naming (sending c.before.before))).0
 
   open_position_same_length_2 :
@@ -750,31 +798,27 @@ module _ (t : ℕ) where
   open_position_returns_3 :
       open-lts.Need-returns (open_calls t) (open_position_at t) open-position.Post invariant-loop decreases-loop
   open_position_returns_3 c =
-      let over = c in
-      let w = over in
-      let n = naming (sending w.before.before.before) in
+      let n = naming (sending c.before.before.before) in
       let b = begun n in
-      spent_opened b.requires.1.0 (opened w.before.before.before).count_opened-t.ensures c.part_done.ensures
-      (trying_end (starts (opened w.before.before.before)) w.loop-leads.invariant.2 (inside (inner n)) w.loop-leads.a
-      (λ u l. w.loop-leads.invariant.1 u (rw (← is_variable n) at l)) over.loop-leads-test.false)
+      spent_opened b.requires.1.0 (opened c.before.before.before).count_opened-t.ensures c.part_done.ensures
+      (trying_end (starts (opened c.before.before.before)) c.loop-leads.invariant.2 (inside (inner n)) c.loop-leads.a
+      (λ u l. c.loop-leads.invariant.1 u (rw (← is_variable n) at l)) c.loop-leads-test.false)
 
   -- ## try_choice
 
   try_choice_is_alive_requires :
       try-lts.Need-is_alive-requires (try_calls t) (try_choice_at t) try-choice.Post
   try_choice_is_alive_requires c κs =
-      let b = c in
-      let a = b.args in
-      let h = b.requires.1.0 in
-      let four = aim_ceilings a.aim _ b.well_formed.1.1.1.1.1.0 in
+      let a = c.args in
+      let h = c.requires.1.0 in
+      let four = aim_ceilings a.aim _ c.well_formed.1.1.1.1.1.0 in
       let still = still_refl a.aim.task a.work.now in
-      (running_searched h.ready four still h.running, h.ready.planned.variables, b.requires.1.1)
+      (running_searched h.ready four still h.running, h.ready.planned.variables, c.requires.1.1)
 
   try_choice_open_position_requires :
       try-lts.Need-open_position-requires (try_calls t) (try_choice_at t) try-choice.Post
   try_choice_open_position_requires c κs =
-      let b = c in
-      (omega (arith, b.requires.0), b.requires.1)
+      (omega (arith, c.requires.0), c.requires.1)
 
   try_choice_same_length :
       try-lts.Need-shape_of-work-then-is_alive (try_calls t) (try_choice_at t) try-choice.Post
@@ -791,9 +835,8 @@ module _ (t : ℕ) where
   try_choice_returns_2 :
       try-lts.Need-returns (try_calls t) (try_choice_at t) try-choice.Post
   try_choice_returns_2 c =
-      let b = c in
       let dead = c.is_alive.ensures c.if-is_alive.false in
-      opened_same b.requires.1.0 (λ some. dead_covers b.requires.1.0 (bound_long b.args.node _ b.well_formed.0) dead)
+      opened_same c.requires.1.0 (λ some. dead_covers c.requires.1.0 (bound_long c.args.node _ c.well_formed.0) dead)
 
 pub +open_position_try_choice_spec : {M : Type 1} → statement M
 +open_position_try_choice_spec =

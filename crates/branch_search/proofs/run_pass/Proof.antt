@@ -26,8 +26,7 @@ limited c = c.before.before
 
 abbrev zoned : tie.After-root_bound-bound → tie.After-start_zones-m
 zoned c =
-    let lent = c in
-    lent.before.before.before.before
+    c.before.before.before.before
 
 -- the archive's costs are words
 words : (s : tie.Start) →
@@ -71,37 +70,35 @@ start-zones-requires c κs =
 
 root-bound-requires : tie.Need-root_bound-bound-requires
 root-bound-requires c κs =
-    let z = c in
-    let h = ready z.before.before.before in
-    rw (lent_plan (made z.before.before.before))
-    (h.planned, h.sound.tested, omega (arith, h.long, length-drop list_end (made z.before.before.before)), h.some_variable)
+    let h = ready c.before.before.before in
+    rw (lent_plan (made c.before.before.before)) (
+      h.planned,
+      h.sound.tested,
+      omega (arith, h.long, length-drop list_end (made c.before.before.before)),
+      h.some_variable,
+    )
 
 open-position-requires : tie.Need-open_position-requires
 open-position-requires c κs =
-    let full = c in
-    let rooted = full in
-    let z = zoned rooted.before.before.before.before.before in
+    let z = zoned c.before.before.before.before.before in
     let s = begun z in
     let byte = z.shared_slice_known-1.given in
     let bytes : (at : ℕ) → get_or s.args.s.now at 0 < byte_end = λ at. omega (arith, byte at) in
-    let bound = rw (lent_plan (made z)) at rooted.root_bound-bound.ensures in
+    let bound = rw (lent_plan (made z)) at c.root_bound-bound.ensures in
     let zones = z.start_zones-m.ensures in (
       root_standing s.requires.0 s.requires.1 (limited z).start_limit-limit.ensures s.args.left zones.0 zones.1
-          bytes rooted.root_bound-bound.result bound,
-      reached_full full.full_reach.ensures,
+          bytes c.root_bound-bound.result bound,
+      reached_full c.full_reach.ensures,
     )
 
 returns : tie.Need-returns
 returns c =
-    let tried = c in
-    let full = tried in
-    let rooted = full in
-    let z = zoned rooted.before.before.before.before.before.before.before.before in
+    let z = zoned c.before.before.before.before.before.before.before.before in
     let s = begun z in
     let zones = z.start_zones-m.ensures in
-    let called = tried.open_position in
+    let called = c.open_position in
     root_passed s.requires.0 s.requires.1 (limited z).start_limit-limit.ensures s.args.left zones.0 zones.1
-    rooted.root_bound-bound.result _ called.result called.ensures
+    c.root_bound-bound.result _ called.result called.ensures
 
 pub run_pass_spec : {M : Type 1} → statement M
 run_pass_spec =

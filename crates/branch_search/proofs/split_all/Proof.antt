@@ -135,4 +135,4 @@ split_all_spec =
     (λ c. search rules)  -- loop-i-smaller
     loop-again
     (λ c. c.loop-i.invariant.1.long)  -- shape_of-work
-    (λ c. (c.before.loop-i.invariant.1, c.before.loop-i.invariant.2)))  -- returns  -- returns
+    (λ c. (c.before.loop-i.invariant.1, c.before.loop-i.invariant.2)))  -- returns

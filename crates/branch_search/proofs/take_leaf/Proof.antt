@@ -1,5 +1,6 @@
 -- `branch_search::take_leaf` meets its contract.
-use Rattle.std.proofs.Common.{◌≡◌, ℕ, ◌<◌, ◌≤◌, Bool, true, false, List, ◌++◌, length, get_or, take, drop, sym, ap, ◌∙◌, subst, arith, length-take-le, take-take, w64, rules}
+use Rattle.std.proofs.Common.{◌≡◌, ℕ, ◌<◌, ◌≤◌, Bool, true, false, List, ◌++◌, length, get_or, take, drop, sym, ap, ◌∙◌}
+use Rattle.std.proofs.Common.{subst, arith, length-take-le, take-take, w64, rules}
 use borrow.Author.Tests.{not-false}
 use Rattle.model.specs.Basics.{All}
 use Rattle.model.specs.Limits.{max_objectives}
@@ -58,8 +59,7 @@ module _ (c : tie.After-is_under) where
 
   abbrev known : tie.After-slice_known-1
   known =
-      let copied = c in
-      copied.before.before.before.before.before
+      c.before.before.before.before.before
 
   abbrev entry : tie.Start
   entry = known.before.before.before
@@ -114,9 +114,8 @@ module _ (c : tie.After-take_point-t) where
 
 returns : tie.Need-returns-then-not-is_under
 returns c =
-    let t = c in
-    let s = entry t.before in
-    opened_same s.requires (λ some. over_covers s.requires (wide s) (met t.before false c.if-not-is_under.true))
+    let s = entry c.before in
+    opened_same s.requires (λ some. over_covers s.requires (wide s) (met c.before false c.if-not-is_under.true))
 
 returns-2 : tie.Need-returns-then-lead_of-run
 returns-2 c =
@@ -126,23 +125,21 @@ returns-2 c =
 -- no more may be met
 returns-3 : tie.Need-returns-then-run-eq0
 returns-3 c =
-    let e = c in
-    rw c.stop.ensures (opened_stopped (begun e.before.before.before).requires)
+    rw c.stop.ensures (opened_stopped (begun c.before.before.before).requires)
 
 take-point-requires : tie.Need-take_point-t-requires
 take-point-requires c κs =
-    let w = c in
-    let e = w in
-    let s = begun e.before.before.before.before in
+    let s = begun c.before.before.before.before in
     let h = s.requires in (
       omega (arith, h.ready.long),
       h.running.few,
       h.ready.room_small,
       few s,
       h.ready.planned.variables,
-      all_map Word (λ a. a < core_sum_end) (λ a l. omega arith) (take (p s) (front (tested e.before.before.before.before)))
-          (words e.before.before.before.before),
-      all_take (λ u. u ≤ max_weight) (p s) _ w.lead_weights-weights.ensures.1,
+      all_map Word (λ a. a < core_sum_end) (λ a l. omega arith)
+          (take (p s) (front (tested c.before.before.before.before)))
+          (words c.before.before.before.before),
+      all_take (λ u. u ≤ max_weight) (p s) _ c.lead_weights-weights.ensures.1,
       h.running.distinct,
       small s,
     )
@@ -156,58 +153,56 @@ count-met-requires c κs = some_met c.before.before.before.before
 
 returns-4 : tie.Need-returns-then-not-t
 returns-4 c =
-    let if4 = c in
-    let t = if4 in
-    let e = taking t.before.before.before.before.before in
-    let s = start t.before.before.before.before.before in
-    let takes = weighed (weights t.before.before.before.before.before).lead_weights-weights.ensures.0 t.take_point-t.ensures in
+    let e = taking c.before.before.before.before.before in
+    let s = start c.before.before.before.before.before in
+    let takes =
+    weighed (weights c.before.before.before.before.before).lead_weights-weights.ensures.0 c.take_point-t.ensures in
     rw c.count_met.ensures
     (leaf_kept s.requires (wide s) (allowed e) (early e) _ (costs (tested e))
-    t.take_point-t.result _ takes (some_met t.before.before.before.before.before))
+    c.take_point-t.result _ takes (some_met c.before.before.before.before.before))
 
 slice-relend-prefix-split-zones : tie.Need-slice_bounds-split_zones-end
 slice-relend-prefix-split-zones c = omega (arith, memory c.before.before.before.before)
 
 slice-aggregate-split-zones : tie.Need-slice_bounds-split_zones-end-2
 slice-aggregate-split-zones c =
-    let e = c in
-    let t = e in
-    sym (length-take-le zones_end (after t.before.before.before.before.before) (omega (arith, memory t.before.before.before.before.before)))
+    sym
+    (length-take-le zones_end (after c.before.before.before.before.before)
+    (omega (arith, memory c.before.before.before.before.before)))
 
 split-zones-requires : tie.Need-split_zones-m-requires
 split-zones-requires c κs =
-    let e = c in
-    let t = e in
-    let h = (start t.before.before.before.before.before).requires in
-    let same = framed_zones t.take_point-t.ensures.frame in
-    (h.ready.planned.sensible, rw same h.running.measured, words (taking t.before.before.before.before.before))
+    let h = (start c.before.before.before.before.before).requires in
+    let same = framed_zones c.take_point-t.ensures.frame in
+    (h.ready.planned.sensible, rw same h.running.measured, words (taking c.before.before.before.before.before))
 
 count-met-requires-2 : tie.Need-count_met-requires-2
 count-met-requires-2 c κs =
-    let added = c in
-    some_met added.before.before.before.before.before.before.before.before
+    some_met c.before.before.before.before.before.before.before.before
 
 returns-5 : tie.Need-returns
 returns-5 c =
-    let split = c in
-    let z = split.split_zones-m.new.zones in
-    let m = split.split_zones-m.result in
-    let says = split.split_zones-m.ensures in
-    let added = split in
-    let t = added in
-    let e = taking t.before.before.before.before.before.before.before.before.before in
-    let s = start t.before.before.before.before.before.before.before.before.before in
+    let z = c.split_zones-m.new.zones in
+    let m = c.split_zones-m.result in
+    let says = c.split_zones-m.ensures in
+    let e = taking c.before.before.before.before.before.before.before.before.before in
+    let s = start c.before.before.before.before.before.before.before.before.before in
     let d = s.args.aim.d in
-    let work = after t.before.before.before.before.before.before.before.before.before in
-    let takes = weighed (weights t.before.before.before.before.before.before.before.before.before).lead_weights-weights.ensures.0 t.take_point-t.ensures in
-    let long = lent_long d work z m says.1 (memory t.before.before.before.before.before.before.before.before.before) says.0 in
+    let work = after c.before.before.before.before.before.before.before.before.before in
+    let takes =
+    weighed
+    (weights c.before.before.before.before.before.before.before.before.before).lead_weights-weights.ensures.0
+    c.take_point-t.ensures in
+    let long =
+    lent_long d work z m says.1 (memory c.before.before.before.before.before.before.before.before.before) says.0 in
     rw c.count_met-2.ensures
     (leaf_split s.requires (wide s) (allowed e) (early e) (front (tested e)) (costs (tested e))
-    t.take_point-t.result work takes (not-false _ added.if-not-t.false) (z ++ drop zones_end work) m
-    (lent_same d work z m says.1 (memory t.before.before.before.before.before.before.before.before.before) says.0)
+    c.take_point-t.result work takes (not-false _ c.if-not-t.false) (z ++ drop zones_end work) m
+    (lent_same d work z m says.1 (memory c.before.before.before.before.before.before.before.before.before) says.0)
     (lent_behind z (drop zones_end work) long)
-    (lent_measured d work z m says.1 (memory t.before.before.before.before.before.before.before.before.before) says.0)
-    (rw (lent_front z (drop zones_end work) long) says.2) (some_met t.before.before.before.before.before.before.before.before.before))
+    (lent_measured d work z m says.1 (memory c.before.before.before.before.before.before.before.before.before) says.0)
+    (rw (lent_front z (drop zones_end work) long) says.2)
+    (some_met c.before.before.before.before.before.before.before.before.before))
 
 pub take_leaf_spec : {M : Type 1} → statement M
 take_leaf_spec =

@@ -24,12 +24,11 @@ cast-to c =
 
 sent-requires : tie.Need-sent-requires
 sent-requires c κs =
-    let s = c in
-    let t = s.requires.1 in (
-      t.ends.messages s.args.k s.requires.3,
-      messages_inside t s.args.k (omega (arith, s.requires.3)),
-      width_few s.args.d s.requires.0.sensible,
-      s.requires.0.long,
+    let t = c.requires.1 in (
+      t.ends.messages c.args.k c.requires.3,
+      messages_inside t c.args.k (omega (arith, c.requires.3)),
+      width_few c.args.d c.requires.0.sensible,
+      c.requires.0.long,
     )
 
 pub away_at_spec : {M : Type 1} → statement M
@@ -47,4 +46,4 @@ away_at_spec =
     cast-to
     (λ c. search rules)  -- overflow_add-d
     sent-requires
-    (λ c. search rules))  -- returns  -- returns
+    (λ c. search rules))  -- returns

@@ -26,7 +26,12 @@ loop-again c =
     let w = c.loop-a in
     ⊎_elim
     (λ t.
-    rw t.least-is (omega arith, omega arith, below_more _ w.a (λ b l. omega (arith, w.invariant.2 b l, t.if-leads-a.true)) (omega arith)))
+    rw t.least-is (
+      omega arith,
+      omega arith,
+      below_more _ w.a (λ b l. omega (arith, w.invariant.2 b l, t.if-leads-a.true))
+          (omega arith),
+    ))
     (λ t. rw t.least-is (omega arith, omega arith, below_more _ w.a w.invariant.2 (omega (arith, t.if-leads-a.false))))
     c.if-leads-a.branch-raw
 

@@ -26,39 +26,45 @@ module _ (s : tie.Start) where
 
 slice-aggregate-content : tie.Need-slice_bounds-content-end
 slice-aggregate-content c =
-    let s = c in
-    sym (ap length (zeros s.before.before.before.before.before.before.before) ∙ length-replicate (length s.args.sizes.now) 0)
+    sym
+    (ap length (zeros c.before.before.before.before.before.before.before)
+    ∙ length-replicate (length c.args.sizes.now) 0)
 
 content-requires : tie.Need-content-rows-requires
 content-requires c κs =
-    let lent = c in
-    let s = lent in
-    let ends = s.requires.1.ends in (
-      s.requires.0,
+    let ends = c.requires.1.ends in (
+      c.requires.0,
       record {
         records = ends.records_first;
         children = omega (arith, ends.messages_first, ends.children_first);
         children_end = omega (arith, ends.messages_first);
       },
-      s.requires.3,
-      rw (zeros s.before.before.before.before.before.before.before) (zeros_choice s.args.sizes.now s.requires.0.small),
+      c.requires.3,
+      rw (zeros c.before.before.before.before.before.before.before) (zeros_choice c.args.sizes.now c.requires.0.small),
     )
 
 row-of-requires : tie.Need-row_of-requires
-row-of-requires c κs =
-    let s = c in (
-      omega arith,
-      width_few s.args.d s.requires.0.sensible,
-      λ j l. omega (arith, zeros_at max_directions j, (c.content-rows.ensures 0 j (first_value s.before.before.before.before.before.before.before.before.before.before) l).1),
-    )
+row-of-requires c κs = (
+  omega arith,
+  width_few c.args.d c.requires.0.sensible,
+  λ j l. omega (
+    arith,
+    zeros_at max_directions j,
+    (c.content-rows.ensures 0 j
+        (first_value c.before.before.before.before.before.before.before.before.before.before) l).1,
+  ),
+)
 
 returns : tie.Need-returns
 returns c =
-    let s = c in
-    let a = s.args in
-    λ j l. let base = (c.content-rows.ensures 0 j (first_value s.before.before.before.before.before.before.before.before.before.before.before) l).0
+    let a = c.args in
+    λ j l. let base =
+    (c.content-rows.ensures 0 j
+    (first_value c.before.before.before.before.before.before.before.before.before.before.before) l).0
     ∙ ap (λ (u : List ℕ). base_at a.d a.sizes.now a.s.now a.plan.now a.r u j)
-    (ap (λ (u : List ℕ). set u 0 0) (zeros s.before.before.before.before.before.before.before.before.before.before.before) ∙ zeros_set (length a.sizes.now)) in
+    (ap (λ (u : List ℕ). set u 0 0)
+    (zeros c.before.before.before.before.before.before.before.before.before.before.before)
+    ∙ zeros_set (length a.sizes.now)) in
     omega (arith, c.row_of.ensures.1 j l, zeros_at max_directions j, base)
 
 pub root_bound_spec : {M : Type 1} → statement M

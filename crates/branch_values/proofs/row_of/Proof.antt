@@ -42,7 +42,8 @@ loop-again c =
       below_more _ w.j (λ i l h. get_or-set_other w.b w.j i _ 0 (λ e. omega arith) ∙ w.invariant.2 i l h)
           (λ h. get_or-set_same w.b w.j _ 0 inside),
     ))
-    (λ t. rw t.b-is (omega arith, w.invariant.1, below_more _ w.j w.invariant.2 (λ h. absurd (omega (arith, t.if-j-w.false)))))
+    (λ t. rw t.b-is
+    (omega arith, w.invariant.1, below_more _ w.j w.invariant.2 (λ h. absurd (omega (arith, t.if-j-w.false)))))
     c.if-j-w.branch-raw
 
 pub row_of_spec : {M : Type 1} → statement M
@@ -67,4 +68,4 @@ row_of_spec =
     (λ c. search rules)  -- overflow_add-j
     (λ c. search rules)  -- loop-j-smaller
     loop-again
-    (λ c. (c.before.loop-j.invariant.1, λ j l. c.before.loop-j.invariant.2 j (omega arith) l)))  -- returns  -- returns
+    (λ c. (c.before.loop-j.invariant.1, λ j l. c.before.loop-j.invariant.2 j (omega arith) l)))  -- returns

@@ -8,7 +8,8 @@ use Rattle.plan_spreads.proofs.extent_at.Statement.{statement}
 use Rattle.plan_spreads.proofs.extent_at.Tie as tie
 
 abbrev invariant-loop : tie.invariant-loop-i
-invariant-loop s at sizes ceiling count low₀ most₀ i₀ low most i = Scanned ceiling (table_at sizes s at).costs low most i
+invariant-loop s at sizes ceiling count low₀ most₀ i₀ low most i =
+    Scanned ceiling (table_at sizes s at).costs low most i
 
 abbrev decreases-loop : tie.decreases-loop-i
 decreases-loop s at sizes ceiling count low₀ most₀ i₀ low most i = count - i
@@ -41,7 +42,8 @@ loop-again : tie.Need-loop-i-preserved invariant-loop decreases-loop
 loop-again c =
     let read = c.table_entry-cost in
     let at-loop = c in
-    let inside : at-loop.loop-i.i < length (entries at-loop.before.before.before) = omega (arith, many at-loop.before.before.before) in
+    let inside : at-loop.loop-i.i < length (entries at-loop.before.before.before) =
+    omega (arith, many at-loop.before.before.before) in
     let inv = at-loop.loop-i.invariant in
     ⊎_elim
     (λ a. scan_under inv inside read.ensures.0 a.if-cost-ceiling.true read.ensures.1
@@ -71,4 +73,4 @@ extent_at_spec =
     (λ c. search rules)  -- loop-i-smaller
     loop-again
     returns
-    (λ c. (largest c.before, c.before.before.loop-i.invariant.small)))  -- returns  -- returns-2
+    (λ c. (largest c.before, c.before.before.loop-i.invariant.small)))  -- returns

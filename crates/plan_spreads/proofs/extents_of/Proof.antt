@@ -25,7 +25,7 @@ abbrev Turn : Type 0
 Turn = tie.In-loop-i invariant-loop decreases-loop
 
 abbrev start : tie.At-loop-i invariant-loop decreases-loop → tie.Start invariant-loop decreases-loop
-start c = let known = c in known.before.before.before.before
+start c = c.before.before.before.before
 
 abbrev Read : Type 0
 Read = tie.After-struct_known-1 invariant-loop decreases-loop
@@ -61,11 +61,10 @@ counted c =
 
 loop-holds : tie.Need-loop-i-init invariant-loop decreases-loop
 loop-holds c =
-    let s = c in
-    let a = s.args in (
+    let a = c.args in (
       refl,
       sums_start (largest_of a.ceilings) a.sizes.now a.s.now a.places.now 0 a.r (omega arith)
-          s.requires.2 (omega (arith, s.requires.1)) (rw sub-zero s.requires.3),
+          c.requires.2 (omega (arith, c.requires.1)) (rw sub-zero c.requires.3),
     )
 
 cast-at : tie.Need-overflow_cast-at invariant-loop decreases-loop
@@ -73,21 +72,18 @@ cast-at c = omega (arith, c.shared_slice_known-in-loop-i-1.given c.loop-i.i)
 
 add-mosts : tie.Need-overflow_add-mosts invariant-loop decreases-loop
 add-mosts c =
-    let read = c in
     omega (
       arith,
       c.extent_at-extent.ensures.1,
-      sums_small (turn read.before.before.before).loop-i.invariant.1 read.record_at-t.result.objective,
+      sums_small (turn c.before.before.before).loop-i.invariant.1 c.record_at-t.result.objective,
     )
 
 loop-again : tie.Need-loop-i-preserved invariant-loop decreases-loop
 loop-again c =
-    let found = c in
-    let read = found in
-    let w = (turn read.before.before.before).loop-i in (
+    let w = (turn c.before.before.before).loop-i in (
       length-set w.lows _ _ ∙ w.invariant.0,
-      sums_next w.invariant.1 (omega arith) _ _ read.record_at-t.ensures.objective (counted found.before.before)
-          found.extent_at-extent.ensures.1,
+      sums_next w.invariant.1 (omega arith) _ _ c.record_at-t.ensures.objective (counted c.before.before)
+          c.extent_at-extent.ensures.1,
     )
 
 returns : tie.Need-returns invariant-loop decreases-loop

@@ -6,12 +6,8 @@ use Rattle.plan_spreads.proofs.fitted_ceilings.Tie as tie
 
 returns : tie.Need-returns
 returns c =
-    let third = c in
-    let second = third in
-    let first = second in
-    let start = first in
-    four_fitted start.args.ceilings start.args.mosts _ _ _ _ first.fitted.ensures second.fitted-2.ensures
-    third.fitted-3.ensures c.fitted-4.ensures
+    four_fitted c.args.ceilings c.args.mosts _ _ _ _ c.fitted.ensures c.fitted-2.ensures
+    c.fitted-3.ensures c.fitted-4.ensures
 
 pub fitted_ceilings_spec : {M : Type 1} → statement M
 fitted_ceilings_spec =

@@ -9,4 +9,4 @@ with_spec =
     (tie.spec
     (λ c κs. search rules)  -- with_value-choice-requires
     (λ c. search rules)  -- overflow_add-depth
-    (λ c. rw c.before.with_value-choice.ensures))  -- returns  -- returns
+    (λ c. rw c.before.with_value-choice.ensures))  -- returns
