@@ -16,7 +16,8 @@ use Rattle.model.specs.Encoding.{Byte}
 use Rattle.model.specs.Reading.{problem_of}
 use Rattle.model.specs.Frontiers.{frontier}
 use Rattle.model.specs.Cuts.{cut_list, half_size}
-use Rattle.model.specs.Calls.{over, room_of, flat_costs, flat_choices, room_verdict, cut_room_verdict, cut_verdict, cut_outcome}
+use Rattle.model.specs.Calls.{over, room_of, flat_costs, flat_choices, room_verdict}
+use Rattle.model.specs.Calls.{cut_room_verdict, cut_verdict, cut_outcome}
 use Rattle.model.proofs.Cut.{cut_frontier}
 use Rattle.rows.specs.Rows.{list_in}
 use Rattle.problem.specs.declared.Reading as DG
@@ -30,7 +31,8 @@ use Rattle.answers.proofs.CutAnswers.{found_cut}
 
 -- a list on the way is too long, or none is
 room_told : (q : Problem) (ss : List ℕ) (room : ℕ) → cut_room_verdict q ss room
-    ≡ pick (ltb max_points (half_size 0 q ss) || (ltb max_points (half_size 1 q ss) || ltb room (length (cut_list q ss))))
+    ≡ pick
+    (ltb max_points (half_size 0 q ss) || (ltb max_points (half_size 1 q ss) || ltb room (length (cut_list q ss))))
     (verdict full 0) accepted
 unfolding cut_room_verdict room_verdict
 room_told q ss room =

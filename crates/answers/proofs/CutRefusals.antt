@@ -12,7 +12,8 @@ use Rattle.model.specs.Basics.{All}
 use Rattle.model.specs.Limits.{max_bytes, work_need}
 use Rattle.model.specs.Refusals.{bad_sides, Verdict, first}
 use Rattle.model.specs.Problems.{Table}
-use Rattle.model.specs.Reading.{head_tables, domains_of, tables_start, tables_at, places_at, verdict_of, problem_of, places_of}
+use Rattle.model.specs.Reading.{head_tables, domains_of, tables_start, tables_at, places_at}
+use Rattle.model.specs.Reading.{verdict_of, problem_of, places_of}
 use Rattle.model.specs.Cuts.{all_sides, sides_ok, crosses, linked_verdict, uncrossed}
 use Rattle.model.specs.Calls.{work_verdict, sides_verdict, cut_room_verdict, cut_verdict}
 use Rattle.model.proofs.Bits.{pick_both}

@@ -61,8 +61,8 @@ module _ (s : List ℕ) (room : ℕ) (w : List ℕ) (bytes : All Byte s) where
       }
 
   module _ (g : DG.Reading) (a : AcceptedReading s g) (enough : work_need ≤ length w)
-      (none : (early_verdict s (length w)).number ≡ 0) (room' : ℕ) (room_as : room' ≡ min room max_points) (f : DF.Found)
-      (w1 : List ℕ) (says : FoundFor (problem_of s) room' w w1 f) where
+      (none : (early_verdict s (length w)).number ≡ 0) (room' : ℕ) (room_as : room' ≡ min room max_points)
+      (f : DF.Found) (w1 : List ℕ) (says : FoundFor (problem_of s) room' w w1 f) where
     abbrev n : ℕ
     n = g.head.variables
 

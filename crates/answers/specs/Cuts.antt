@@ -34,7 +34,8 @@ no_lists = record { full = true; count = 0; first = 0; second = 0 }
 -- how many points each half has
 pub record CutFound (q : Problem) (sides : List ℕ) (room : ℕ) (work work' : List ℕ) (f : DL.Lists) : Type 0 where
   pub full : f.full
-      ≡ (ltb max_points (half_size 0 q sides) || (ltb max_points (half_size 1 q sides) || ltb room (length (frontier q))))
+      ≡ (ltb max_points (half_size 0 q sides)
+      || (ltb max_points (half_size 1 q sides) || ltb room (length (frontier q))))
   pub count : f.count ≡ when (not f.full) (length (frontier q))
   pub first : f.first ≡ when (not f.full) (half_size 0 q sides)
   pub second : f.second ≡ when (not f.full) (half_size 1 q sides)

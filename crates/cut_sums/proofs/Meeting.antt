@@ -76,7 +76,8 @@ module _ (p n : ℕ) (ceilings work : List ℕ) (k : ℕ) where
     abbrev pub meets_from : ℕ → Held → Held
     meets_from j h = least_left ps (sums_with (take p ceilings) x (rows_from p n work second_row b j)) h
 
-    pub meets_start : (h : Held) → meets_from 0 h ≡ least_left ps (sums_with (take p ceilings) x (second_in p n work b)) h
+    pub meets_start : (h : Held)
+        → meets_from 0 h ≡ least_left ps (sums_with (take p ceilings) x (second_in p n work b)) h
     meets_start h = rw (rows_start p n work second_row b)
 
     pub meets_end : (j : ℕ) (h : Held) → b ≤ j → meets_from j h ≡ h
@@ -95,7 +96,8 @@ module _ (p n : ℕ) (ceilings work : List ℕ) (k : ℕ) where
   -- the sums of the first half's points from i on with those of the second half
   module _ (a b : ℕ) where
     abbrev pub pass_from : ℕ → Held → Held
-    pass_from i h = least_left ps (all_sums (take p ceilings) (rows_from p n work first_row a i) (second_in p n work b)) h
+    pass_from i h =
+        least_left ps (all_sums (take p ceilings) (rows_from p n work first_row a i) (second_in p n work b)) h
 
     pub pass_start : (h : Held)
         → pass_from 0 h ≡ least_left ps (all_sums (take p ceilings) (first_in p n work a) (second_in p n work b)) h

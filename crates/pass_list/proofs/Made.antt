@@ -57,8 +57,8 @@ module _ {P : Pool} {p n : ℕ} {was work : List ℕ} {k : ℕ} (u : Made P p n 
       }
 
   -- costs and values are stored behind the others
-  module _ (few : p ≤ max_objectives) (values : n ≤ max_variables) (count : k ≤ max_points) (costs choice stored : List ℕ)
-      (wide : length (take p costs) ≡ p)
+  module _ (few : p ≤ max_objectives) (values : n ≤ max_variables) (count : k ≤ max_points)
+      (costs choice stored : List ℕ) (wide : length (take p costs) ≡ p)
       (w : RowWritten work k (point (padded max_objectives (take p costs)) choice) stored) where
     point_made : point_in p n stored k ≡ point (take p costs) (take n choice)
     point_made = written_point work costs choice stored p n k few values wide w

@@ -23,8 +23,8 @@ module _ (c : List ℕ) (n : ℕ) (work : List ℕ) (k p i : ℕ) where
       rw (none, list_in, matched)
 
   -- `row` and `met` are what the code reads of row i and its test
-  module _ (l : i < k) (few : p ≤ max_objectives) (row : List ℕ) (read : row ≡ costs_in max_objectives work i) (met : Bool)
-      (tested : met ≡ at_most (take p row) (take p c)) where
+  module _ (l : i < k) (few : p ≤ max_objectives) (row : List ℕ) (read : row ≡ costs_in max_objectives work i)
+      (met : Bool) (tested : met ≡ at_most (take p row) (take p c)) where
     pub matched_step : matched_from ≡ (met || matched (take p c) (list_in p n work (i + 1) (k - (i + 1))))
     unfolding matched list_in
     matched_step =

@@ -18,7 +18,8 @@ use Rattle.model.specs.Suffixes.{sharper}
 use Rattle.model.proofs.Sums.{take_added}
 use Rattle.layout.specs.Layout.{gains_at}
 use Rattle.groups.specs.declared.Task as DT
-use Rattle.pass_search.specs.States.{held_of, tables_in, problem_in, listed_in, prefix_of, dead_under, gains_in, rule_of}
+use Rattle.pass_search.specs.States.{held_of, tables_in, problem_in, listed_in, prefix_of, dead_under}
+use Rattle.pass_search.specs.States.{gains_in, rule_of}
 use Rattle.pass_search.specs.States.{Setting, opens_from, tries_from}
 use Rattle.pass_search.specs.declared.Partial as DP
 use Rattle.pass_search.specs.declared.Best as DB

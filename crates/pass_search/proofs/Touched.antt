@@ -39,7 +39,8 @@ module _ (ds pre : List ℕ) (v : ℕ) where
       (λ (t : ltb w (length pre) ≡ false).
       let l : length pre ≤ w = ltb-false _ _ t in
       let k : length more ≤ w = omega (arith, eqb-false w (length pre) n.0) in
-      rw (t, le-ltb w (length more) k) (ap (least_to (get_or ds w 0 - 1)) (fun_ext (λ a. next (i * get_or ds w 0 + a)))))
+      rw (t, le-ltb w (length more) k)
+      (ap (least_to (get_or ds w 0 - 1)) (fun_ext (λ a. next (i * get_or ds w 0 + a)))))
       (test (ltb w (length pre)))
 
   pub least_apart : (t : Table) → has_variable (length pre) t.scope ≡ false → least_of ds pre t ≡ least_of ds more t

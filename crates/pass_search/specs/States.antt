@@ -1,5 +1,6 @@
 -- What the search's functions rely on and ensure.
-use Rattle.std.specs.Prelude.{◌≡◌, Bool, true, ◌||◌, not, List, [], ◌∷◌, ◌++◌, ℕ, ◌+◌, ◌-◌, ◌*◌, ◌≤◌, ◌<◌, length, get_or, take, drop, replicate}
+use Rattle.std.specs.Prelude.{◌≡◌, Bool, true, ◌||◌, not, List, [], ◌∷◌, ◌++◌, ℕ, ◌+◌, ◌-◌, ◌*◌, ◌≤◌, ◌<◌}
+use Rattle.std.specs.Prelude.{length, get_or, take, drop, replicate}
 use Rattle.model.specs.Basics.{pick, when}
 use Rattle.model.specs.Limits.{max_objectives, max_points}
 use Rattle.model.specs.Problems.{Table, Problem, has_variable}

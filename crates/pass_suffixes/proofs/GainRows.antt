@@ -58,7 +58,8 @@ module _ (work : List ℕ) (long : source_at ≤ length work) where
   zero_row j i h =
       gain_from cleared j i
       ∙ sym (get_or-take gains_count (drop gains_at cleared) (4 * j + i) 0 h)
-      ∙ ap (λ (l : List ℕ). get_or l (4 * j + i) 0) (over_here work gains_at (replicate gains_count 0) source_at refl long)
+      ∙ ap (λ (l : List ℕ). get_or l (4 * j + i) 0)
+      (over_here work gains_at (replicate gains_count 0) source_at refl long)
       ∙ get_or-replicate gains_count (4 * j + i) 0 0 h
 
   pub cleared_found : (q : Problem) → q.objectives ≤ max_objectives → length q.domains ≤ max_variables

@@ -40,30 +40,28 @@ loop-holds c = (omega arith, refl)
 add-sum : tie.Need-overflow_add-sum invariant-loop decreases-loop
 add-sum c =
     let w = c.loop-i in
-    let s = c in
-    let a = s.args in
+    let a = c.args in
     let small =
-    sums_each a.x a.y a.n (long_x s.before.before) (long_y s.before.before) w.i (omega arith) (λ v. v < max_domain) s.requires.1 in
+    sums_each a.x a.y a.n (long_x c.before.before) (long_y c.before.before) w.i (omega arith) (λ v. v < max_domain)
+    c.requires.1 in
     omega (arith, small)
 
 loop-again : tie.Need-loop-i-preserved invariant-loop decreases-loop
 loop-again c =
     let w = c.loop-i in
-    let s = c in
-    let a = s.args in
+    let a = c.args in
     let xs = fronts_added a.x a.y a.n in
-    let long : length xs ≡ a.n = sums_long a.x a.y a.n (long_x s.before.before) (long_y s.before.before) in
-    let more = sums_more a.x a.y a.n (long_x s.before.before) (long_y s.before.before) w.i (omega arith) in
+    let long : length xs ≡ a.n = sums_long a.x a.y a.n (long_x c.before.before) (long_y c.before.before) in
+    let more = sums_more a.x a.y a.n (long_x c.before.before) (long_y c.before.before) w.i (omega arith) in
     let few = length-take-le w.i xs (omega arith) in
     (omega arith, padded_step max_variables w.i (λ k. take k xs) w.sum _ few (omega arith) more w.invariant.1)
 
 returns : tie.Need-returns invariant-loop decreases-loop
 returns c =
     let w = c.loop-i in
-    let s = c in
-    let a = s.args in
+    let a = c.args in
     let xs = fronts_added a.x a.y a.n in
-    let long : length xs ≡ a.n = sums_long a.x a.y a.n (long_x s.before.before) (long_y s.before.before) in
+    let long : length xs ≡ a.n = sums_long a.x a.y a.n (long_x c.before.before) (long_y c.before.before) in
     let all : take w.i xs ≡ xs = take_all w.i xs (omega arith) in
     rw (w.invariant.1, all) (take_padded max_variables a.n xs long)
 

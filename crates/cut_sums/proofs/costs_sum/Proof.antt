@@ -42,31 +42,28 @@ loop-holds c = (omega arith, refl)
 add-sum : tie.Need-overflow_add-sum invariant-loop decreases-loop
 add-sum c =
     let w = c.loop-i in
-    let s = c in
-    let a = s.args in
+    let a = c.args in
     let small : ℕ → Type 0 = λ c. c < core_sum_end in
-    let x = front_each small 0 a.p a.x (long_x s.before.before) s.requires.1 w.i (omega arith) in
-    let y = front_each small 0 a.p a.y (long_y s.before.before) s.requires.2 w.i (omega arith) in
+    let x = front_each small 0 a.p a.x (long_x c.before.before) c.requires.1 w.i (omega arith) in
+    let y = front_each small 0 a.p a.y (long_y c.before.before) c.requires.2 w.i (omega arith) in
     omega (arith, x, y)
 
 loop-again : tie.Need-loop-i-preserved invariant-loop decreases-loop
 loop-again c =
     let w = c.loop-i in
-    let s = c in
-    let a = s.args in
+    let a = c.args in
     let xs = fronts_added a.x a.y a.p in
-    let long : length xs ≡ a.p = sums_long a.x a.y a.p (long_x s.before.before) (long_y s.before.before) in
-    let more = sums_more a.x a.y a.p (long_x s.before.before) (long_y s.before.before) w.i (omega arith) in
+    let long : length xs ≡ a.p = sums_long a.x a.y a.p (long_x c.before.before) (long_y c.before.before) in
+    let more = sums_more a.x a.y a.p (long_x c.before.before) (long_y c.before.before) w.i (omega arith) in
     let few = length-take-le w.i xs (omega arith) in
     (omega arith, padded_step max_objectives w.i (λ k. take k xs) w.sum _ few (omega arith) more w.invariant.1)
 
 returns : tie.Need-returns invariant-loop decreases-loop
 returns c =
     let w = c.loop-i in
-    let s = c in
-    let a = s.args in
+    let a = c.args in
     let xs = fronts_added a.x a.y a.p in
-    let long : length xs ≡ a.p = sums_long a.x a.y a.p (long_x s.before.before) (long_y s.before.before) in
+    let long : length xs ≡ a.p = sums_long a.x a.y a.p (long_x c.before.before) (long_y c.before.before) in
     let all : take w.i xs ≡ xs = take_all w.i xs (omega arith) in
     rw (w.invariant.1, all) (take_padded max_objectives a.p xs long)
 

@@ -23,17 +23,15 @@ returns-2 c =
 
 returns-3 : tie.Need-returns
 returns-3 c =
-    let tests = c in
-    let s = tests in
-    let a = s.args in
+    let a = c.args in
     let front : length (take a.p a.sum.costs) ≡ a.p = length-take-le a.p a.sum.costs
-    (omega (arith, s.requires.0, costs_four a.sum _ s.well_formed.0)) in
+    (omega (arith, c.requires.0, costs_four a.sum _ c.well_formed.0)) in
     let other : length (take a.p a.held.costs) ≡ a.p = length-take-le a.p a.held.costs
-    (omega (arith, s.requires.0, costs_four a.held _ s.well_formed.1.0)) in
+    (omega (arith, c.requires.0, costs_four a.held _ c.well_formed.1.0)) in
     c.is_earlier_choice.ensures
     ∙ ahead_tied (point_of a.p a.n a.sum) (point_of a.p a.n a.held) (front ∙ sym other)
-    (sym tests.is_earlier.ensures ∙ tests.if-is_earlier.false)
-    (sym tests.is_earlier-2.ensures ∙ tests.if-is_earlier-2.false)
+    (sym c.is_earlier.ensures ∙ c.if-is_earlier.false)
+    (sym c.is_earlier-2.ensures ∙ c.if-is_earlier-2.false)
 
 pub is_ahead_spec : {M : Type 1} → statement M
 is_ahead_spec =

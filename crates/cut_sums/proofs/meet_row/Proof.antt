@@ -41,10 +41,9 @@ met c =
 
 sum-of-requires : tie.Need-sum_of-sum-requires invariant-loop decreases-loop
 sum-of-requires c κs =
-    let s = c in
     let j = c.loop-j.j in
-    let a = s.args in
-    let h = s.requires in
+    let a = c.args in
+    let h = c.requires in
     let words = row_has a.p a.n a.work.now SmallCosts second_row a.b h.second_small j (omega arith) in (
       h.objectives,
       h.variables,
@@ -57,8 +56,7 @@ sum-of-requires c κs =
 
 take-sum-requires : tie.Need-take_sum-best-requires invariant-loop decreases-loop
 take-sum-requires c κs =
-    let s = c in
-    (omega (arith, s.requires.long), s.requires.count, s.requires.objectives, s.requires.variables, (met c).0)
+    (omega (arith, c.requires.long), c.requires.count, c.requires.objectives, c.requires.variables, (met c).0)
 
 loop-again : tie.Need-loop-j-preserved invariant-loop decreases-loop
 loop-again c =

@@ -8,7 +8,8 @@ use Rattle.cut_sums.proofs.merge_points.Statement.{statement}
 use Rattle.cut_sums.proofs.merge_points.Tie as tie
 
 abbrev invariant-loop : tie.invariant-loop-k
-invariant-loop a b n p ceilings room work₀ k₀ work k = (k ≤ room) × Made (Summed p n ceilings work₀ a b) p n work₀ work k
+invariant-loop a b n p ceilings room work₀ k₀ work k =
+    (k ≤ room) × Made (Summed p n ceilings work₀ a b) p n work₀ work k
 
 abbrev decreases-loop : tie.decreases-loop-k
 decreases-loop a b n p ceilings room work₀ k₀ work k = room - k

@@ -24,43 +24,34 @@ module _ (s : tie.Start) where
 
 costs-sum-requires : tie.Need-costs_sum-costs-requires
 costs-sum-requires c κs =
-    let first = c in
-    let s = first in
-    let a = s.args in (
-      s.requires.0,
-      rw (first.row_costs.ensures, first_costs s.before.before.before a.i) s.requires.4,
-      rw (c.row_costs-2.ensures, first_costs s.before.before.before a.j) s.requires.5,
+    let a = c.args in (
+      c.requires.0,
+      rw (c.row_costs.ensures, first_costs c.before.before.before a.i) c.requires.4,
+      rw (c.row_costs-2.ensures, first_costs c.before.before.before a.j) c.requires.5,
     )
 
 choice-sum-requires : tie.Need-choice_sum-choice-requires
 choice-sum-requires c κs =
-    let first = c in
-    let costs = first in
-    let s = costs in
-    let a = s.args in (
-      s.requires.1,
-      rw (first.row_choice.ensures, c.row_choice-2.ensures, first_values s.before.before.before.before.before.before a.i, first_values s.before.before.before.before.before.before a.j)
-          s.requires.6,
+    let a = c.args in
+    let start : tie.Start = c.before.before.before.before.before.before in (
+      c.requires.1,
+      rw (c.row_choice.ensures, c.row_choice-2.ensures, first_values start a.i, first_values start a.j)
+          c.requires.6,
     )
 
 returns : tie.Need-returns
 returns c =
-    let second = c in
-    let first = second in
-    let added-costs = first in
-    let other = added-costs in
-    let one = other in
-    let s = one in
-    let a = s.args in
+    let a = c.args in
     let p = a.p in
     let n = a.n in
-    let w = work s.before.before.before.before.before.before.before in
-    let costs : take p added-costs.costs_sum-costs.result ≡ added (costs_in p w a.i) (costs_in p w a.j) =
-    added-costs.costs_sum-costs.ensures
-    ∙ rw (one.row_costs.ensures, other.row_costs-2.ensures, first_costs s.before.before.before.before.before.before.before a.i, first_costs s.before.before.before.before.before.before.before a.j) in
+    let start : tie.Start = c.before.before.before.before.before.before.before in
+    let w = work start in
+    let costs : take p c.costs_sum-costs.result ≡ added (costs_in p w a.i) (costs_in p w a.j) =
+    c.costs_sum-costs.ensures
+    ∙ rw (c.row_costs.ensures, c.row_costs-2.ensures, first_costs start a.i, first_costs start a.j) in
     let choice : take n c.choice_sum-choice.result ≡ added (values_in n w a.i) (values_in n w a.j) =
     c.choice_sum-choice.ensures
-    ∙ rw (first.row_choice.ensures, second.row_choice-2.ensures, first_values s.before.before.before.before.before.before.before a.i, first_values s.before.before.before.before.before.before.before a.j) in
+    ∙ rw (c.row_choice.ensures, c.row_choice-2.ensures, first_values start a.i, first_values start a.j) in
     rw (costs, choice)
 
 pub sum_of_spec : {M : Type 1} → statement M

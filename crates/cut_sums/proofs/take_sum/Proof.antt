@@ -31,43 +31,39 @@ left c = sym c.is_matched.ensures ∙ c.if-is_matched.false
 
 returns : tie.Need-returns-then-not-is_under
 returns c =
-    let s = c in
-    let a = s.args in
-    taken_over a.p a.n (listed s.before.before.before.before) a.ceilings a.sum a.held
+    let a = c.args in
+    taken_over a.p a.n (listed c.before.before.before.before) a.ceilings a.sum a.held
     (sym c.is_under.ensures ∙ c.if-not-is_under.true)
 
 returns-2 : tie.Need-returns-then-is_matched
 returns-2 c =
-    let s = c in
-    let a = s.args in
-    taken_listed a.p a.n (listed s.before.before.before.before.before.before) a.ceilings a.sum a.held (below c.before.before)
+    let a = c.args in
+    taken_listed a.p a.n (listed c.before.before.before.before.before.before)
+    a.ceilings a.sum a.held (below c.before.before)
     (rw c.is_matched.ensures at c.if-is_matched.true)
 
 returns-3 : tie.Need-returns-then-not-is_ahead
 returns-3 c =
-    let fresh = c in
-    let s = fresh in
-    let a = s.args in
-    taken_later a.p a.n (listed s.before.before.before.before.before.before.before.before.before) a.ceilings a.sum a.held (below fresh.before.before.before.before.before) (left fresh.before.before.before)
+    let a = c.args in
+    taken_later a.p a.n (listed c.before.before.before.before.before.before.before.before.before)
+    a.ceilings a.sum a.held (below c.before.before.before.before.before) (left c.before.before.before)
     c.if-held.true
     (rw c.is_ahead.ensures at c.if-not-is_ahead.true)
 
 returns-4 : tie.Need-returns-else-not-is_ahead
 returns-4 c =
-    let fresh = c in
-    let s = fresh in
-    let a = s.args in
-    taken_ahead a.p a.n (listed s.before.before.before.before.before.before.before.before.before) a.ceilings a.sum a.held (below fresh.before.before.before.before.before) (left fresh.before.before.before)
+    let a = c.args in
+    taken_ahead a.p a.n (listed c.before.before.before.before.before.before.before.before.before)
+    a.ceilings a.sum a.held (below c.before.before.before.before.before) (left c.before.before.before)
     c.if-held.true
-    (rw c.is_ahead.ensures at c.if-not-is_ahead.false) s.requires.4
+    (rw c.is_ahead.ensures at c.if-not-is_ahead.false) c.requires.4
 
 returns-5 : tie.Need-returns-else-held
 returns-5 c =
-    let fresh = c in
-    let s = fresh in
-    let a = s.args in
-    taken_first a.p a.n (listed s.before.before.before.before.before.before.before) a.ceilings a.sum a.held (below fresh.before.before.before) (left fresh.before)
-    c.if-held.false s.requires.4
+    let a = c.args in
+    taken_first a.p a.n (listed c.before.before.before.before.before.before.before)
+    a.ceilings a.sum a.held (below c.before.before.before) (left c.before)
+    c.if-held.false c.requires.4
 
 pub take_sum_spec : {M : Type 1} → statement M
 take_sum_spec =

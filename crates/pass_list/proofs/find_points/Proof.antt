@@ -22,10 +22,12 @@ begun c = c.before.before.before.before
 abbrev turn : tie.After-next_point-best invariant-loop decreases-loop → tie.At-loop-k invariant-loop decreases-loop
 turn c = c.before.before
 
-abbrev passed : tie.Else-not-best invariant-loop decreases-loop → tie.After-next_point-best invariant-loop decreases-loop
+abbrev passed : tie.Else-not-best invariant-loop decreases-loop
+    → tie.After-next_point-best invariant-loop decreases-loop
 passed c = c.before.before
 
-abbrev found : tie.After-store_point-arg-1 invariant-loop decreases-loop → tie.Else-not-best invariant-loop decreases-loop
+abbrev found : tie.After-store_point-arg-1 invariant-loop decreases-loop
+    → tie.Else-not-best invariant-loop decreases-loop
 found c = c.before.before.before
 
 abbrev ended : tie.After-next_point-last invariant-loop decreases-loop → tie.At-loop-k invariant-loop decreases-loop

@@ -155,15 +155,17 @@ module _ (t : ℕ) where
       let m = (begun c).requires.1.0 in
       (omega (arith, m.grouped.placed.long), m.count, m.objectives)
 
-  open_variable_returns : open-variable-lts.Need-returns-then-is_dead (open_calls t) (open_variable_at t) open-variable.Post
+  open_variable_returns :
+      open-variable-lts.Need-returns-then-is_dead (open_calls t) (open_variable_at t) open-variable.Post
   open_variable_returns c =
       let tested = c.before in
       let sharp = tested.before in
       let s = begun sharp in
-      left_out s.requires.1.0 (opened s) s.args.best sharp.sharper_bound-sharper.result sharp.sharper_bound-sharper.ensures
-      tested.is_dead.result tested.is_dead.ensures c.if-is_dead.true
+      left_out s.requires.1.0 (opened s) s.args.best sharp.sharper_bound-sharper.result
+      sharp.sharper_bound-sharper.ensures tested.is_dead.result tested.is_dead.ensures c.if-is_dead.true
 
-  open_variable_returns_2 : open-variable-lts.Need-returns-then-x-n (open_calls t) (open_variable_at t) open-variable.Post
+  open_variable_returns_2 :
+      open-variable-lts.Need-returns-then-x-n (open_calls t) (open_variable_at t) open-variable.Post
   open_variable_returns_2 c =
       let on : Alive = c.before.before.before in
       let sharp = sharpened on in
@@ -184,7 +186,10 @@ module _ (t : ℕ) where
       let s = begun (sharpened (alive c.before)) in
       let l : s.args.x.len < length s.args.sizes.now = omega (arith, s.requires.1.1.short) in (
         omega (arith, s.requires.0),
-        (s.requires.1.0, record { stands = s.requires.1.1; more = l; value = omega arith; rest = c.rest_of-rest.ensures }),
+        (
+          s.requires.1.0,
+          record { stands = s.requires.1.1; more = l; value = omega arith; rest = c.rest_of-rest.ensures },
+        ),
       )
 
   open_variable_returns_3 : open-variable-lts.Need-returns (open_calls t) (open_variable_at t) open-variable.Post

@@ -16,12 +16,10 @@ returns-2 c =
 returns-3 : tie.Need-returns-then-best
 unfolding late
 returns-3 c =
-    let listed = c in
-    let over = listed in
     rw (
-      ← over.is_under.ensures,
-      over.if-not-is_under.false,
-      ← listed.is_matched.ensures,
+      ← c.is_under.ensures,
+      c.if-not-is_under.false,
+      ← c.is_matched.ensures,
       c.if-is_matched.false,
       c.if-best.true,
       ← c.is_earlier.ensures,
@@ -30,12 +28,10 @@ returns-3 c =
 returns-4 : tie.Need-returns
 unfolding late
 returns-4 c =
-    let listed = c in
-    let over = listed in
     rw (
-      ← over.is_under.ensures,
-      over.if-not-is_under.false,
-      ← listed.is_matched.ensures,
+      ← c.is_under.ensures,
+      c.if-not-is_under.false,
+      ← c.is_matched.ensures,
       c.if-is_matched.false,
       c.if-best.false,
     )

@@ -31,31 +31,24 @@ step s i l = matched_step s.args.c s.args.n s.args.work.now s.args.k s.args.p i 
 
 returns : tie.Need-returns-then-is_at_most invariant-loop decreases-loop
 returns c =
-    let tested = c in
-    let read = tested in
-    let turn = read in
-    let w = turn.loop-i in
-    let s = turn in
-    let met = sym c.if-is_at_most.true ∙ tested.is_at_most.ensures in
-    let here = step s.before.before.before.before.before.before.before.before w.i turn.loop-i-test.true read.row_costs.result read.row_costs.ensures true met in
+    let w = c.loop-i in
+    let met = sym c.if-is_at_most.true ∙ c.is_at_most.ensures in
+    let start : tie.Start invariant-loop decreases-loop = c.before.before.before.before.before.before.before.before in
+    let here = step start w.i c.loop-i-test.true c.row_costs.result c.row_costs.ensures true met in
     sym (sym w.invariant.1 ∙ here)
 
 loop-again : tie.Need-loop-i-preserved invariant-loop decreases-loop
 loop-again c =
-    let tested = c in
-    let read = tested in
-    let turn = read in
-    let w = turn.loop-i in
-    let s = turn in
-    let met = sym c.if-is_at_most.false ∙ tested.is_at_most.ensures in
-    let here = step s.before.before.before.before.before.before.before.before w.i turn.loop-i-test.true read.row_costs.result read.row_costs.ensures false met in
+    let w = c.loop-i in
+    let met = sym c.if-is_at_most.false ∙ c.is_at_most.ensures in
+    let start : tie.Start invariant-loop decreases-loop = c.before.before.before.before.before.before.before.before in
+    let here = step start w.i c.loop-i-test.true c.row_costs.result c.row_costs.ensures false met in
     (omega arith, sym here ∙ w.invariant.1)
 
 returns-2 : tie.Need-returns invariant-loop decreases-loop
 returns-2 c =
-    let s = c in
     let w = c.loop-i in
-    sym (matched_end s.args.c s.args.n s.args.work.now s.args.k s.args.p w.i (omega arith))
+    sym (matched_end c.args.c c.args.n c.args.work.now c.args.k c.args.p w.i (omega arith))
     ∙ w.invariant.1
 
 pub is_matched_spec : {M : Type 1} → statement M

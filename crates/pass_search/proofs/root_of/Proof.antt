@@ -15,13 +15,12 @@ all r = omega arith
 bounds-over-requires : tie.Need-bounds_over-bound-requires
 unfolding prefix_ok
 bounds-over-requires c κs =
-    let s = c in
-    let q = s.requires in (
+    let q = c.requires in (
       q.small,
       omega arith,
       omega (arith, q.few, q.long),
       omega (arith, q.few),
-      rw (all s.args.r) q.whole,
+      rw (all c.args.r) q.whole,
       refl,
     )
 

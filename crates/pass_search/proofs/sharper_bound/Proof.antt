@@ -14,15 +14,13 @@ use Rattle.pass_search.proofs.sharper_bound.Tie as tie
 -- a gain is a number of work memory
 gains_small : (c : tie.After-numbers_at-gains) → All Half c.numbers_at-gains.result
 gains_small c =
-    let s = c in
     rw c.numbers_at-gains.ensures
-    (four_half s.args.work.now (gains_at + 4 * s.args.x.len) (omega (arith, s.requires.0, s.requires.1))
+    (four_half c.args.work.now (gains_at + 4 * c.args.x.len) (omega (arith, c.requires.0, c.requires.1))
     (λ i. omega (arith, c.shared_slice_known-1.given i)))
 
 sum-requires : tie.Need-sum-requires
 sum-requires c κs =
-    let s = c in
-    (all_map (λ b. b ≤ core_sum_end) Half (λ b l. omega arith) s.args.x.bound s.requires.2, gains_small c)
+    (all_map (λ b. b ≤ core_sum_end) Half (λ b l. omega arith) c.args.x.bound c.requires.2, gains_small c)
 
 pub sharper_bound_spec : {M : Type 1} → statement M
 sharper_bound_spec =

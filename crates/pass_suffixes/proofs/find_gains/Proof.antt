@@ -83,7 +83,8 @@ returns c =
     let w = c.loop-o in
     let none : w.o ≡ 0 = omega arith in
     let left = (objectives_start s.requires k.clear_gains.new.work k.clear_gains.ensures).1 in
-    let all = objective_next s.requires k.clear_gains.new.work left 0 w.work (rw none at w.invariant.1, w.invariant.2) in
+    let all = objective_next s.requires k.clear_gains.new.work left 0 w.work
+    (rw none at w.invariant.1, w.invariant.2) in
     objectives_end s.requires w.work all.1 0 0 all.0
 
 pub find_gains_spec : {M : Type 1} → statement M

@@ -42,7 +42,8 @@ small c o l =
     let bytes : (i : ℕ) → get_or a.s.now i 0 < byte_end = λ i.
     omega (arith, (known (summed c)).shared_slice_known-1.given i) in
     rw
-    (next_sum (place s) s.requires.2 a.v a.rest s.requires.4 c.group_bounds-touched.result c.group_bounds-touched.ensures o l)
+    (next_sum (place s) s.requires.2 a.v a.rest s.requires.4 c.group_bounds-touched.result
+    c.group_bounds-touched.ensures o l)
     (total_fits a.sizes.now a.s.now a.work.now (next a.self a.v) a.r o s.requires.0.placed.few
     bytes)
 
