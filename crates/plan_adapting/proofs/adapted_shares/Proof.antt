@@ -6,40 +6,34 @@ use borrow.Author.Rules.{rules}
 use Rattle.plan_adapting.proofs.adapted_shares.Statement.{statement}
 use Rattle.plan_adapting.proofs.adapted_shares.Tie as tie
 
-abbrev invariant-loop : tie.invariant-loop
+abbrev invariant-loop : tie.invariant-loop-i
 invariant-loop s sizes task ranges kind plan₀ t₀ i₀ plan t i = Reordered task.records sizes s plan₀ plan
 
-abbrev decreases-loop : tie.decreases-loop
+abbrev decreases-loop : tie.decreases-loop-i
 decreases-loop s sizes task ranges kind plan₀ t₀ i₀ plan t i = 6 - i
 
-abbrev start : tie.After-equal-shares invariant-loop decreases-loop → tie.Start invariant-loop decreases-loop
-start c = c.before.before.before.before
+loop-holds : tie.Need-loop-i-init invariant-loop decreases-loop
+loop-holds c = reordered_refl c.requires
 
-loop-holds : tie.Need-loop-init invariant-loop decreases-loop
-loop-holds c = reordered_refl (start c).requires
-
-try-shares-requires : tie.Need-try-shares-requires invariant-loop decreases-loop
+try-shares-requires : tie.Need-try_shares-t-requires invariant-loop decreases-loop
 try-shares-requires c κs =
-    let at-loop = c.before.before in
-    adaptable_reordered (start at-loop.before).pre at-loop.loop.invariant
+    adaptable_reordered c.requires c.loop-i.invariant
 
-loop-again : tie.Need-loop-preserved invariant-loop decreases-loop
+loop-again : tie.Need-loop-i-preserved invariant-loop decreases-loop
 loop-again c =
-    let tried = c.before.before in
-    let at-loop = tried.before.before.before in
-    reordered_trans at-loop.loop.invariant tried.try-shares.ensures
+    reordered_trans c.loop-i.invariant c.try_shares-t.ensures
 
-pub adapted-shares-spec : {M : Type 1} → statement M
-adapted-shares-spec =
+pub adapted_shares_spec : {M : Type 1} → statement M
+adapted_shares_spec =
     tie.close
     (tie.spec
     invariant-loop
     decreases-loop
-    (λ c κs. search rules)  -- equal-shares-requires
+    (λ c κs. search rules)  -- equal_shares-equal-requires
     loop-holds
     try-shares-requires
-    (λ c. search rules)  -- add-i
-    (λ c. search rules)  -- loop-less
+    (λ c. search rules)  -- overflow_add-i
+    (λ c. search rules)  -- loop-i-smaller
     loop-again
-    (λ c. search rules)  -- same-length
-    (λ c. c.before.before.loop.invariant))  -- returns
+    (λ c. search rules)  -- shape_of-plan
+    (λ c. c.loop-i.invariant))  -- returns

@@ -6,24 +6,24 @@ use borrow.Author.Rules.{rules}
 use Rattle.plan_adapting.proofs.changed.Statement.{statement}
 use Rattle.plan_adapting.proofs.changed.Tie as tie
 
-mul_result : tie.Need-overflow-mul-result
+mul_result : tie.Need-overflow_mul-result
 mul_result c =
-    let change = c.before.lesser2 in
-    let old = c.before.before.lesser in
+    let change = c.lesser-parts in
+    let old = c.lesser-old in
     omega (
       arith,
       product_small 4096 192 old.result (64 + change.result) old.ensures.1 (omega (arith, change.ensures.1)),
     )
 
-pub changed-spec : {M : Type 1} → statement M
-changed-spec =
+pub changed_spec : {M : Type 1} → statement M
+changed_spec =
     tie.close
     (tie.spec
-    (λ c κs. search rules)  -- lesser-requires
-    (λ c κs. search rules)  -- lesser-requires-2
-    (λ c. search rules)  -- add-parts
+    (λ c κs. search rules)  -- lesser-old-requires
+    (λ c κs. search rules)  -- lesser-parts-requires
+    (λ c. search rules)  -- overflow_add-parts
     mul_result
-    (λ c. search rules)  -- returns
-    (λ c. search rules)  -- mul-result-2
-    (λ c. search rules)  -- div-result
-    (λ c. search rules))  -- returns-2
+    (λ c. search rules)  -- returns-then-is_above
+    (λ c. search rules)  -- overflow_mul-result-2
+    (λ c. search rules)  -- nonzero_div-result-2
+    (λ c. search rules))  -- returns

@@ -4,13 +4,13 @@ use Rattle.plan_adapting.proofs.one_sum.Statement.{statement}
 use Rattle.plan_adapting.proofs.one_sum.Tie as tie
 
 returns : tie.Need-returns
-returns c = c.choose-directions.ensures.0
+returns c = c.choose_directions.ensures.0
 
-pub one-sum-spec : {M : Type 1} → statement M
-one-sum-spec =
+pub one_sum_spec : {M : Type 1} → statement M
+one_sum_spec =
     tie.close
     (tie.spec
-    (λ c κs. search rules)  -- first-row-requires
-    (λ c κs. search rules)  -- first-row-requires-2
-    (λ c κs. search rules)  -- choose-directions-requires
+    (λ c κs. search rules)  -- first_row-requires
+    (λ c κs. search rules)  -- first_row-requires-2
+    (λ c κs. search rules)  -- choose_directions-requires
     returns)

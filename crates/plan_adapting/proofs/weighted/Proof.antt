@@ -5,10 +5,10 @@ use borrow.Author.Rules.{rules}
 use Rattle.plan_adapting.proofs.weighted.Statement.{statement}
 use Rattle.plan_adapting.proofs.weighted.Tie as tie
 
-mul_result : tie.Need-overflow-mul-result
+mul_result : tie.Need-overflow_mul-result
 mul_result c =
-    let weight = c.before.lesser in
-    let number = c.lesser2 in
+    let weight = c.lesser in
+    let number = c.lesser-2 in
     omega (
       arith,
       product_small 4096 4294967296 weight.result number.result weight.ensures.1 number.ensures.1,
@@ -16,12 +16,12 @@ mul_result c =
 
 returns : tie.Need-returns
 returns c =
-    let weight = c.before.lesser in
-    let number = c.lesser2 in
+    let weight = c.lesser in
+    let number = c.lesser-2 in
     product_small 4096 4294967296 weight.result number.result weight.ensures.1 number.ensures.1
 
-pub weighted-spec : {M : Type 1} → statement M
-weighted-spec =
+pub weighted_spec : {M : Type 1} → statement M
+weighted_spec =
     tie.close
     (tie.spec
     (λ c κs. search rules)  -- lesser-requires

@@ -6,23 +6,23 @@ use borrow.Author.Rules.{rules}
 use Rattle.plan_making.proofs.are_zero.Statement.{statement}
 use Rattle.plan_making.proofs.are_zero.Tie as tie
 
-abbrev invariant-loop : tie.invariant-loop
+abbrev invariant-loop : tie.invariant-loop-j
 invariant-loop width numbers j₀ j = length numbers ≡ 8
 
-abbrev decreases-loop : tie.decreases-loop
+abbrev decreases-loop : tie.decreases-loop-j
 decreases-loop width numbers j₀ j = width - j
 
-pub are-zero-spec : {M : Type 1} → statement M
-are-zero-spec =
+pub are_zero_spec : {M : Type 1} → statement M
+are_zero_spec =
     tie.close
     (tie.spec
     invariant-loop
     decreases-loop
-    (λ c. search rules)  -- loop-holds
-    (λ c. search rules)  -- mul-if1
-    (λ c. search rules)  -- array-read-if1
-    (λ c. search rules)  -- returns
-    (λ c. search rules)  -- add-j
-    (λ c. search rules)  -- loop-less
-    (λ c. search rules)  -- loop-again
-    (λ c. search rules))  -- returns-2
+    (λ c. search rules)  -- loop-j-init
+    (λ c. search rules)  -- offset_bounds-numbers-j
+    (λ c. search rules)  -- bounds-numbers-j
+    (λ c. search rules)  -- returns-then-numbers-j-ne0
+    (λ c. search rules)  -- overflow_add-j
+    (λ c. search rules)  -- loop-j-smaller
+    (λ c. search rules)  -- loop-j-preserved
+    (λ c. search rules))  -- returns

@@ -6,27 +6,27 @@ use borrow.Author.Rules.{rules}
 use Rattle.plan_making.proofs.end_messages.Statement.{statement}
 use Rattle.plan_making.proofs.end_messages.Tie as tie
 
-abbrev invariant-loop : tie.invariant-loop
+abbrev invariant-loop : tie.invariant-loop-g
 invariant-loop plan₀ shape records slots g₀ plan g = Loose plan₀ plan
 
-abbrev decreases-loop : tie.decreases-loop
+abbrev decreases-loop : tie.decreases-loop-g
 decreases-loop plan₀ shape records slots g₀ plan g = 120 - g
 
-loop-again : tie.Need-loop-preserved invariant-loop decreases-loop
+loop-again : tie.Need-loop-g-preserved invariant-loop decreases-loop
 loop-again c =
-    loose_trans c.before.before.before.before.before.loop.invariant c.before.before.put-message.ensures
+    loose_trans c.loop-g.invariant c.put_message.ensures
 
-pub end-messages-spec : {M : Type 1} → statement M
-end-messages-spec =
+pub end_messages_spec : {M : Type 1} → statement M
+end_messages_spec =
     tie.close
     (tie.spec
     invariant-loop
     decreases-loop
-    (λ c κs. search rules)  -- constant-shape-requires
-    (λ c. loose_refl _)  -- loop-holds
-    (λ c κs. search rules)  -- put-message-requires
-    (λ c. search rules)  -- add-g
-    (λ c. search rules)  -- loop-less
+    (λ c κs. search rules)  -- constant_shape-shape-requires
+    (λ c. loose_refl _)  -- loop-g-init
+    (λ c κs. search rules)  -- put_message-requires
+    (λ c. search rules)  -- overflow_add-g
+    (λ c. search rules)  -- loop-g-smaller
     loop-again
-    (λ c. search rules)  -- same-length
+    (λ c. search rules)  -- shape_of-plan
     (λ c. search rules))  -- returns

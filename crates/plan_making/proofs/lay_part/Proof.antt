@@ -4,50 +4,26 @@ use borrow.Author.Rules.{rules}
 use Rattle.plan_making.proofs.lay_part.Statement.{statement}
 use Rattle.plan_making.proofs.lay_part.Tie as tie
 
--- ## the places: records and slots are gathered, the message is written
-
-abbrev start : tie.After-gather-records → tie.Start
-start c =
-    let opened = c.before.before.before.before in
-    let known = opened.before.before.before.before in
-    known.before.before.before
-
-abbrev records_of_lem : tie.After-gather-slots → tie.After-gather-records
-records_of_lem c = c.before.before.before.before
-
-abbrev slots_of : tie.After-put-message → tie.After-gather-slots
-slots_of c =
-    let shaped = c.before.before.before.before in
-    shaped.before.before.before
-
-abbrev message_of : tie.After-numbers-end → tie.After-put-message
-message_of c =
-    let known = c.before.before.before in
-    known.before.before
-
-returns-2 : tie.Need-returns-2
+returns-2 : tie.Need-returns
 returns-2 c =
-    let message = message_of c in
-    let slots = slots_of message in
-    let records = records_of_lem slots in
-    let gathered = arranged_trans records.gather-records.ensures slots.gather-slots.ensures in
-    arranged_loose (start records).pre.0.few gathered message.put-message.ensures
+    let gathered = arranged_trans c.gather_records-to.ensures c.gather_slots-last.ensures in
+    arranged_loose c.requires.0.few gathered c.put_message.ensures
 
-pub lay-part-spec : {M : Type 1} → statement M
-lay-part-spec =
+pub lay_part_spec : {M : Type 1} → statement M
+lay_part_spec =
     tie.close
     (tie.spec
-    (λ c κs. search rules)  -- may-send-requires
-    (λ c. search rules)  -- same-length
-    (λ c. search rules)  -- returns
+    (λ c κs. search rules)  -- may_send-requires
+    (λ c. search rules)  -- shape_of-plan-then-not-may_send
+    (λ c. search rules)  -- returns-then-not-may_send
     (λ c κs. search rules)  -- bit-requires
-    (λ c κs. search rules)  -- gather-records-requires
-    (λ c κs. search rules)  -- gather-slots-requires
-    (λ c κs. search rules)  -- width-of-requires
-    (λ c κs. search rules)  -- choose-shape-requires
-    (λ c κs. search rules)  -- put-message-requires
-    (λ c κs. search rules)  -- at-most-requires
-    (λ c. search rules)  -- add-messages
-    (λ c κs. search rules)  -- numbers-end-requires
-    (λ c. (returns-2 c).long)  -- same-length-2
+    (λ c κs. search rules)  -- gather_records-to-requires
+    (λ c κs. search rules)  -- gather_slots-last-requires
+    (λ c κs. search rules)  -- width_of-width-requires
+    (λ c κs. search rules)  -- choose_shape-shape-requires
+    (λ c κs. search rules)  -- put_message-requires
+    (λ c κs. search rules)  -- at_most-messages-requires
+    (λ c. search rules)  -- overflow_add-messages
+    (λ c κs. search rules)  -- numbers_end-numbers-requires
+    (λ c. (returns-2 c).long)  -- shape_of-plan
     returns-2)

@@ -8,63 +8,48 @@ use borrow.Author.Rules.{rules}
 use Rattle.plan_making.proofs.make_buckets.Statement.{statement}
 use Rattle.plan_making.proofs.make_buckets.Tie as tie
 
-abbrev invariant-loop : tie.invariant-loop
+abbrev invariant-loop : tie.invariant-loop-k
 invariant-loop s sizes r d wide plan₀ n made₀ k₀ plan made k = Arranged r plan₀ plan × (k ≤ 24)
 
-abbrev decreases-loop : tie.decreases-loop
+abbrev decreases-loop : tie.decreases-loop-k
 decreases-loop s sizes r d wide plan₀ n made₀ k₀ plan made k = k
 
-abbrev start : tie.After-put-ends invariant-loop decreases-loop → tie.Start invariant-loop decreases-loop
-start c =
-    let known = c.before.before in
-    known.before.before.before
-
-make-bucket-requires : tie.Need-make-bucket-requires invariant-loop decreases-loop
+make-bucket-requires : tie.Need-make_bucket-made-requires invariant-loop decreases-loop
 make-bucket-requires c κs =
-    let taken = c.before.before.before in
-    let at-loop = taken.before.before.before in
-    let ended = at-loop.before.before.before in
-    let begun = arranged_trans (loose_arranged (start ended).requires.few ended.put-ends.ensures)
-    at-loop.loop.invariant.0 in (
-      planned_arranged (start ended).requires (arranged_trans begun taken.take-bucket.ensures.0),
-      omega (arith, taken.take-bucket.ensures.1, at-loop.loop.invariant.1),
+    let begun = arranged_trans (loose_arranged c.requires.few c.put_ends.ensures)
+    c.loop-k.invariant.0 in (
+      planned_arranged c.requires (arranged_trans begun c.take_bucket-bucket.ensures.0),
+      omega (arith, c.take_bucket-bucket.ensures.1, c.loop-k.invariant.1),
     )
 
-loop-again : tie.Need-loop-preserved invariant-loop decreases-loop
-loop-again c =
-    let made = c.before.before in
-    let taken = made.before.before.before.before in
-    let at-loop = taken.before.before.before in (
-      arranged_trans at-loop.loop.invariant.0
-          (arranged_trans taken.take-bucket.ensures.0 made.make-bucket.ensures),
-      omega arith,
-    )
+loop-again : tie.Need-loop-k-preserved invariant-loop decreases-loop
+loop-again c = (
+  arranged_trans c.loop-k.invariant.0
+      (arranged_trans c.take_bucket-bucket.ensures.0 c.make_bucket-made.ensures),
+  omega arith,
+)
 
 returns : tie.Need-returns invariant-loop decreases-loop
 returns c =
-    let at-end-messages = c.before.before in
-    let at-put = at-end-messages.before.before.before.before in
-    let at-loop = at-put.before.before.before in
-    let ended = at-loop.before.before.before in
-    arranged_loose (start ended).requires.few
-    (arranged_trans (loose_arranged (start ended).requires.few ended.put-ends.ensures) at-loop.loop.invariant.0)
-    (loose_trans at-put.put.ensures at-end-messages.end-messages.ensures)
+    arranged_loose c.requires.few
+    (arranged_trans (loose_arranged c.requires.few c.put_ends.ensures) c.loop-k.invariant.0)
+    (loose_trans c.put.ensures c.end_messages.ensures)
 
-pub make-buckets-spec : {M : Type 1} → statement M
-make-buckets-spec =
+pub make_buckets_spec : {M : Type 1} → statement M
+make_buckets_spec =
     tie.close
     (tie.spec
     invariant-loop
     decreases-loop
-    (λ c κs. search rules)  -- put-ends-requires
-    (λ c. search rules)  -- add-t14
-    (λ c. (arranged_refl _ _, omega arith))  -- loop-holds
-    (λ c. search rules)  -- sub-k
-    (λ c κs. search rules)  -- take-bucket-requires
+    (λ c κs. search rules)  -- put_ends-requires
+    (λ c. search rules)  -- overflow_add-made
+    (λ c. (arranged_refl _ _, omega arith))  -- loop-k-init
+    (λ c. search rules)  -- overflow_sub-k
+    (λ c κs. search rules)  -- take_bucket-bucket-requires
     make-bucket-requires
-    (λ c. search rules)  -- loop-less
+    (λ c. search rules)  -- loop-k-smaller
     loop-again
     (λ c κs. search rules)  -- put-requires
-    (λ c κs. search rules)  -- end-messages-requires
-    (λ c. search rules)  -- same-length
+    (λ c κs. search rules)  -- end_messages-requires
+    (λ c. search rules)  -- shape_of-plan
     returns)

@@ -5,30 +5,23 @@ use borrow.Author.Rules.{rules}
 use Rattle.plan_making.proofs.make_plan.Statement.{statement}
 use Rattle.plan_making.proofs.make_plan.Tie as tie
 
-make-buckets-requires : tie.Need-make-buckets-requires
+make-buckets-requires : tie.Need-make_buckets-requires
 make-buckets-requires c κs =
-    let at-set-order = c.before.before.before in
-    let at-fill-slots = at-set-order.before.before.before.before in
-    let start = at-fill-slots.before.before.before.before.before in
-    planned_arranged (planned_filled start.requires.0 at-fill-slots.fill-slots.ensures)
-    (loose_arranged start.requires.0.few at-set-order.set-order.ensures)
+    planned_arranged (planned_filled c.requires.0 c.fill_slots.ensures)
+    (loose_arranged c.requires.0.few c.set_order.ensures)
 
 returns : tie.Need-returns
 returns c =
-    let at-make-buckets = c.before.before in
-    let at-set-order = at-make-buckets.before.before.before.before in
-    let at-fill-slots = at-set-order.before.before.before.before in
-    let start = at-fill-slots.before.before.before.before.before in
-    filled_arranged start.requires.0 at-fill-slots.fill-slots.ensures
-    (arranged_trans (loose_arranged start.requires.0.few at-set-order.set-order.ensures)
-    at-make-buckets.make-buckets.ensures)
+    filled_arranged c.requires.0 c.fill_slots.ensures
+    (arranged_trans (loose_arranged c.requires.0.few c.set_order.ensures)
+    c.make_buckets.ensures)
 
-pub make-plan-spec : {M : Type 1} → statement M
-make-plan-spec =
+pub make_plan_spec : {M : Type 1} → statement M
+make_plan_spec =
     tie.close
     (tie.spec
-    (λ c κs. search rules)  -- fill-slots-requires
-    (λ c κs. search rules)  -- set-order-requires
+    (λ c κs. search rules)  -- fill_slots-requires
+    (λ c κs. search rules)  -- set_order-requires
     make-buckets-requires
-    (λ c. search rules)  -- same-length
+    (λ c. search rules)  -- shape_of-plan
     returns)

@@ -6,20 +6,17 @@ use Rattle.plan_making.proofs.put_ends.Tie as tie
 
 returns : tie.Need-returns
 returns c =
-    let at-put3 = c.before.before in
-    let at-put2 = at-put3.before.before.before.before in
-    let at-put = at-put2.before.before.before.before in
-    loose_trans (loose_trans at-put.put.ensures at-put2.put2.ensures) at-put3.put3.ensures
+    loose_trans (loose_trans c.put.ensures c.put-2.ensures) c.put-3.ensures
 
-pub put-ends-spec : {M : Type 1} → statement M
-put-ends-spec =
+pub put_ends_spec : {M : Type 1} → statement M
+put_ends_spec =
     tie.close
     (tie.spec
-    (λ c. search rules)  -- add-put
+    (λ c. search rules)  -- overflow_add-k
     (λ c κs. search rules)  -- put-requires
-    (λ c. search rules)  -- add-put-2
+    (λ c. search rules)  -- overflow_add-k-2
     (λ c κs. search rules)  -- put-requires-2
-    (λ c. search rules)  -- add-put-3
+    (λ c. search rules)  -- overflow_add-k-3
     (λ c κs. search rules)  -- put-requires-3
-    (λ c. search rules)  -- same-length
+    (λ c. search rules)  -- shape_of-plan
     returns)

@@ -7,16 +7,14 @@ use Rattle.plan_making.proofs.take_bucket.Tie as tie
 
 returns : tie.Need-returns
 returns c =
-    let slots = c.before.before in
-    let records = slots.before.before.before.before in
-    (arranged_trans records.gather-records.ensures slots.gather-slots.ensures, refl)
+    (arranged_trans c.gather_records-to.ensures c.gather_slots-last.ensures, refl)
 
-pub take-bucket-spec : {M : Type 1} → statement M
-take-bucket-spec =
+pub take_bucket_spec : {M : Type 1} → statement M
+take_bucket_spec =
     tie.close
     (tie.spec
-    (λ c κs. search rules)  -- bit-requires
-    (λ c κs. search rules)  -- gather-records-requires
-    (λ c κs. search rules)  -- gather-slots-requires
-    (λ c. search rules)  -- same-length
+    (λ c κs. search rules)  -- bit-own-requires
+    (λ c κs. search rules)  -- gather_records-to-requires
+    (λ c κs. search rules)  -- gather_slots-last-requires
+    (λ c. search rules)  -- shape_of-plan
     returns)

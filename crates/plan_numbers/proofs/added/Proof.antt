@@ -3,27 +3,27 @@ use Rattle.std.proofs.Common.{◌≡◌, ◌-◌, length, rules}
 use Rattle.plan_numbers.proofs.added.Statement.{statement}
 use Rattle.plan_numbers.proofs.added.Tie as tie
 
-abbrev invariant-loop : tie.invariant-loop
+abbrev invariant-loop : tie.invariant-loop-i
 invariant-loop b sums₀ i₀ sums i = (length b ≡ 64) × (length sums ≡ 64)
 
-abbrev decreases-loop : tie.decreases-loop
+abbrev decreases-loop : tie.decreases-loop-i
 decreases-loop b sums₀ i₀ sums i = 64 - i
 
-pub added-spec : {M : Type 1} → statement M
-added-spec =
+pub added_spec : {M : Type 1} → statement M
+added_spec =
     tie.close
     (tie.spec
     invariant-loop
     decreases-loop
-    (λ c. search rules)  -- loop-holds
-    (λ c. search rules)  -- mul-wrapping-add-u64
-    (λ c. search rules)  -- array-read-wrapping-add-u64
-    (λ c. search rules)  -- mul-wrapping-add-u64-2
-    (λ c. search rules)  -- array-read-wrapping-add-u64-2
-    (λ c κs. search rules)  -- wrapping-add-u64-requires
-    (λ c. search rules)  -- mul-sums
-    (λ c. search rules)  -- array-write-sums
-    (λ c. search rules)  -- add-i
-    (λ c. search rules)  -- loop-less
-    (λ c. search rules)  -- loop-again
+    (λ c. search rules)  -- loop-i-init
+    (λ c. search rules)  -- offset_bounds-sums-i
+    (λ c. search rules)  -- bounds-sums-i
+    (λ c. search rules)  -- offset_bounds-b-i
+    (λ c. search rules)  -- bounds-b-i
+    (λ c κs. search rules)  -- wrapping_add_u64-requires
+    (λ c. search rules)  -- offset_bounds-sums-i-in-loop-i
+    (λ c. search rules)  -- bounds-sums-i-in-loop-i
+    (λ c. search rules)  -- overflow_add-i
+    (λ c. search rules)  -- loop-i-smaller
+    (λ c. search rules)  -- loop-i-preserved
     (λ c. search rules))  -- returns

@@ -5,48 +5,39 @@ use Rattle.branch_buckets.proofs.ContentRows.{planned_fewer}
 use Rattle.plan_numbers.proofs.content_of.Statement.{statement}
 use Rattle.plan_numbers.proofs.content_of.Tie as tie
 
--- a choice has room for 24 values
-choice_long : (s : tie.Start) → length s.args.t5 ≡ 24
-choice_long s = search rules
-
-slice-aggregate-choice : tie.Need-slice-aggregate-choice
+slice-aggregate-choice : tie.Need-slice_bounds-choice-end
 slice-aggregate-choice c =
-    let ends = c.before.before.before in
-    let start = ends.before.before.before.before in
-    let a = start.args in
-    let many : length a.t5 ≡ 24 = choice_long start in
-    let few : length a.sizes.now ≤ 24 = start.requires.variables in
-    sym (length-take-le (length a.sizes.now) a.t5 (omega arith))
+    let a = c.args in
+    let many : length a.x ≡ 24 = search rules in
+    let few : length a.sizes.now ≤ 24 = c.requires.variables in
+    sym (length-take-le (length a.sizes.now) a.x (omega arith))
 
 content-requires : tie.Need-content-requires
 content-requires c κs =
-    let lent = c.before.before.before.before in
-    let ends = lent.before.before.before.before in
-    let start = ends.before.before.before.before in
-    let a = start.args in
-    let many : length a.t5 ≡ 24 = choice_long start in
-    let few : length a.sizes.now ≤ 24 = start.requires.variables in
-    let inside = lent.before.before.before.at_most.ensures in (
-      planned_fewer start.requires _ inside,
+    let a = c.args in
+    let many : length a.x ≡ 24 = search rules in
+    let few : length a.sizes.now ≤ 24 = c.requires.variables in
+    let inside = c.at_most-to.ensures in (
+      planned_fewer c.requires _ inside,
       record { records = omega arith; children = omega arith; children_end = omega arith },
       omega arith,
-      whole_prefix a.sizes.now (take (length a.sizes.now) a.t5)
-          (sym c.before.prefix-ok.ensures ∙ c.if4.true)
-          (length-take-le (length a.sizes.now) a.t5 (omega arith)),
+      whole_prefix a.sizes.now (take (length a.sizes.now) a.x)
+          (sym c.prefix_ok.ensures ∙ c.if-prefix_ok.true)
+          (length-take-le (length a.sizes.now) a.x (omega arith)),
     )
 
-pub content-of-spec : {M : Type 1} → statement M
-content-of-spec =
+pub content_of_spec : {M : Type 1} → statement M
+content_of_spec =
     tie.close
     (tie.spec
-    (λ c κs. search rules)  -- at-most-requires
-    (λ c κs. search rules)  -- at-most-requires-2
-    (λ c. search rules)  -- array-share-prefix-x
+    (λ c κs. search rules)  -- at_most-to-requires
+    (λ c κs. search rules)  -- at_most-last-requires
+    (λ c. search rules)  -- slice_bounds-x-end
     slice-aggregate-choice
-    (λ c κs. search rules)  -- prefix-ok-requires
+    (λ c κs. search rules)  -- prefix_ok-requires
     content-requires
-    (λ c. search rules)  -- returns
-    (λ c. search rules)  -- returns-2
-    (λ c. search rules)  -- returns-3
-    (λ c. search rules)  -- returns-4
-    (λ c. search rules))  -- returns-5
+    (λ c. search rules)  -- returns-then-prefix_ok
+    (λ c. search rules)  -- returns-else-prefix_ok
+    (λ c. search rules)  -- returns-else-own-n
+    (λ c. search rules)  -- returns-else-first-last
+    (λ c. search rules))  -- returns-else-from-to

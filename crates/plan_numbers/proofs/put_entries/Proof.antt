@@ -5,45 +5,40 @@ use Rattle.plan_memory.proofs.Arranging.{loose_refl, loose_trans, loose_arranged
 use Rattle.plan_numbers.proofs.put_entries.Statement.{statement}
 use Rattle.plan_numbers.proofs.put_entries.Tie as tie
 
-abbrev invariant-loop : tie.invariant-loop
-invariant-loop s sizes r part d plan₀ count width place entries left₀ e₀ plan left e = Loose plan₀ plan × (length left ≡ 64)
+abbrev invariant-loop : tie.invariant-loop-e
+invariant-loop s sizes r part d plan₀ count width place entries left₀ e₀ plan left e = Loose plan₀ plan
+    × (length left ≡ 64)
 
-abbrev decreases-loop : tie.decreases-loop
+abbrev decreases-loop : tie.decreases-loop-e
 decreases-loop s sizes r part d plan₀ count width place entries left₀ e₀ plan left e = entries - e
 
-entry-rows-requires : tie.Need-entry-rows-requires invariant-loop decreases-loop
-entry-rows-requires c κs =
-    let at-loop = c.before.before in
-    let at-at-most = at-loop.before in
-    let known = at-at-most.before.before.before.before in
-    let start = known.before.before.before in (
-      planned_arranged start.requires (loose_arranged start.requires.few at-loop.loop.invariant.0),
-      omega (arith, at-at-most.at_most.ensures),
-    )
+entry-rows-requires : tie.Need-entry_rows-rows-requires invariant-loop decreases-loop
+entry-rows-requires c κs = (
+  planned_arranged c.requires (loose_arranged c.requires.few c.loop-e.invariant.0),
+  omega (arith, c.at_most-entries.ensures),
+)
 
-loop-again : tie.Need-loop-preserved invariant-loop decreases-loop
+loop-again : tie.Need-loop-e-preserved invariant-loop decreases-loop
 loop-again c =
-    let at-put-entry = c.before.before.before in
-    let at-loop = at-put-entry.before.before.before.before.before.before in
-    (loose_trans at-loop.loop.invariant.0 at-put-entry.put-entry.ensures, search rules)
+    (loose_trans c.loop-e.invariant.0 c.put_entry.ensures, search rules)
 
-pub put-entries-spec : {M : Type 1} → statement M
-put-entries-spec =
+pub put_entries_spec : {M : Type 1} → statement M
+put_entries_spec =
     tie.close
     (tie.spec
     invariant-loop
     decreases-loop
-    (λ c κs. search rules)  -- size-of-requires
-    (λ c. search rules)  -- mul-count
-    (λ c κs. search rules)  -- width-of-requires
-    (λ c κs. search rules)  -- at-most-requires
-    (λ c. (loose_refl _, search rules))  -- loop-holds
+    (λ c κs. search rules)  -- size_of-count-requires
+    (λ c. search rules)  -- overflow_mul-count
+    (λ c κs. search rules)  -- width_of-width-requires
+    (λ c κs. search rules)  -- at_most-entries-requires
+    (λ c. (loose_refl _, search rules))  -- loop-e-init
     entry-rows-requires
-    (λ c κs. search rules)  -- numbers-at-requires
-    (λ c κs. search rules)  -- put-entry-requires
-    (λ c κs. search rules)  -- left-over-requires
-    (λ c. search rules)  -- add-e
-    (λ c. search rules)  -- loop-less
+    (λ c κs. search rules)  -- numbers_at-numbers-requires
+    (λ c κs. search rules)  -- put_entry-requires
+    (λ c κs. search rules)  -- left_over-next-requires
+    (λ c. search rules)  -- overflow_add-e
+    (λ c. search rules)  -- loop-e-smaller
     loop-again
-    (λ c. search rules)  -- same-length
-    (λ c. c.before.loop.invariant.0))  -- returns
+    (λ c. search rules)  -- shape_of-plan
+    (λ c. c.loop-e.invariant.0))  -- returns

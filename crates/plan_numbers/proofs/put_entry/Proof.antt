@@ -6,61 +6,58 @@ use Rattle.model.proofs.Numbers.{product_small}
 use Rattle.plan_numbers.proofs.put_entry.Statement.{statement}
 use Rattle.plan_numbers.proofs.put_entry.Tie as tie
 
-abbrev invariant-loop : tie.invariant-loop
+abbrev invariant-loop : tie.invariant-loop-j
 invariant-loop e place width plan₀ numbers at j₀ plan j = Loose plan₀ plan × (length numbers ≡ 8) × (at ≤ 4294971391)
 
-abbrev decreases-loop : tie.decreases-loop
+abbrev decreases-loop : tie.decreases-loop-j
 decreases-loop e place width plan₀ numbers at j₀ plan j = width - j
 
-mul_at : tie.Need-overflow-mul-at invariant-loop decreases-loop
+mul_at : tie.Need-overflow_mul-at invariant-loop decreases-loop
 mul_at c =
     omega (
       arith,
-      product_small 8 512 c.before.before.args.width c.before.before.args.e (omega arith) (omega arith),
+      product_small 8 512 c.args.width c.args.e (omega arith) (omega arith),
     )
 
-add_at : tie.Need-overflow-add-at invariant-loop decreases-loop
+add_at : tie.Need-overflow_add-at invariant-loop decreases-loop
 add_at c =
     omega (
       arith,
       c.at_most.ensures,
-      product_small 8 512 c.before.before.args.width c.before.before.args.e (omega arith) (omega arith),
+      product_small 8 512 c.args.width c.args.e (omega arith) (omega arith),
     )
 
-loop-holds : tie.Need-loop-init invariant-loop decreases-loop
-loop-holds c =
-    let start = c.before.before in (
-      loose_refl _,
-      search rules,
-      omega (
-        arith,
-        c.at_most.ensures,
-        product_small 8 512 start.args.width start.args.e (omega arith) (omega arith),
-      ),
-    )
+loop-holds : tie.Need-loop-j-init invariant-loop decreases-loop
+loop-holds c = (
+  loose_refl _,
+  search rules,
+  omega (
+    arith,
+    c.at_most.ensures,
+    product_small 8 512 c.args.width c.args.e (omega arith) (omega arith),
+  ),
+)
 
-loop-again : tie.Need-loop-preserved invariant-loop decreases-loop
+loop-again : tie.Need-loop-j-preserved invariant-loop decreases-loop
 loop-again c =
-    let at-put = c.before.before in
-    let at-loop = at-put.before.before.before in
-    (loose_trans at-loop.loop.invariant.0 at-put.put.ensures, at-loop.loop.invariant.1, at-loop.loop.invariant.2)
+    (loose_trans c.loop-j.invariant.0 c.put.ensures, c.loop-j.invariant.1, c.loop-j.invariant.2)
 
-pub put-entry-spec : {M : Type 1} → statement M
-put-entry-spec =
+pub put_entry_spec : {M : Type 1} → statement M
+put_entry_spec =
     tie.close
     (tie.spec
     invariant-loop
     decreases-loop
-    (λ c κs. search rules)  -- at-most-requires
+    (λ c κs. search rules)  -- at_most-requires
     mul_at
     add_at
     loop-holds
-    (λ c. search rules)  -- add-put
-    (λ c. search rules)  -- mul-put
-    (λ c. search rules)  -- array-read-put
+    (λ c. search rules)  -- overflow_add-at-in-loop-j
+    (λ c. search rules)  -- offset_bounds-numbers-j
+    (λ c. search rules)  -- bounds-numbers-j
     (λ c κs. search rules)  -- put-requires
-    (λ c. search rules)  -- add-j
-    (λ c. search rules)  -- loop-less
+    (λ c. search rules)  -- overflow_add-j
+    (λ c. search rules)  -- loop-j-smaller
     loop-again
-    (λ c. search rules)  -- same-length
+    (λ c. search rules)  -- shape_of-plan
     (λ c. search rules))  -- returns

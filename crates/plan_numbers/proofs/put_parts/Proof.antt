@@ -5,55 +5,38 @@ use Rattle.plan_memory.proofs.Arranging.{loose_refl, loose_trans, loose_arranged
 use Rattle.plan_numbers.proofs.put_parts.Statement.{statement}
 use Rattle.plan_numbers.proofs.put_parts.Tie as tie
 
-abbrev invariant-loop : tie.invariant-loop
+abbrev invariant-loop : tie.invariant-loop-g
 invariant-loop s sizes r d plan₀ own to sharing₀ before₀ g₀ plan sharing before g = Loose plan₀ plan × (to ≤ 120)
 
-abbrev decreases-loop : tie.decreases-loop
+abbrev decreases-loop : tie.decreases-loop-g
 decreases-loop s sizes r d plan₀ own to sharing₀ before₀ g₀ plan sharing before g = to - g
 
--- ## the places: the loop begins, a part's numbers are written
-
-abbrev start : tie.At-loop invariant-loop decreases-loop → tie.Start invariant-loop decreases-loop
-start c =
-    let shared = c.before.before in
-    let known = shared.before.before in
-    known.before.before.before.before
-
-abbrev written : tie.After-before3 invariant-loop decreases-loop → tie.After-put-part invariant-loop decreases-loop
-written c = c.before.before.before
-
-abbrev entered : tie.After-put-part invariant-loop decreases-loop → tie.In-loop invariant-loop decreases-loop
-entered c = c.before.before.before.before
-
-put-part-requires : tie.Need-put-part-requires invariant-loop decreases-loop
+put-part-requires : tie.Need-put_part-sharing-requires invariant-loop decreases-loop
 put-part-requires c κs =
-    let at-loop = c.before.before.before.before in
-    let q = (start at-loop).requires in
-    planned_arranged q (loose_arranged q.few at-loop.loop.invariant.0)
+    let q = c.requires in
+    planned_arranged q (loose_arranged q.few c.loop-g.invariant.0)
 
-add-g : tie.Need-overflow-add-g invariant-loop decreases-loop
+add-g : tie.Need-overflow_add-g invariant-loop decreases-loop
 add-g c =
-    let inside = entered (written c) in
-    omega (arith, inside.loop-test.taken, inside.before.loop.inv.1)
+    omega (arith, c.loop-g-test.true, c.loop-g.invariant.1)
 
-loop-again : tie.Need-loop-preserved invariant-loop decreases-loop
+loop-again : tie.Need-loop-g-preserved invariant-loop decreases-loop
 loop-again c =
-    let at-loop = (entered (written c)).before in
-    (loose_trans at-loop.loop.inv.0 (written c).put-part.ensures, at-loop.loop.inv.1)
+    (loose_trans c.loop-g.invariant.0 c.put_part-sharing.ensures, c.loop-g.invariant.1)
 
-pub put-parts-spec : {M : Type 1} → statement M
-put-parts-spec =
+pub put_parts_spec : {M : Type 1} → statement M
+put_parts_spec =
     tie.close
     (tie.spec
     invariant-loop
     decreases-loop
-    (λ c κs. search rules)  -- at-most-requires
-    (λ c κs. search rules)  -- start-sharing-requires
-    (λ c. (loose_refl _, search rules))  -- loop-holds
-    (λ c κs. search rules)  -- part-at-requires
+    (λ c κs. search rules)  -- at_most-to-requires
+    (λ c κs. search rules)  -- start_sharing-sharing-requires
+    (λ c. (loose_refl _, search rules))  -- loop-g-init
+    (λ c κs. search rules)  -- part_at-part-requires
     put-part-requires
     add-g
-    (λ c. omega (arith, (entered (written c)).loop-test.taken))  -- loop-less
+    (λ c. omega (arith, c.loop-g-test.true))  -- loop-g-smaller
     loop-again
-    (λ c. c.before.before.loop.invariant.0.long)  -- same-length
-    (λ c. c.before.before.loop.invariant.0))  -- returns
+    (λ c. c.loop-g.invariant.0.long)  -- shape_of-plan
+    (λ c. c.loop-g.invariant.0))  -- returns

@@ -3,37 +3,37 @@ use Rattle.std.proofs.Common.{◌≡◌, ◌-◌, length, rules}
 use Rattle.plan_numbers.proofs.with_share.Statement.{statement}
 use Rattle.plan_numbers.proofs.with_share.Tie as tie
 
-abbrev invariant-loop : tie.invariant-loop
+abbrev invariant-loop : tie.invariant-loop-i
 invariant-loop sharing among least total₀ rest₀ i₀ total rest i =
     (length least ≡ 64) × (length total ≡ 64) × (length rest ≡ 64)
 
-abbrev decreases-loop : tie.decreases-loop
+abbrev decreases-loop : tie.decreases-loop-i
 decreases-loop sharing among least total₀ rest₀ i₀ total rest i = 64 - i
 
-pub with-share-spec : {M : Type 1} → statement M
-with-share-spec =
+pub with_share_spec : {M : Type 1} → statement M
+with_share_spec =
     tie.close
     (tie.spec
     invariant-loop
     decreases-loop
-    (λ c. search rules)  -- loop-holds
-    (λ c. search rules)  -- mul-share-of
-    (λ c. search rules)  -- array-read-share-of
-    (λ c κs. search rules)  -- share-of-requires
-    (λ c. search rules)  -- mul-wrapping-sub-u64
-    (λ c. search rules)  -- array-read-wrapping-sub-u64
-    (λ c κs. search rules)  -- wrapping-sub-u64-requires
-    (λ c. search rules)  -- mul-total
-    (λ c. search rules)  -- array-write-total
-    (λ c. search rules)  -- mul-wrapping-add-u64
-    (λ c. search rules)  -- array-read-wrapping-add-u64
-    (λ c κs. search rules)  -- wrapping-add-u64-requires
-    (λ c. search rules)  -- mul-wrapping-sub-u64-2
-    (λ c. search rules)  -- array-read-wrapping-sub-u64-2
-    (λ c κs. search rules)  -- wrapping-sub-u64-requires-2
-    (λ c. search rules)  -- mul-rest
-    (λ c. search rules)  -- array-write-rest
-    (λ c. search rules)  -- add-i
-    (λ c. search rules)  -- loop-less
-    (λ c. search rules)  -- loop-again
+    (λ c. search rules)  -- loop-i-init
+    (λ c. search rules)  -- offset_bounds-total-i
+    (λ c. search rules)  -- bounds-total-i
+    (λ c κs. search rules)  -- share_of-share-requires
+    (λ c. search rules)  -- offset_bounds-total-i-in-loop-i
+    (λ c. search rules)  -- bounds-total-i-in-loop-i
+    (λ c κs. search rules)  -- wrapping_sub_u64-requires
+    (λ c. search rules)  -- offset_bounds-total-i-in-loop-i-2
+    (λ c. search rules)  -- bounds-total-i-in-loop-i-2
+    (λ c. search rules)  -- offset_bounds-rest-i
+    (λ c. search rules)  -- bounds-rest-i
+    (λ c κs. search rules)  -- wrapping_add_u64-requires
+    (λ c. search rules)  -- offset_bounds-least-i
+    (λ c. search rules)  -- bounds-least-i
+    (λ c κs. search rules)  -- wrapping_sub_u64-requires-in-loop-i
+    (λ c. search rules)  -- offset_bounds-rest-i-in-loop-i
+    (λ c. search rules)  -- bounds-rest-i-in-loop-i
+    (λ c. search rules)  -- overflow_add-i
+    (λ c. search rules)  -- loop-i-smaller
+    (λ c. search rules)  -- loop-i-preserved
     (λ c. search rules))  -- returns
