@@ -51,7 +51,8 @@ testing_start n r s plan e =
       done = below_none (λ m. BucketIn (Before plan m) s plan (behind_span plan r m));
       sent =
           below_none (λ m.
-          All (ReadsBefore plan m) (count_from (message_end plan (m + 1)) (message_end plan m - message_end plan (m + 1))));
+          All (ReadsBefore plan m)
+          (count_from (message_end plan (m + 1)) (message_end plan m - message_end plan (m + 1))));
     }
 
 module _ {n r : ℕ} {s plan marks : List ℕ} {to last k : ℕ} (t : Testing n r s plan marks to last k) where

@@ -44,7 +44,8 @@ row_start w at number rest rows before = record {
 }
 
 pub row_next : {w at : ℕ} {number rest rows before : List ℕ} {j : ℕ} {left : List ℕ}
-    → RowSteps w at number rest rows before j left → j < w → at + j < length before → (y : ℕ) → y ≤ get_or left (at + j) 0
+    → RowSteps w at number rest rows before j left → j < w → at + j < length before → (y : ℕ)
+    → y ≤ get_or left (at + j) 0
     → get_or number j 0 + y ≤ get_or rest (at + j) 0 + get_or rows (at + j) 0
     → RowSteps w at number rest rows before (j + 1) (set left (at + j) y)
 row_next {w} {at} {number} {rest} {rows} {before} {j} {left} t more room y low fits =
@@ -56,7 +57,8 @@ row_next {w} {at} {number} {rest} {rows} {before} {j} {left} t more room y low f
       lowered = lowered_twice before left (set left (at + j) y) t.lowered less;
       done =
           below_more
-          (λ i. get_or number i 0 + get_or (set left (at + j) y) (at + i) 0 ≤ get_or rest (at + i) 0 + get_or rows (at + i) 0) j
+          (λ i. get_or number i 0 + get_or (set left (at + j) y) (at + i) 0 ≤ get_or rest (at + i) 0 + get_or rows
+          (at + i) 0) j
           (λ i h. row_lowered j at number rest rows left (set left (at + j) y) less t.done i h)
           (rw (get_or-set_same left (at + j) y 0 inside) fits);
     }

@@ -40,7 +40,8 @@ part_choice n plan p i j l = set (set (set (replicate n 0) (one_of plan p) i) (t
 -- it is made of 24 zeros
 pub choice_front :
     (n : ℕ) (plan : List ℕ) (p : DP.Part) (i j l : ℕ) (one two three : List ℕ) → n ≤ 24
-    → one ≡ set (replicate 24 0) (one_of plan p) i → two ≡ set one (two_of plan p) j → three ≡ set two (three_of plan p) l
+    → one ≡ set (replicate 24 0) (one_of plan p) i → two ≡ set one (two_of plan p) j
+    → three ≡ set two (three_of plan p) l
     → take n three ≡ part_choice n plan p i j l
 choice_front n plan p i j l one two three few e f g =
     rw (

@@ -40,7 +40,8 @@ same_at (suc n) x (suc i) = same_at n x i
 
 -- one more variable has its value in y
 toward : (P : ℕ → Type 0) (x y : List ℕ) → length x ≡ length y → (u : ℕ)
-    → ((a : ℕ) → P a → get_or x a 0 ≡ get_or y a 0) → (a : ℕ) → P a ⊎ (a ≡ u) → get_or (set x u (get_or y u 0)) a 0 ≡ get_or y a 0
+    → ((a : ℕ) → P a → get_or x a 0 ≡ get_or y a 0) → (a : ℕ) → P a ⊎ (a ≡ u)
+    → get_or (set x u (get_or y u 0)) a 0 ≡ get_or y a 0
 toward P x y long u h a =
     ⊎_elim
     (λ (q : P a). set_toward 0 x y long u a (inr (h a q)))
@@ -145,7 +146,8 @@ module _ {d : DD.Directions} {ds s plan : List ℕ} {p : DP.Part} where
         }
 
 -- a message whose numbers lie outside the plan is worth nothing
-pub message_outside : (w : ℕ) (plan y : List ℕ) (j g : ℕ) → length plan ≤ field_in plan g 0 → message_at w plan y j g ≡ 0
+pub message_outside : (w : ℕ) (plan y : List ℕ) (j g : ℕ) → length plan ≤ field_in plan g 0
+    → message_at w plan y j g ≡ 0
 message_outside w plan y j g h =
     let out : length plan ≤ field_in plan g 0 + w * message_entry plan g y + j = omega arith in
     get_or-eq_default plan 0 out

@@ -126,7 +126,8 @@ pub record Holding (d : DD.Directions) (ds s plan : List ℕ) (k g : ℕ) (h : D
   pub children : (child_end plan (k + 1) ≤ h.span.last) × (h.span.last ≤ child_end plan k)
   pub rows : Rows h.rest
   pub sum : (y : List ℕ) → is_choice ds y ≡ true → (j : ℕ) → j < width_of d
-      → sent_over (width_of d) plan (message_end plan (k + 1)) g y j + get_or h.rest (8 * get_or y (order_in plan k) 0 + j) 0
+      → sent_over (width_of d) plan (message_end plan (k + 1)) g y j + get_or h.rest
+      (8 * get_or y (order_in plan k) 0 + j) 0
       ≤ content_over d ds s plan (taken_span plan k h.span) y j + rest_base
 
 -- nothing is missing in what is left over
@@ -136,4 +137,5 @@ Kept rest = (i : ℕ) → i < 64 → rest_base ≤ get_or rest i 0
 -- the bucket of position k sends no more than it holds
 abbrev pub HoldsAt : DD.Directions → List ℕ → List ℕ → List ℕ → ℕ → Type 0
 HoldsAt d ds s plan k =
-    (y : List ℕ) → is_choice ds y ≡ true → (j : ℕ) → j < width_of d → sent_at d plan k y j ≤ content_at d ds s plan k y j
+    (y : List ℕ) → is_choice ds y ≡ true → (j : ℕ) → j < width_of d
+    → sent_at d plan k y j ≤ content_at d ds s plan k y j

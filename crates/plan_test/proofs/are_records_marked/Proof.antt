@@ -3,7 +3,6 @@
 use mathlib.Core.Bool.{false≢true}
 use Prim.Native.Nat.{◌-◌, ◌≤◌}
 use native.Mathlib.Omega.{arith}
-use borrow.Author.Tests.{not-false}
 use Rattle.model.specs.Basics.{All}
 use Rattle.branch_buckets.specs.Bounds.{places_over}
 use Rattle.plan_test.specs.Marks.{Marked, ScopeIn}
@@ -11,51 +10,52 @@ use Rattle.branch_buckets.proofs.Ranges.{places_next, places_none}
 use Rattle.plan_test.proofs.are_records_marked.Statement.{statement}
 use Rattle.plan_test.proofs.are_records_marked.Tie as tie
 
-abbrev invariant-loop : tie.invariant-loop
+abbrev invariant-loop : tie.invariant-loop-i
 invariant-loop s from to marks plan i₀ i =
     (i ≤ to)
-    × (All (ScopeIn (Marked marks) s) (places_over plan i to) → All (ScopeIn (Marked marks) s) (places_over plan from to))
+    ×
+    (All (ScopeIn (Marked marks) s) (places_over plan i to) → All (ScopeIn (Marked marks) s) (places_over plan from to))
 
-abbrev decreases-loop : tie.decreases-loop
+abbrev decreases-loop : tie.decreases-loop-i
 decreases-loop s from to marks plan i₀ i = to - i
 
-cast-is-scope-marked : tie.Need-overflow-cast-is-scope-marked invariant-loop decreases-loop
-cast-is-scope-marked c = omega (arith, c.shared-slice-known4.given c.before.before.loop.i)
+cast-is-scope-marked : tie.Need-overflow_cast-plan invariant-loop decreases-loop
+cast-is-scope-marked c = omega (arith, c.shared_slice_known-in-loop-i-1.given c.loop-i.i)
 
-is-scope-marked-requires : tie.Need-is-scope-marked-requires invariant-loop decreases-loop
+is-scope-marked-requires : tie.Need-is_scope_marked-requires invariant-loop decreases-loop
 is-scope-marked-requires c κs =
-    c.before.before.before.before.before.before.requires.2 c.before.before.loop.i (omega arith)
+    c.requires.2 c.loop-i.i (omega arith)
 
-loop-again : tie.Need-loop-preserved invariant-loop decreases-loop
+loop-again : tie.Need-loop-i-preserved invariant-loop decreases-loop
 loop-again c =
-    let a = c.before.before.before.before.before.before.before.before.args in
-    let w = c.before.before.before.before.loop in (
+    let a = c.args in
+    let w = c.loop-i in (
       omega arith,
       λ h. w.invariant.1
           (rw (places_next a.plan.now w.i a.to (omega arith)
-          c.before.before.before.before.before.before.before.before.requires.1)
-          (c.before.is-scope-marked.ensures (not-false _ c.if1.false), h)),
+          c.requires.1)
+          (c.is_scope_marked.ensures c.if-not-is_scope_marked.false, h)),
     )
 
-returns-2 : tie.Need-returns-2 invariant-loop decreases-loop
+returns-2 : tie.Need-returns invariant-loop decreases-loop
 returns-2 c =
-    let a = c.before.before.before.before.before.args in
-    let w = c.before.loop in
+    let a = c.args in
+    let w = c.loop-i in
     λ _. w.invariant.1 (rw (places_none a.plan.now w.i a.to (omega arith)) tt)
 
-pub are-records-marked-spec : {M : Type 1} → statement M
-are-records-marked-spec =
+pub are_records_marked_spec : {M : Type 1} → statement M
+are_records_marked_spec =
     tie.close
     (tie.spec
     invariant-loop
     decreases-loop
-    (λ c. (omega arith, λ h. h))  -- loop-holds
-    (λ c. omega arith)  -- mul-is-scope-marked
-    (λ c. omega arith)  -- shared-slice-read-is-scope-marked
+    (λ c. (omega arith, λ h. h))  -- loop-i-init
+    (λ c. omega arith)  -- offset_bounds-plan-i
+    (λ c. omega arith)  -- bounds-plan-i
     cast-is-scope-marked
     is-scope-marked-requires
-    (λ c h. absurd (false≢true h))  -- returns
-    (λ c. omega arith)  -- add-i
-    (λ c. omega arith)  -- loop-less
+    (λ c h. absurd (false≢true h))  -- returns-then-not-is_scope_marked
+    (λ c. omega arith)  -- overflow_add-i
+    (λ c. omega arith)  -- loop-i-smaller
     loop-again
     returns-2)

@@ -6,29 +6,29 @@ use borrow.Author.Rules.{rules}
 use Rattle.plan_test.proofs.is_field_marked.Statement.{statement}
 use Rattle.plan_test.proofs.is_field_marked.Tie as tie
 
-cast-is-marked : tie.Need-overflow-cast-is-marked
+cast-is-marked : tie.Need-overflow_cast-plan
 cast-is-marked c =
     omega (
       arith,
-      c.shared-slice-known4.given
-          (499 + 9 * c.before.before.before.before.before.args.g
-          + c.before.before.before.before.before.args.i),
+      c.shared_slice_known-4-1.given
+          (499 + 9 * c.args.g
+          + c.args.i),
     )
 
-pub is-field-marked-spec : {M : Type 1} → statement M
-is-field-marked-spec =
+pub is_field_marked_spec : {M : Type 1} → statement M
+is_field_marked_spec =
     tie.close
     (tie.spec
-    (λ c. omega arith)  -- mul-at
-    (λ c. omega arith)  -- add-at
-    (λ c. omega arith)  -- add-if1
-    (λ c. omega arith)  -- add-if1-2
-    (λ c. omega arith)  -- mul-if1
-    (λ c. omega arith)  -- shared-slice-read-if1
-    (λ c _. inl c.if1.true)  -- returns
-    (λ c. omega arith)  -- add-is-marked
-    (λ c. omega arith)  -- mul-is-marked
-    (λ c. omega arith)  -- shared-slice-read-is-marked
+    (λ c. omega arith)  -- overflow_mul-at
+    (λ c. omega arith)  -- overflow_add-at
+    (λ c. omega arith)  -- overflow_add-i
+    (λ c. omega arith)  -- overflow_add-at-2
+    (λ c. omega arith)  -- offset_bounds-plan-at
+    (λ c. omega arith)  -- bounds-plan-at
+    (λ c _. inl c.if-plan-at-eq0.true)  -- returns-then-plan-at-eq0
+    (λ c. omega arith)  -- overflow_add-at-3
+    (λ c. omega arith)  -- offset_bounds-plan-at-2
+    (λ c. omega arith)  -- bounds-plan-at-2
     cast-is-marked
-    (λ c κs. search rules)  -- is-marked-requires
-    (λ c h. inr (c.is-marked.ensures h)))  -- returns-2
+    (λ c κs. search rules)  -- is_marked-requires
+    (λ c h. inr (c.is_marked.ensures h)))  -- returns

@@ -10,28 +10,27 @@ use Rattle.plan_test.specs.Parts.{rest_base}
 use Rattle.plan_test.proofs.is_kept.Statement.{statement}
 use Rattle.plan_test.proofs.is_kept.Tie as tie
 
-abbrev invariant-loop : tie.invariant-loop
+abbrev invariant-loop : tie.invariant-loop-i
 invariant-loop rest i₀ i = (length rest ≡ 64) × (i ≤ 64) × ((m : ℕ) → m < i → rest_base ≤ get_or rest m 0)
 
-abbrev decreases-loop : tie.decreases-loop
+abbrev decreases-loop : tie.decreases-loop-i
 decreases-loop rest i₀ i = 64 - i
 
-loop-again : tie.Need-loop-preserved invariant-loop decreases-loop
+loop-again : tie.Need-loop-i-preserved invariant-loop decreases-loop
 loop-again c =
-    let at-loop = c.before.before in
-    (at-loop.loop.invariant.0, omega arith, below_more _ _ at-loop.loop.invariant.2 c.if1.false)
+    (c.loop-i.invariant.0, omega arith, below_more _ _ c.loop-i.invariant.2 c.if-rest-i-lt-REST_BASE.false)
 
-pub is-kept-spec : {M : Type 1} → statement M
-is-kept-spec =
+pub is_kept_spec : {M : Type 1} → statement M
+is_kept_spec =
     tie.close
     (tie.spec
     invariant-loop
     decreases-loop
-    (λ c. (search rules, omega arith, λ m l. absurd (omega arith)))  -- loop-holds
-    (λ c. search rules)  -- mul-if1
-    (λ c. search rules)  -- array-read-if1
-    (λ c h. absurd (false≢true h))  -- returns
-    (λ c. omega arith)  -- add-i
-    (λ c. omega arith)  -- loop-less
+    (λ c. (search rules, omega arith, λ m l. absurd (omega arith)))  -- loop-i-init
+    (λ c. search rules)  -- offset_bounds-rest-i
+    (λ c. search rules)  -- bounds-rest-i
+    (λ c h. absurd (false≢true h))  -- returns-then-rest-i-lt-REST_BASE
+    (λ c. omega arith)  -- overflow_add-i
+    (λ c. omega arith)  -- loop-i-smaller
     loop-again
-    (λ c _ m l. c.before.loop.invariant.2 m (omega arith)))  -- returns-2
+    (λ c _ m l. c.loop-i.invariant.2 m (omega arith)))  -- returns

@@ -10,108 +10,88 @@ use Rattle.plan_test.proofs.Parts.{values_leave}
 use Rattle.plan_test.proofs.lower_choice.Statement.{statement}
 use Rattle.plan_test.proofs.lower_choice.Tie as tie
 
--- ## the places: the variables are known, the choice is made
-
-abbrev start : tie.After-shared-slice-known4 → tie.Start
-start c =
-    let known = c.before.before.before.before in
-    known.before.before
-
-abbrev known : tie.After-with-value → tie.After-shared-slice-known6
-known c = c.before.before.before
-
-abbrev start_of : tie.After-with-value3 → tie.Start
-start_of c = start (known c.before.before).before.before
-
 -- the choice's first values
 front :
-    (c : tie.After-with-value3) → let a = (start_of c).args in let n = length a.sizes.now in
-    take n c.with-value3.result ≡ part_choice n a.plan.now a.p (a.c / 64) (a.c / 8 % 8) (a.c % 8)
+    (c : tie.After-with_value-choice) → let a = c.args in let n = length a.sizes.now in
+    take n c.with_value-choice.result ≡ part_choice n a.plan.now a.p (a.c / 64) (a.c / 8 % 8) (a.c % 8)
 front c =
-    let s = start_of c in
-    let a = s.args in
-    let one = c.before.before.with_value in
-    let two = c.before.with-value2 in
-    let three = c.with-value3 in
+    let a = c.args in
+    let one = c.with_value-one in
+    let two = c.with_value-two in
+    let three = c.with_value-choice in
     choice_front (length a.sizes.now) a.plan.now a.p (a.c / 64) (a.c / 8 % 8) (a.c % 8)
-    one.result two.result three.result s.pre.0.variables one.ensures two.ensures three.ensures
+    one.result two.result three.result c.requires.0.variables one.ensures two.ensures three.ensures
 
-cast-u : tie.Need-overflow-cast-u
-cast-u c = omega (arith, c.shared-slice-known4.given (499 + 9 * (start c).args.p.message + 1))
+cast-u : tie.Need-overflow_cast-u
+cast-u c = omega (arith, c.shared_slice_known-4-1.given (499 + 9 * c.args.p.message + 1))
 
-cast-v : tie.Need-overflow-cast-v
-cast-v c = omega (arith, c.shared-slice-known5.given (499 + 9 * (start c.before).args.p.message + 3))
+cast-v : tie.Need-overflow_cast-v
+cast-v c = omega (arith, c.shared_slice_known-5-1.given (499 + 9 * c.args.p.message + 3))
 
-cast-w : tie.Need-overflow-cast-w
-cast-w c = omega (arith, c.shared-slice-known6.given (499 + 9 * (start c.before.before).args.p.message + 5))
+cast-w : tie.Need-overflow_cast-w
+cast-w c = omega (arith, c.shared_slice_known-6-1.given (499 + 9 * c.args.p.message + 5))
 
-returns : tie.Need-returns
+returns : tie.Need-returns-then-i-l
 returns c = (
   λ k. omega arith,
-  λ _ y h e f g. absurd (c.if2.true (sym e ∙ ap (λ (a : ℕ). get_or y a 0) c.before.if1.true ∙ g)),
+  λ _ y h e f g. absurd (c.if-i-l.true (sym e ∙ ap (λ (a : ℕ). get_or y a 0) c.if-u-w.true ∙ g)),
 )
 
-returns-2 : tie.Need-returns-2
+returns-2 : tie.Need-returns-then-j-l
 returns-2 c = (
   λ k. omega arith,
-  λ _ y h e f g. absurd (c.if4.true (sym f ∙ ap (λ (a : ℕ). get_or y a 0) c.before.if3.true ∙ g)),
+  λ _ y h e f g. absurd (c.if-j-l.true (sym f ∙ ap (λ (a : ℕ). get_or y a 0) c.if-v-w.true ∙ g)),
 )
 
-slice-aggregate-lower-rows : tie.Need-slice-aggregate-lower-rows
+slice-aggregate-lower-rows : tie.Need-slice_bounds-lower_rows-end
 slice-aggregate-lower-rows c =
-    let made = c.before in
-    let s = start_of made in
-    sym (length-take-le (length s.args.sizes.now) made.with-value3.result
-    (omega (arith, made.with-value3.type-inv, s.pre.0.variables)))
+    sym (length-take-le (length c.args.sizes.now) c.with_value-choice.result
+    (omega (arith, c.with_value-choice.type_inv, c.requires.0.variables)))
 
-lower-rows-requires : tie.Need-lower-rows-requires
+lower-rows-requires : tie.Need-lower_rows-requires
 lower-rows-requires c κs =
-    let made = c.before.before in
-    let s = start_of made in
-    let a = s.args in
-    let q = s.pre in
+    let a = c.args in
+    let q = c.requires in
     let inside =
     choice_exists a.sizes.now a.plan.now a.p (a.c / 64) (a.c / 8 % 8) (a.c % 8) q.0.small q.5 in
-    (q.0, q.2, rw (front made) inside, q.6)
+    (q.0, q.2, rw (front c.before.before) inside, q.6)
 
-returns-3 : tie.Need-returns-3
+returns-3 : tie.Need-returns
 returns-3 c =
-    let lowered = c.before.before in
-    let made = lowered.before.before.before in
-    let s = start_of made in
-    let a = s.args in
-    let e = lowered.lower-rows.ensures in (
+    let a = c.args in
+    let e = c.lower_rows.ensures in (
       e.0,
       λ h. values_leave a.d a.sizes.now a.s.now a.plan.now a.p (a.c / 64) (a.c / 8 % 8)
-          (a.c % 8) _ lowered.lower-rows.new.1.1.1.1.1.1.0 s.pre.2.variable s.pre.3 (front made)
+          (a.c % 8) _ c.lower_rows.new.left c.requires.2.variable c.requires.3
+          (front c.before.before.before.before.before)
           (e.1 h),
     )
 
-pub lower-choice-spec : {M : Type 1} → statement M
-lower-choice-spec =
+pub lower_choice_spec : {M : Type 1} → statement M
+lower_choice_spec =
     tie.close
     (tie.spec
-    (λ c. search rules)  -- mul-at
-    (λ c. search rules)  -- add-at
-    (λ c. search rules)  -- add-u
-    (λ c. search rules)  -- mul-u
-    (λ c. search rules)  -- shared-slice-read-u
+    (λ c. search rules)  -- overflow_mul-at
+    (λ c. search rules)  -- overflow_add-at
+    (λ c. search rules)  -- overflow_add-u
+    (λ c. search rules)  -- offset_bounds-plan-at
+    (λ c. search rules)  -- bounds-plan-at
     cast-u
-    (λ c. search rules)  -- add-v
-    (λ c. search rules)  -- mul-v
-    (λ c. search rules)  -- shared-slice-read-v
+    (λ c. search rules)  -- overflow_add-v
+    (λ c. search rules)  -- offset_bounds-plan-at-2
+    (λ c. search rules)  -- bounds-plan-at-2
     cast-v
-    (λ c. search rules)  -- add-w
-    (λ c. search rules)  -- mul-w
-    (λ c. search rules)  -- shared-slice-read-w
+    (λ c. search rules)  -- overflow_add-w
+    (λ c. search rules)  -- offset_bounds-plan-at-3
+    (λ c. search rules)  -- bounds-plan-at-3
     cast-w
     returns
     returns-2
-    (λ c κs. search rules)  -- with-value-requires
-    (λ c κs. search rules)  -- with-value-requires-2
-    (λ c κs. search rules)  -- with-value-requires-3
-    (λ c. search rules)  -- array-share-prefix-choice
+    (λ c κs. search rules)  -- with_value-one-requires
+    (λ c κs. search rules)  -- with_value-two-requires
+    (λ c κs. search rules)  -- with_value-choice-requires
+    (λ c. search rules)  -- slice_bounds-choice-end
     slice-aggregate-lower-rows
     lower-rows-requires
-    (λ c. search rules)  -- same-length
+    (λ c. search rules)  -- shape_of-left
     returns-3)

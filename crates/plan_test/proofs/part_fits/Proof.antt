@@ -7,74 +7,56 @@ use Rattle.plan_test.proofs.Marking.{bucket_map, part_marks}
 use Rattle.plan_test.proofs.part_fits.Statement.{statement}
 use Rattle.plan_test.proofs.part_fits.Tie as tie
 
--- ## the places: the variables are marked, the bucket's own first
+cast-with-value : tie.Need-overflow_cast-plan
+cast-with-value c = omega (arith, c.shared_slice_known-3-1.given (499 + 9 * c.args.p.message + 1))
 
-abbrev start : tie.After-with-value → tie.Start
-start c = c.before.before.before.before
-
-abbrev own : tie.After-with-value2 → tie.After-with-value
-own c = c.before.before
-
-abbrev one : tie.After-with-value3 → tie.After-with-value2
-one c = c.before.before
-
-abbrev two : tie.After-with-value4 → tie.After-with-value3
-two c = c.before.before
-
-cast-with-value : tie.Need-overflow-cast-with-value
-cast-with-value c = omega (arith, c.shared-slice-known3.given (499 + 9 * (start c.before).args.p.message + 1))
-
-cast-with-value-2 : tie.Need-overflow-cast-with-value-2
+cast-with-value-2 : tie.Need-overflow_cast-plan-2
 cast-with-value-2 c =
-    omega (arith, c.shared-slice-known4.given (499 + 9 * (start (own c.before)).args.p.message + 3))
+    omega (arith, c.shared_slice_known-4-1.given (499 + 9 * c.args.p.message + 3))
 
-cast-with-value-3 : tie.Need-overflow-cast-with-value-3
+cast-with-value-3 : tie.Need-overflow_cast-plan-3
 cast-with-value-3 c =
-    omega (arith, c.shared-slice-known5.given (499 + 9 * (start (own (one c.before))).args.p.message + 5))
+    omega (arith, c.shared_slice_known-5-1.given (499 + 9 * c.args.p.message + 5))
 
-is-bucket-marked-requires : tie.Need-is-bucket-marked-requires
+is-bucket-marked-requires : tie.Need-is_bucket_marked-requires
 is-bucket-marked-requires c κs =
-    let q = (start (own (one (two c.before)))).requires in
+    let q = c.requires in
     (q.1, q.2, q.3, q.4)
 
 returns : tie.Need-returns
 returns c =
-    let fourth = c.before.before in
-    let third = two fourth in
-    let second = one third in
-    let first = own second in
-    let a = (start first).args in
+    let a = c.args in
     let p = a.p in
-    let marks = fourth.with-value4.result in
+    let marks = c.with_value-marks.result in
     let is =
-    part_marks a.plan.now p first.with_value.result second.with-value2.result third.with-value3.result
-    marks first.with_value.ensures second.with-value2.ensures third.with-value3.ensures
-    fourth.with-value4.ensures in
+    part_marks a.plan.now p c.with_value-one.result c.with_value-two.result c.with_value-three.result
+    marks c.with_value-one.ensures c.with_value-two.ensures c.with_value-three.ensures
+    c.with_value-marks.ensures in
     λ h. bucket_map (Marked marks) (PartReads a.plan.now p) is a.s.now a.plan.now p.span
-    (c.is-bucket-marked.ensures h)
+    (c.is_bucket_marked.ensures h)
 
-pub part-fits-spec : {M : Type 1} → statement M
-part-fits-spec =
+pub part_fits_spec : {M : Type 1} → statement M
+part_fits_spec =
     tie.close
     (tie.spec
-    (λ c. omega arith)  -- mul-at
-    (λ c. omega arith)  -- add-at
-    (λ c κs. omega arith)  -- with-value-requires
-    (λ c. omega arith)  -- add-with-value
-    (λ c. omega arith)  -- mul-with-value
-    (λ c. omega arith)  -- shared-slice-read-with-value
+    (λ c. omega arith)  -- overflow_mul-at
+    (λ c. omega arith)  -- overflow_add-at
+    (λ c κs. omega arith)  -- with_value-one-requires
+    (λ c. omega arith)  -- overflow_add-at-2
+    (λ c. omega arith)  -- offset_bounds-plan-at
+    (λ c. omega arith)  -- bounds-plan-at
     cast-with-value
-    (λ c κs. omega arith)  -- with-value-requires-2
-    (λ c. omega arith)  -- add-with-value-2
-    (λ c. omega arith)  -- mul-with-value-2
-    (λ c. omega arith)  -- shared-slice-read-with-value-2
+    (λ c κs. omega arith)  -- with_value-two-requires
+    (λ c. omega arith)  -- overflow_add-at-3
+    (λ c. omega arith)  -- offset_bounds-plan-at-2
+    (λ c. omega arith)  -- bounds-plan-at-2
     cast-with-value-2
-    (λ c κs. omega arith)  -- with-value-requires-3
-    (λ c. omega arith)  -- add-with-value-3
-    (λ c. omega arith)  -- mul-with-value-3
-    (λ c. omega arith)  -- shared-slice-read-with-value-3
+    (λ c κs. omega arith)  -- with_value-three-requires
+    (λ c. omega arith)  -- overflow_add-at-4
+    (λ c. omega arith)  -- offset_bounds-plan-at-3
+    (λ c. omega arith)  -- bounds-plan-at-3
     cast-with-value-3
-    (λ c κs. omega arith)  -- with-value-requires-4
-    (λ c. omega (arith, c.before.with-value4.type-inv))  -- slice-aggregate-is-bucket-marked
+    (λ c κs. omega arith)  -- with_value-marks-requires
+    (λ c. omega (arith, c.with_value-marks.type_inv))  -- slice_bounds-is_bucket_marked-end
     is-bucket-marked-requires
     returns)

@@ -1,27 +1,25 @@
 -- `plan_test::reads_marked` meets its contract.
 use mathlib.Core.Bool.{false≢true}
 use native.Mathlib.Omega.{arith}
-use borrow.Author.Tests.{not-false}
 use Rattle.plan_test.proofs.reads_marked.Statement.{statement}
 use Rattle.plan_test.proofs.reads_marked.Tie as tie
 
-returns-4 : tie.Need-returns-4
+returns-4 : tie.Need-returns
 returns-4 c =
-    let two = c.before.before in
     λ h. (
-      two.before.before.is-field-marked.ensures (not-false _ two.before.if2.false),
-      two.is-field-marked2.ensures (not-false _ c.before.if3.false),
-      c.is-field-marked3.ensures h,
+      c.is_field_marked.ensures c.if-not-is_field_marked.false,
+      c.is_field_marked-2.ensures c.if-not-is_field_marked-2.false,
+      c.is_field_marked-3.ensures h,
     )
 
-pub reads-marked-spec : {M : Type 1} → statement M
-reads-marked-spec =
+pub reads_marked_spec : {M : Type 1} → statement M
+reads_marked_spec =
     tie.close
     (tie.spec
-    (λ c h. absurd (false≢true h))  -- returns
-    (λ c κs. omega arith)  -- is-field-marked-requires
-    (λ c h. absurd (false≢true h))  -- returns-2
-    (λ c κs. omega arith)  -- is-field-marked-requires-2
-    (λ c h. absurd (false≢true h))  -- returns-3
-    (λ c κs. omega arith)  -- is-field-marked-requires-3
+    (λ c h. absurd (false≢true h))  -- returns-then-g-ge-MAX_MESSAGES
+    (λ c κs. omega arith)  -- is_field_marked-requires
+    (λ c h. absurd (false≢true h))  -- returns-then-not-is_field_marked
+    (λ c κs. omega arith)  -- is_field_marked-requires-2
+    (λ c h. absurd (false≢true h))  -- returns-then-not-is_field_marked-2
+    (λ c κs. omega arith)  -- is_field_marked-requires-3
     returns-4)
