@@ -1,5 +1,7 @@
 -- Ceilings fitted to what sums can reach: the same choices are under them, so the list is the same.
-use Rattle.std.proofs.Common.{◌≡◌, ℕ, suc, ◌+◌, ◌<◌, ◌≤◌, Bool, true, false, ◌&&◌, ltb, List, [], ◌∷◌, length, get_or, take, sym, refl, ap, ◌∙◌, ap₂, arith, length-take-le, get_or-take, ltb-false, ltb-true, le-ltb, lt-ltb}
+use Rattle.std.proofs.Common.{◌≡◌, ℕ, suc, ◌+◌, ◌<◌, ◌≤◌, Bool, true, false, ◌&&◌, ltb, List, [], ◌∷◌, length, get_or}
+use Rattle.std.proofs.Common.{take, sym, refl, ap, ◌∙◌, ap₂, arith, length-take-le, get_or-take, ltb-false, ltb-true}
+use Rattle.std.proofs.Common.{le-ltb, lt-ltb}
 use Rattle.model.specs.Basics.{All}
 use Rattle.model.specs.Limits.{max_objectives}
 use Rattle.model.specs.Problems.{Problem}
@@ -21,7 +23,9 @@ fitted_short cs ms fs fit short =
 
 -- what is below one ceiling is below the other, number by number
 under_fitted : (xs cs fs : List ℕ) → length xs ≡ length cs → length fs ≡ length cs
-    → ((j : ℕ) → j < length cs → (get_or fs j 0 ≤ get_or cs j 0) × (get_or xs j 0 < get_or cs j 0 → get_or xs j 0 < get_or fs j 0))
+    →
+    ((j : ℕ) → j < length cs
+        → (get_or fs j 0 ≤ get_or cs j 0) × (get_or xs j 0 < get_or cs j 0 → get_or xs j 0 < get_or fs j 0))
     → under xs fs ≡ under xs cs
 unfolding under
 under_fitted [] cs fs e d h = refl

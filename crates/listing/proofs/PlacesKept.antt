@@ -1,5 +1,6 @@
 -- The places of accepted records, written over work memory: the records are whole, and their tables are those read.
-use Rattle.std.proofs.Common.{◌≡◌, ℕ, zero, suc, ◌+◌, ◌-◌, ◌<◌, ◌≤◌, List, [], ◌∷◌, ◌++◌, length, take, drop, sym, refl, ap, append_assoc, append-nil, arith, drop-drop}
+use Rattle.std.proofs.Common.{◌≡◌, ℕ, zero, suc, ◌+◌, ◌-◌, ◌<◌, ◌≤◌, List, [], ◌∷◌, ◌++◌, length, take, drop, sym, refl}
+use Rattle.std.proofs.Common.{ap, append_assoc, append-nil, arith, drop-drop}
 use lib.Seq.{drop-length}
 use Rattle.model.specs.Basics.{All}
 use Rattle.model.specs.Limits.{max_objectives}

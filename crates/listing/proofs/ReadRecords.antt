@@ -1,5 +1,6 @@
 -- What a reading hands on to the search: accepted records, which make the problem that was read.
-use Rattle.std.proofs.Common.{◌≡◌, ℕ, ◌+◌, ◌-◌, ◌≤◌, List, length, take, drop, sym, ap, ◌∙◌, subst, arith, length-drop, length-take-le}
+use Rattle.std.proofs.Common.{◌≡◌, ℕ, ◌+◌, ◌-◌, ◌≤◌, List, length, take, drop, sym, ap, ◌∙◌, subst, arith, length-drop}
+use Rattle.std.proofs.Common.{length-take-le}
 use Rattle.model.specs.Basics.{All}
 use Rattle.model.specs.Problems.{Problem}
 use Rattle.model.specs.Encoding.{Byte}
@@ -75,12 +76,14 @@ module _ (s : List ℕ) (g : DG.Reading) (a : AcceptedReading s g) where
 
   -- the core's list is the frontier list
   pub list_found : All Byte s → {room : ℕ} {w w1 : List ℕ} {f : DF.Found}
-      → FoundSays p (length sizes_of) (core_frontier (core_of searched)) room w w1 f → FoundFor (problem_of s) room w w1 f
+      → FoundSays p (length sizes_of) (core_frontier (core_of searched)) room w w1 f
+      → FoundFor (problem_of s) room w w1 f
   list_found bytes {room} {w} {w1} {f} says =
       let rules = accepted_rules s bytes a.none in
       let weighs = subst Weighable (sym same_problem) (weighable (problem_of s) rules) in
       subst (λ (q : Problem). FoundFor q room w w1 f) same_problem
-      (subst (λ (fs : List Point). FoundSays p (length sizes_of) fs room w w1 f) (core_frontier_lem searched weighs) says)
+      (subst (λ (fs : List Point). FoundSays p (length sizes_of) fs room w w1 f) (core_frontier_lem searched weighs)
+          says)
 
   -- a half's is that of the core, under ceilings of its own
   module _ (side : ℕ) (ss ceilings : List ℕ) where

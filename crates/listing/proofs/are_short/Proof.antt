@@ -7,31 +7,27 @@ use Rattle.listing.proofs.FourCeilings.{four_short}
 use Rattle.listing.proofs.are_short.Statement.{statement}
 use Rattle.listing.proofs.are_short.Tie as tie
 
-returns-2 : tie.Need-returns-2
+returns-2 : tie.Need-returns
 returns-2 c =
-    let all = c.before in
-    let high = all.before in
-    let low = high.before in
-    let start = low.before in
-    let most = all.larger3.ensures in
-    let long = array_length w64 max_objectives start.args.t1 _ start.well-formed.0 in
+    let most = c.larger.ensures in
+    let long = array_length w64 max_objectives c.args.ceilings _ c.well_formed.0 in
     λ t.
-    four_short start.args.t1 long
-    (omega (arith, c.if1.false, most, low.larger.ensures))
-    (omega (arith, c.if1.false, most, low.larger.ensures))
-    (omega (arith, c.if1.false, most, high.larger2.ensures))
-    (omega (arith, c.if1.false, most, high.larger2.ensures))
+    four_short c.args.ceilings long
+    (omega (arith, c.if-larger-gt4294967296.false, most, c.larger-low.ensures))
+    (omega (arith, c.if-larger-gt4294967296.false, most, c.larger-low.ensures))
+    (omega (arith, c.if-larger-gt4294967296.false, most, c.larger-high.ensures))
+    (omega (arith, c.if-larger-gt4294967296.false, most, c.larger-high.ensures))
 
-pub are-short-spec : {M : Type 1} → statement M
-are-short-spec =
+pub are_short_spec : {M : Type 1} → statement M
+are_short_spec =
     tie.close
     (tie.spec
-    (λ c. search rules)  -- array-read-larger
-    (λ c. search rules)  -- array-read-larger-2
+    (λ c. search rules)  -- bounds-ceilings-0
+    (λ c. search rules)  -- bounds-ceilings-1
+    (λ c κs. search rules)  -- larger-low-requires
+    (λ c. search rules)  -- bounds-ceilings-2
+    (λ c. search rules)  -- bounds-ceilings-3
+    (λ c κs. search rules)  -- larger-high-requires
     (λ c κs. search rules)  -- larger-requires
-    (λ c. search rules)  -- array-read-larger-3
-    (λ c. search rules)  -- array-read-larger-4
-    (λ c κs. search rules)  -- larger-requires-2
-    (λ c κs. search rules)  -- larger-requires-3
-    (λ c t. absurd (false≢true t))  -- returns
+    (λ c t. absurd (false≢true t))  -- returns-then-larger-gt4294967296
     returns-2)

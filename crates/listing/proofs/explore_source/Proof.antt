@@ -12,88 +12,88 @@ use Rattle.listing.proofs.explore_source.Tie as tie
 
 -- ## the places: something to choose, costs to compare, ceilings that fit
 
-abbrev begun : tie.Else1 → tie.Start
+abbrev begun : tie.Else-n-eq0 → tie.Start
 begun c =
-    let known : tie.After-slice-known = c.before.before in
+    let known : tie.After-slice_known-1 = c.before.before in
     known.before.before.before
 
-abbrev choosing : tie.Else2 → tie.Else1
+abbrev choosing : tie.Else-task-eq0 → tie.Else-n-eq0
 choosing c = c.before.before
 
-abbrev costly : tie.Else3 → tie.Else2
+abbrev costly : tie.Else-not-are_short → tie.Else-task-eq0
 costly c = c.before.before
 
-abbrev short : tie.After-extents-of → tie.Else3
-short c = c.before.before.before
+abbrev short : tie.After-extents_of-extents → tie.Else-not-are_short
+short c = c.before.before
 
-abbrev summed : tie.After-fitted-ceilings → tie.After-extents-of
-summed c = let copied : tie.After-mosts = c.before in copied.before
+abbrev summed : tie.After-fitted_ceilings-fit → tie.After-extents_of-extents
+summed c = let copied : tie.After-mosts-1 = c.before in copied.before
 
-abbrev fitting : tie.After-take-turns-arg → tie.After-fitted-ceilings
-fitting c = let ranged : tie.After-ranges-of = c.before in ranged.before
+abbrev fitting : tie.After-take_turns-arg-1 → tie.After-fitted_ceilings-fit
+fitting c = let ranged : tie.After-ranges_of-ranges = c.before in ranged.before
 
-returns : tie.Need-returns
+returns : tie.Need-returns-then-n-eq0
 returns c = rw c.not_taken.ensures (ended_none _ _ _ _ _)
 
-returns-2 : tie.Need-returns-2
-returns-2 c = rw c.not-taken2.ensures (ended_none _ _ _ _ _)
+returns-2 : tie.Need-returns-then-task-eq0
+returns-2 c = rw c.not_taken-then-task-eq0.ensures (ended_none _ _ _ _ _)
 
-returns-3 : tie.Need-returns-3
-returns-3 c = rw c.not-taken3.ensures (ended_none _ _ _ _ _)
+returns-3 : tie.Need-returns-then-not-are_short
+returns-3 c = rw c.not_taken-then-not-are_short.ensures (ended_none _ _ _ _ _)
 
-ranges-of-requires : tie.Need-ranges-of-requires
+ranges-of-requires : tie.Need-ranges_of-ranges-requires
 ranges-of-requires c κs = (begun (choosing (costly (short (summed c))))).requires.0.objectives
 
-take-turns-requires : tie.Need-take-turns-requires
+take-turns-requires : tie.Need-take_turns-requires
 take-turns-requires c κs =
     let fit = fitting c in
     let known = short (summed fit) in
     let some = costly known in
     let s = begun (choosing some) in
     record {
-      source = source_under s.pre.0 fit.fitted-ceilings.result;
-      some_variable = omega (arith, (choosing some).if1.left);
-      some_objective = omega (arith, some.if2.left);
+      source = source_under s.requires.0 fit.fitted_ceilings-fit.result;
+      some_variable = omega (arith, (choosing some).if-n-eq0.false);
+      some_objective = omega (arith, some.if-task-eq0.false);
       short =
-          fitted_short _ _ _ fit.fitted-ceilings.ensures
-          (known.before.are-short.ensures (not-false _ known.if3.left));
-      room_small = s.pre.1;
+          fitted_short _ _ _ fit.fitted_ceilings-fit.ensures
+          (known.are_short.ensures known.if-not-are_short.false);
+      room_small = s.requires.1;
     }
 
-returns-4 : tie.Need-returns-4
+returns-4 : tie.Need-returns
 returns-4 c =
-    let turns : tie.After-take-turns = c.before.before in
+    let turns : tie.After-take_turns = c.before.before in
     let fit = fitting turns.before in
     let sums = summed fit in
     let s = begun (choosing (costly (short sums))) in
-    let source = s.pre.0 in
+    let source = s.requires.0 in
     let ds = s.args.sizes.now in
     let bytes = s.args.s.now in
-    let mosts = sums.extents-of.result.mosts in
+    let mosts = sums.extents_of-extents.result.mosts in
     let reach =
     subst (λ (places : List ℕ). Reaches ds bytes places s.args.task.ceilings mosts) (source_places source)
-    sums.extents-of.ensures in
+    sums.extents_of-extents.ensures in
     ended_fitted s.args.task ds bytes s.args.work.now mosts _ source.objectives
-    (ceilings_long s.args.task _ s.good.1.1.0) fit.fitted-ceilings.ensures reach _ _
-    turns.take-turns.ensures
+    (ceilings_long s.args.task _ s.well_formed.1.1.0) fit.fitted_ceilings-fit.ensures reach _ _
+    turns.take_turns.ensures
 
-pub explore-source-spec : {M : Type 1} → statement M
-explore-source-spec =
+pub explore_source_spec : {M : Type 1} → statement M
+explore_source_spec =
     tie.close
     (tie.spec
-    (λ c κs. search rules)  -- not-taken-requires
+    (λ c κs. search rules)  -- not_taken-requires
     returns
-    (λ c κs. search rules)  -- not-taken-requires-2
+    (λ c κs. search rules)  -- not_taken-requires-then-task-eq0
     returns-2
-    (λ c κs. search rules)  -- are-short-requires
-    (λ c κs. search rules)  -- not-taken-requires-3
+    (λ c κs. search rules)  -- are_short-requires
+    (λ c κs. search rules)  -- not_taken-requires-then-not-are_short
     returns-3
-    (λ c. search rules)  -- sub-extents-of
-    (λ c. search rules)  -- part-extents-of-start
-    (λ c. search rules)  -- part-extents-of-end
-    (λ c κs. extents_asked (begun (choosing (costly c.before.before))).requires.0)  -- extents-of-requires
-    (λ c κs. search rules)  -- fitted-ceilings-requires
+    (λ c. search rules)  -- slice_bounds-extents_of-count
+    (λ c. search rules)  -- slice_bounds-extents_of-start
+    (λ c. search rules)  -- slice_bounds-extents_of-end
+    (λ c κs. extents_asked (begun (choosing (costly c.before))).requires.0)  -- extents_of-extents-requires
+    (λ c κs. search rules)  -- fitted_ceilings-fit-requires
     ranges-of-requires
     take-turns-requires
-    (λ c. search rules)  -- same-length
+    (λ c. search rules)  -- shape_of-work
     returns-4)

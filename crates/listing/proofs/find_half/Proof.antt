@@ -13,158 +13,158 @@ use Rattle.listing.proofs.find_half.Tie as tie
 
 -- ## the places: what was read, where its records start, all records kept, the sizes narrowed, the side's records kept
 
-abbrev start : tie.After-head → tie.Start
+abbrev start : tie.After-head-1 → tie.Start
 start c = c.before.before.before.before
 
-abbrev bytes : tie.After-head → List ℕ
+abbrev bytes : tie.After-head-1 → List ℕ
 bytes c = (start c).args.s.now
 
-accepted : (c : tie.After-head) → AcceptedReading (bytes c) (start c).args.g
+accepted : (c : tie.After-head-1) → AcceptedReading (bytes c) (start c).args.g
 accepted c = read_accepted (bytes c) (start c).args.g (start c).requires.0.read (start c).requires.0.none
 
-records : (c : tie.After-head) → RecordsRead (bytes c) (start c).args.g (start c).args.work.now
+records : (c : tie.After-head-1) → RecordsRead (bytes c) (start c).args.g (start c).args.work.now
 records c =
     let s = start c in
-    records_read (bytes c) s.args.g (accepted c) s.args.work.now s.pre.0.memory
+    records_read (bytes c) s.args.g (accepted c) s.args.work.now s.requires.0.memory
 
-abbrev sizes : tie.After-head → List ℕ
+abbrev sizes : tie.After-head-1 → List ℕ
 sizes c = sizes_of (bytes c) (start c).args.g (accepted c)
 
-same : (c : tie.After-head) → length (start c).args.sides.now ≡ length (sizes c)
+same : (c : tie.After-head-1) → length (start c).args.sides.now ≡ length (sizes c)
 same c = sides_sized _ _ (accepted c) (start c).args.sides.now (start c).requires.1
 
-abbrev headed : tie.After-tables-start → tie.After-head
+abbrev headed : tie.After-tables_start-at → tie.After-head-1
 headed c = c.before.before.before.before
 
-abbrev started : tie.After-keep-places → tie.After-tables-start
+abbrev started : tie.After-keep_places → tie.After-tables_start-at
 started c = c.before.before.before
 
-abbrev kept : tie.After-narrow → tie.After-keep-places
+abbrev kept : tie.After-narrow-narrow → tie.After-keep_places
 kept c = c.before.before.before.before
 
-abbrev narrowing : tie.After-keep-records → tie.After-narrow
+abbrev narrowing : tie.After-keep_records-count → tie.After-narrow-narrow
 narrowing c = c.before.before.before
 
-abbrev sided : tie.After-slice-known3 → tie.After-keep-records
+abbrev sided : tie.After-slice_known-3-1 → tie.After-keep_records-count
 sided c = c.before.before
 
 -- ## all records
 
-array-share-prefix-sizes : tie.Need-array-share-prefix-sizes
+array-share-prefix-sizes : tie.Need-slice_bounds-sizes-end
 array-share-prefix-sizes c =
     let a = accepted (headed c) in
     omega (arith, a.room, a.few_variables)
 
-keep-places-requires : tie.Need-keep-places-requires
+keep-places-requires : tie.Need-keep_places-requires
 keep-places-requires c κs =
-    let begun : tie.After-tables-start = c.before.before in
+    let begun : tie.After-tables_start-at = c.before.before in
     let a = records (headed begun) in
     let s = (start (headed begun)).args in
     let fits = places_fit s.g.head.tables records_at s.work.now (omega (arith, a.tables, a.memory)) in
-    (rw begun.tables_start.ensures a.whole, a.small, fits, a.bytes)
+    (rw begun.tables_start-at.ensures a.whole, a.small, fits, a.bytes)
 
 -- ## the side's
 
-array-share-prefix-sizes-2 : tie.Need-array-share-prefix-sizes-2
+array-share-prefix-sizes-2 : tie.Need-slice_bounds-sizes-end-2
 array-share-prefix-sizes-2 c =
-    let placed : tie.After-keep-places = c.before.before in
+    let placed : tie.After-keep_places = c.before.before in
     let a = accepted (headed (started placed)) in
     omega (arith, a.room, a.few_variables)
 
-slice-aggregate-narrow : tie.Need-slice-aggregate-narrow
+slice-aggregate-narrow : tie.Need-slice_bounds-narrow-end
 slice-aggregate-narrow c =
-    let placed : tie.After-keep-places = c.before.before.before in
+    let placed : tie.After-keep_places = c.before.before.before in
     sym (sized _ _ (accepted (headed (started placed))))
 
-narrow-requires : tie.Need-narrow-requires
+narrow-requires : tie.Need-narrow-narrow-requires
 narrow-requires c κs =
-    let placed : tie.After-keep-places = c.before.before.before in
+    let placed : tie.After-keep_places = c.before.before.before in
     let head = headed (started placed) in
     (same head, (records head).variables)
 
-array-share-prefix-sizes-3 : tie.Need-array-share-prefix-sizes-3
+array-share-prefix-sizes-3 : tie.Need-slice_bounds-sizes-end-3
 array-share-prefix-sizes-3 c =
     let a = accepted (headed (started (kept c))) in
     omega (arith, a.room, a.few_variables)
 
-slice-aggregate-keep-records : tie.Need-slice-aggregate-keep-records
+slice-aggregate-keep-records : tie.Need-slice_bounds-keep_records-end
 slice-aggregate-keep-records c = sym (sized _ _ (accepted (headed (started (kept c.before)))))
 
-keep-records-requires : tie.Need-keep-records-requires
+keep-records-requires : tie.Need-keep_records-count-requires
 keep-records-requires c κs =
-    let placed : tie.After-keep-places = kept c.before.before in
+    let placed : tie.After-keep_places = kept c.before.before in
     let head = headed (started placed) in
-    let says = places_at_lem _ _ _ _ (started placed).tables_start.ensures placed.keep-places.ensures in
+    let says = places_at_lem _ _ _ _ (started placed).tables_start-at.ensures placed.keep_places.ensures in
     side_asked _ _ _ (start head).args.side _ (start head).args.sides.now _ _ (records head) (same head) _ says
 
 -- the narrowed sizes are the first n of the array
-abbrev Narrowed : tie.After-head → List ℕ → Type 0
+abbrev Narrowed : tie.After-head-1 → List ℕ → Type 0
 Narrowed c narrow =
     let a = (start c).args in
     take a.g.head.variables narrow ≡ narrowed a.side a.sides.now (sizes c)
 
-narrow_is : (c : tie.After-narrow) → Narrowed (headed (started (kept c))) c.narrow.result
-narrow_is c = rw (sized _ _ (accepted (headed (started (kept c))))) at c.narrow.ensures
+narrow_is : (c : tie.After-narrow-narrow) → Narrowed (headed (started (kept c))) c.narrow-narrow.result
+narrow_is c = rw (sized _ _ (accepted (headed (started (kept c))))) at c.narrow-narrow.ensures
 
-array-share-prefix-narrow : tie.Need-array-share-prefix-narrow
+array-share-prefix-narrow : tie.Need-slice_bounds-narrow-end-2
 array-share-prefix-narrow c =
     let a = accepted (headed (started (kept (narrowing (sided c))))) in
     omega (arith, a.few_variables)
 
-slice-aggregate-find-source : tie.Need-slice-aggregate-find-source
+slice-aggregate-find-source : tie.Need-slice_bounds-find_source-end
 slice-aggregate-find-source c =
     let narrow = narrowing (sided c.before) in
     let head = headed (started (kept narrow)) in
     let long = narrowed_length (start head).args.side (start head).args.sides.now _ (same head) in
     sym (ap length (narrow_is narrow) ∙ long ∙ sized _ _ (accepted head))
 
-find-source-requires : tie.Need-find-source-requires
+find-source-requires : tie.Need-find_source-searched-requires
 find-source-requires c κs =
-    let chosen : tie.After-slice-known3 = c.before.before in
+    let chosen : tie.After-slice_known-3-1 = c.before.before in
     let narrow = narrowing (sided chosen) in
     let placed = kept narrow in
     let head = headed (started placed) in
-    let says = places_at_lem _ _ _ _ (started placed).tables_start.ensures placed.keep-places.ensures in
+    let says = places_at_lem _ _ _ _ (started placed).tables_start-at.ensures placed.keep_places.ensures in
     let source =
     side_source _ _ _ (start head).args.side _ (start head).args.sides.now _ _ (records head) (same head) _ says
-    _ _ (sided chosen).keep-records.ensures _ _ (narrow_is narrow) in
+    _ _ (sided chosen).keep_records-count.ensures _ _ (narrow_is narrow) in
     (source, omega arith)
 
 returns : tie.Need-returns
 returns c =
-    let found : tie.After-find-source = c.before.before.before in
-    let chosen : tie.After-slice-known3 = found.before.before.before in
+    let found : tie.After-find_source-searched = c.before.before.before in
+    let chosen : tie.After-slice_known-3-1 = found.before.before.before in
     let narrow = narrowing (sided chosen) in
     let placed = kept narrow in
     let head = headed (started placed) in
-    let says = places_at_lem _ _ _ _ (started placed).tables_start.ensures placed.keep-places.ensures in
-    let f = found.find-source in
+    let says = places_at_lem _ _ _ _ (started placed).tables_start-at.ensures placed.keep_places.ensures in
+    let f = found.find_source-searched in
     half_found _ _ (accepted head) (start head).args.side (start head).args.sides.now (start head).args.ceilings
     (side_says _ _ _ (start head).args.side _ (start head).args.sides.now _ _ (records head) (same head) _ says
-    _ _ (sided chosen).keep-records.ensures _ _ (narrow_is narrow) _ f.result.found f.ensures)
+    _ _ (sided chosen).keep_records-count.ensures _ _ (narrow_is narrow) _ f.result.found f.ensures)
 
-pub find-half-spec : {M : Type 1} → statement M
-find-half-spec =
+pub find_half_spec : {M : Type 1} → statement M
+find_half_spec =
     tie.close
     (tie.spec
-    (λ c. search rules)  -- cast-n
-    (λ c. search rules)  -- cast-p
-    (λ c κs. search rules)  -- tables-start-requires
+    (λ c. search rules)  -- overflow_cast-n
+    (λ c. search rules)  -- overflow_cast-p
+    (λ c κs. search rules)  -- tables_start-at-requires
     array-share-prefix-sizes
-    (λ c. sym (sized _ _ (accepted (headed c.before))))  -- slice-aggregate-keep-places
-    (λ c. search rules)  -- sub-keep-places
-    (λ c. search rules)  -- part-keep-places-start
-    (λ c. search rules)  -- part-keep-places-end
+    (λ c. sym (sized _ _ (accepted (headed c.before))))  -- slice_bounds-keep_places-end
+    (λ c. search rules)  -- slice_bounds-keep_places-count
+    (λ c. search rules)  -- slice_bounds-keep_places-start
+    (λ c. search rules)  -- slice_bounds-keep_places-end-2
     keep-places-requires
     array-share-prefix-sizes-2
     slice-aggregate-narrow
     narrow-requires
-    (λ c. search rules)  -- cast-t23
+    (λ c. search rules)  -- overflow_cast-which
     array-share-prefix-sizes-3
     slice-aggregate-keep-records
     keep-records-requires
     array-share-prefix-narrow
     slice-aggregate-find-source
     find-source-requires
-    (λ c. search rules)  -- same-length
+    (λ c. search rules)  -- shape_of-work
     returns)

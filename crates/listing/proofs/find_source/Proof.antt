@@ -7,47 +7,47 @@ use Rattle.listing.proofs.find_source.Tie as tie
 
 -- ## the places: what the second form left, and that it gave up
 
-abbrev begun : tie.After-explore-source → tie.Start
+abbrev begun : tie.After-explore_source-t → tie.Start
 begun c =
-    let known : tie.After-slice-known = c.before.before.before in
+    let known : tie.After-slice_known-1 = c.before.before.before in
     known.before.before.before
 
-abbrev explored : tie.Else2 → tie.After-explore-source
+abbrev explored : tie.Else-e → tie.After-explore_source-t
 explored c =
-    let copied : tie.After-measures = c.before in
+    let copied : tie.After-measures-1 = c.before in
     copied.before.before.before.before
 
-returns-2 : tie.Need-returns-2
+returns-2 : tie.Need-returns-then-e
 returns-2 c =
-    let copied : tie.After-measures = c.before in
-    let e : tie.After-explore-source = copied.before.before.before.before in
-    e.explore-source.ensures.found c.if2.true
+    let copied : tie.After-measures-1 = c.before in
+    let e : tie.After-explore_source-t = copied.before.before.before.before in
+    e.explore_source-t.ensures.found c.if-e.true
 
-find-source-requires-2 : tie.Need-find-source-requires-2
+find-source-requires-2 : tie.Need-find_source-found-requires-2
 find-source-requires-2 c κs =
     let e = explored c.before in
     let s = begun e in
-    (source_kept s.pre.0 e.explore-source.ensures.kept, s.pre.1)
+    (source_kept s.requires.0 e.explore_source-t.ensures.kept, s.requires.1)
 
-returns-3 : tie.Need-returns-3
+returns-3 : tie.Need-returns
 returns-3 c =
-    let found : tie.After-find-source2 = c.before.before.before in
+    let found : tie.After-find_source-found-2 = c.before.before.before in
     let e = explored found.before.before in
-    let f = found.find-source2 in
-    first_after (begun e).pre.0 e.explore-source.ensures.kept _ f.result f.ensures
+    let f = found.find_source-found-2 in
+    first_after (begun e).requires.0 e.explore_source-t.ensures.kept _ f.result f.ensures
 
-pub find-source-spec : {M : Type 1} → statement M
-find-source-spec =
+pub find_source_spec : {M : Type 1} → statement M
+find_source_spec =
     tie.close
     (tie.spec
-    (λ c κs. search rules)  -- find-source-requires
-    (λ c κs. search rules)  -- unmeasured-requires
-    (λ c. search rules)  -- same-length
-    (λ c. search rules)  -- returns
-    (λ c κs. search rules)  -- explore-source-requires
-    (λ c. search rules)  -- same-length-2
+    (λ c κs. search rules)  -- find_source-found-requires
+    (λ c κs. search rules)  -- unmeasured-measures-requires
+    (λ c. search rules)  -- shape_of-work-then-by_passes
+    (λ c. search rules)  -- returns-then-by_passes
+    (λ c κs. search rules)  -- explore_source-t-requires
+    (λ c. search rules)  -- shape_of-work-then-e
     returns-2
     find-source-requires-2
-    (λ c κs. search rules)  -- by-first-form-requires
-    (λ c. search rules)  -- same-length-3
+    (λ c κs. search rules)  -- by_first_form-measures-requires
+    (λ c. search rules)  -- shape_of-work
     returns-3)

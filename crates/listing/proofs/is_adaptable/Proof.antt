@@ -4,14 +4,14 @@ use Rattle.std.proofs.Common.{arith}
 use Rattle.listing.proofs.is_adaptable.Statement.{statement}
 use Rattle.listing.proofs.is_adaptable.Tie as tie
 
-returns : tie.Need-returns
+returns : tie.Need-returns-then-p-lt2
 returns c = λ t. absurd (false≢true t)
 
-returns-2 : tie.Need-returns-2
-returns-2 c = λ _. omega (arith, c.if1.false)
+returns-2 : tie.Need-returns
+returns-2 c = λ _. omega (arith, c.if-p-lt2.false)
 
-pub is-adaptable-spec : {M : Type 1} → statement M
-is-adaptable-spec =
+pub is_adaptable_spec : {M : Type 1} → statement M
+is_adaptable_spec =
     tie.close
     (tie.spec
     returns

@@ -9,50 +9,50 @@ use Rattle.listing.proofs.search_by.Tie as tie
 
 -- ## the places: directions, a plan, a plan that passed its test
 
-abbrev begun : tie.After-choose-directions → tie.Start
+abbrev begun : tie.After-choose_directions-d → tie.Start
 begun c =
-    let known : tie.After-slice-known = c.before in
+    let known : tie.After-slice_known-1 = c.before in
     known.before.before.before
 
-abbrev aimed : tie.After-plan-source → tie.After-choose-directions
+abbrev aimed : tie.After-plan_source → tie.After-choose_directions-d
 aimed c = c.before.before
 
-abbrev planned : tie.After-slice-known2 → tie.After-plan-source
+abbrev planned : tie.After-slice_known-2-1 → tie.After-plan_source
 planned c = c.before.before
 
-abbrev sound : tie.After-explore-arg → tie.Else1
+abbrev sound : tie.After-explore-arg-1 → tie.Else-not-plan_source
 sound c = c.before
 
-choose-directions-requires : tie.Need-choose-directions-requires
+choose-directions-requires : tie.Need-choose_directions-d-requires
 choose-directions-requires c κs =
-    let h = c.before.before.before.requires.0 in
+    let h = c.requires.0 in
     (h.some_objective, h.source.objectives)
 
-plan-source-requires : tie.Need-plan-source-requires
+plan-source-requires : tie.Need-plan_source-requires
 plan-source-requires c κs =
-    let aim : tie.After-choose-directions = c.before in
-    (source_plannable (begun aim).requires.0.source, aim.choose-directions.ensures.0)
+    let aim : tie.After-choose_directions-d = c.before in
+    (source_plannable (begun aim).requires.0.source, aim.choose_directions-d.ensures.0)
 
-returns : tie.Need-returns
+returns : tie.Need-returns-then-not-plan_source
 returns c =
-    let failed : tie.Then1 = c.before in
+    let failed : tie.Then-not-plan_source = c.before in
     let p = planned failed.before in
     let s = begun (aimed p) in
-    let made = p.plan-source.ensures in
-    rw c.not_made.ensures (plan_failed s.pre.0 made.0 made.1 s.pre.1 _)
+    let made = p.plan_source.ensures in
+    rw c.not_made.ensures (plan_failed s.requires.0 made.0 made.1 s.requires.1 _)
 
 explore-requires : tie.Need-explore-requires
 explore-requires c κs =
     let passed = sound c in
     let p = planned passed.before in
     let s = begun (aimed p) in
-    let d = (aimed p).choose-directions in
-    let made = p.plan-source.ensures in (
-      plan_ready s.pre.0 made.0 d.result d.ensures.1 (made.2 (not-false _ passed.if1.left)),
-      plan_between s.pre.0 made.0 made.1 s.pre.1,
+    let d = (aimed p).choose_directions-d in
+    let made = p.plan_source.ensures in (
+      plan_ready s.requires.0 made.0 d.result d.ensures.1 (made.2 passed.if-not-plan_source.false),
+      plan_between s.requires.0 made.0 made.1 s.requires.1,
     )
 
-returns-2 : tie.Need-returns-2
+returns-2 : tie.Need-returns
 returns-2 c =
     let e : tie.After-explore = c.before.before in
     let p = planned (sound e.before).before in
@@ -60,17 +60,17 @@ returns-2 c =
     let says = e.explore.ensures in
     let turned =
     explored_turned a.task _ _ _ _ e.explore.result a.from.budget says.0 says.1 in
-    turned_since (begun (aimed p)).requires.0 p.plan-source.ensures.0 _ e.explore.result turned
+    turned_since (begun (aimed p)).requires.0 p.plan_source.ensures.0 _ e.explore.result turned
 
-pub search-by-spec : {M : Type 1} → statement M
-search-by-spec =
+pub search_by_spec : {M : Type 1} → statement M
+search_by_spec =
     tie.close
     (tie.spec
     choose-directions-requires
     plan-source-requires
-    (λ c κs. search rules)  -- not-made-requires
-    (λ c. search rules)  -- same-length
+    (λ c κs. search rules)  -- not_made-requires
+    (λ c. search rules)  -- shape_of-work-then-not-plan_source
     returns
     explore-requires
-    (λ c. search rules)  -- same-length-2
+    (λ c. search rules)  -- shape_of-work
     returns-2)

@@ -12,5 +12,5 @@ pub wide_spec : {M : Type 1} → statement M
 wide_spec =
     tie.close
     (tie.spec
-    (λ c. search rules)  -- add-result
+    (λ c. search rules)  -- overflow_add-result
     returns)

@@ -8,24 +8,20 @@ use Rattle.listing.proofs.widened.Tie as tie
 
 returns : tie.Need-returns
 returns c =
-    let third = c.before in
-    let second = third.before in
-    let first = second.before in
-    let start = first.before in
-    let long = array_length w32 max_objectives start.args.t1 _ start.well-formed.0 in
-    four_core start.args.t1 long _ _ _ _ first.wide.ensures second.wide2.ensures third.wide3.ensures
-    c.wide4.ensures
+    let long = array_length w32 max_objectives c.args.ceilings _ c.well_formed.0 in
+    four_core c.args.ceilings long _ _ _ _ c.wide.ensures c.wide-2.ensures c.wide-3.ensures
+    c.wide-4.ensures
 
-pub widened-spec : {M : Type 1} → statement M
-widened-spec =
+pub widened_spec : {M : Type 1} → statement M
+widened_spec =
     tie.close
     (tie.spec
-    (λ c. search rules)  -- array-read-wide
+    (λ c. search rules)  -- bounds-ceilings-0
     (λ c κs. search rules)  -- wide-requires
-    (λ c. search rules)  -- array-read-wide-2
+    (λ c. search rules)  -- bounds-ceilings-1
     (λ c κs. search rules)  -- wide-requires-2
-    (λ c. search rules)  -- array-read-wide-3
+    (λ c. search rules)  -- bounds-ceilings-2
     (λ c κs. search rules)  -- wide-requires-3
-    (λ c. search rules)  -- array-read-wide-4
+    (λ c. search rules)  -- bounds-ceilings-3
     (λ c κs. search rules)  -- wide-requires-4
     returns)
