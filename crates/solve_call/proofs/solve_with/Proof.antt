@@ -19,137 +19,137 @@ use Rattle.solve_call.proofs.solve_with.Tie as tie
 
 -- ## the places: read, accepted, searched
 
-abbrev lent : tie.After-read-problem → tie.After-slice-known
+abbrev lent : tie.After-read_problem-g → tie.After-slice_known-1
 lent c = c.before.before.before
 
-abbrev start : tie.After-read-problem → tie.Start
+abbrev start : tie.After-read_problem-g → tie.Start
 start c = (lent c).before.before
 
-abbrev bytes : tie.After-read-problem → List ℕ
+abbrev bytes : tie.After-read_problem-g → List ℕ
 bytes c = (start c).args.problem.now
 
-are_bytes : (c : tie.After-read-problem) → All Byte (bytes c)
-are_bytes c = all_each Byte 0 (bytes c) (λ i. omega (arith, (lent c).before.shared-slice-known.given i))
+are_bytes : (c : tie.After-read_problem-g) → All Byte (bytes c)
+are_bytes c = all_each Byte 0 (bytes c) (λ i. omega (arith, (lent c).shared_slice_known-1.given i))
 
-abbrev memory : tie.After-read-problem → List ℕ
+abbrev memory : tie.After-read_problem-g → List ℕ
 memory c = (start c).args.work.now
 
-abbrev told : tie.Else1 → tie.After-early-refusal
+abbrev told : tie.Else-early-ne0 → tie.After-early_refusal-early
 told c = c.before.before
 
-abbrev read : tie.Else1 → tie.After-read-problem
+abbrev read : tie.Else-early-ne0 → tie.After-read_problem-g
 read c = (told c).before
 
-accepted : (c : tie.Else1) → AcceptedReading (bytes (read c)) (read c).read-problem.result
+accepted : (c : tie.Else-early-ne0) → AcceptedReading (bytes (read c)) (read c).read_problem-g.result
 accepted c =
-    let g = (read c).read-problem in
-    early_accepted (bytes (read c)) (length (memory (read c))) g.result g.ensures (told c).early-refusal.ensures
-    c.if1.false
+    let g = (read c).read_problem-g in
+    early_accepted (bytes (read c)) (length (memory (read c))) g.result g.ensures (told c).early_refusal-early.ensures
+    c.if-early-ne0.false
 
-enough : (c : tie.Else1) → work_need ≤ length (memory (read c))
+enough : (c : tie.Else-early-ne0) → work_need ≤ length (memory (read c))
 enough c =
-    let g = (read c).read-problem in
-    early_enough (bytes (read c)) (length (memory (read c))) g.result g.ensures (told c).early-refusal.ensures
-    c.if1.false
+    let g = (read c).read_problem-g in
+    early_enough (bytes (read c)) (length (memory (read c))) g.result g.ensures (told c).early_refusal-early.ensures
+    c.if-early-ne0.false
 
-abbrev opened : tie.After-flat-room → tie.Else1
+abbrev opened : tie.After-flat_room-room → tie.Else-early-ne0
 opened c = c.before.before
 
-abbrev roomed : tie.After-find-list → tie.After-flat-room
+abbrev roomed : tie.After-find_list-searched → tie.After-flat_room-room
 roomed c = c.before.before
 
-abbrev searched : tie.After-measures → tie.After-find-list
+abbrev searched : tie.After-measures-1 → tie.After-find_list-searched
 searched c =
-    let known : tie.After-slice-known4 = c.before.before in
+    let known : tie.After-slice_known-4-1 = c.before.before in
     known.before.before
 
-abbrev copied : tie.After-slice-known7 → tie.After-copy-out
-copied c = let chosen : tie.After-slice-known5 = c.before.before.before.before in chosen.before.before
+abbrev copied : tie.After-slice_known-7-1 → tie.After-copy_out
+copied c = let chosen : tie.After-slice_known-5-1 = c.before.before.before.before in chosen.before.before
 
 -- ## refused before the search
 
-refused-requires : tie.Need-refused-requires
+refused-requires : tie.Need-refused-answer-requires
 refused-requires c κs =
-    let early : tie.After-early-refusal = c.before.before in
-    let g = early.before.read-problem in
+    let early : tie.After-early_refusal-early = c.before.before in
+    let g = early.read_problem-g in
     early_place (bytes early.before) (length (memory early.before)) g.result g.ensures
-    early.early-refusal.ensures
+    early.early_refusal-early.ensures
 
-returns : tie.Need-returns
+returns : tie.Need-returns-then-early-ne0
 returns c =
-    let told-off : tie.After-refused = c.before in
-    let stopped : tie.Then1 = told-off.before in
-    let early : tie.After-early-refusal = stopped.before.before in
-    let g = early.before.read-problem in
+    let told-off : tie.After-refused-answer = c.before in
+    let stopped : tie.Then-early-ne0 = told-off.before in
+    let early : tie.After-early_refusal-early = stopped.before.before in
+    let g = early.read_problem-g in
     let a = (start early.before).args in
     let said =
     early_said (bytes early.before) (length (memory early.before)) g.result g.ensures
-    early.early-refusal.ensures in
-    rw told-off.refused.ensures
+    early.early_refusal-early.ensures in
+    rw told-off.refused-answer.ensures
     (unchanged_solve a.problem.now a.costs.now a.choices.now a.work.now
-    early.early-refusal.result said stopped.if1.true)
+    early.early_refusal-early.result said stopped.if-early-ne0.true)
 
 -- ## the search
 
-flat-room-requires : tie.Need-flat-room-requires
+flat-room-requires : tie.Need-flat_room-room-requires
 flat-room-requires c κs =
     let a = accepted c.before in
     (a.few_objectives.0, a.few_variables.0)
 
-find-list-requires : tie.Need-find-list-requires
+find-list-requires : tie.Need-find_list-searched-requires
 find-list-requires c κs =
-    let room : tie.After-flat-room = c.before in
-    let g = (read (opened room)).read-problem in
+    let room : tie.After-flat_room-room = c.before in
+    let g = (read (opened room)).read_problem-g in
     let none = g.ensures.number ∙ (accepted (opened room)).none in
     let long = enough (opened room) in
-    (record { read = g.ensures; none = none; memory = omega (arith, long) }, omega (arith, room.flat-room.ensures))
+    (record { read = g.ensures; none = none; memory = omega (arith, long) }, omega (arith, room.flat_room-room.ensures))
 
-copy-out-requires : tie.Need-copy-out-requires
+copy-out-requires : tie.Need-copy_out-requires
 copy-out-requires c κs =
     let found = searched c.before.before.before in
     let open_at = opened (roomed found) in
     let a = (start (read open_at)).args in
     solve_asked (accepted open_at) a.costs.now a.choices.now a.work.now (enough open_at)
-    (roomed found).flat-room.ensures found.find-list.ensures (are_bytes (read open_at))
+    (roomed found).flat_room-room.ensures found.find_list-searched.ensures (are_bytes (read open_at))
 
 -- ## the answer
 
-answer-of-requires : tie.Need-answer-of-requires
+answer-of-requires : tie.Need-answer_of-answer-requires
 answer-of-requires c κs =
     let found = searched (copied c).before.before.before.before in
     let open_at = opened (roomed found) in
     let a = (start (read open_at)).args in
     solve_few (accepted open_at) a.costs.now a.choices.now a.work.now (enough open_at)
-    (roomed found).flat-room.ensures found.find-list.ensures
+    (roomed found).flat_room-room.ensures found.find_list-searched.ensures
 
-returns-2 : tie.Need-returns-2
+returns-2 : tie.Need-returns
 returns-2 c =
     let out = copied c.before in
     let found = searched out.before.before.before.before in
     let open_at = opened (roomed found) in
-    let g = (read open_at).read-problem in
+    let g = (read open_at).read_problem-g in
     let a = (start (read open_at)).args in
     let none =
     early_none a.problem.now (length a.work.now) g.result g.ensures
-    (told open_at).early-refusal.ensures open_at.if1.left in
-    rw c.answer-of.ensures
+    (told open_at).early_refusal-early.ensures open_at.if-early-ne0.false in
+    rw c.answer_of-answer.ensures
     (solve_end (accepted open_at) a.costs.now a.choices.now a.work.now (enough open_at)
-    (roomed found).flat-room.ensures found.find-list.ensures none out.copy-out.ensures)
+    (roomed found).flat_room-room.ensures found.find_list-searched.ensures none out.copy_out.ensures)
 
-pub solve-with-spec : {M : Type 1} → statement M
-solve-with-spec =
+pub solve_with_spec : {M : Type 1} → statement M
+solve_with_spec =
     tie.close
     (tie.spec
-    (λ c κs. search rules)  -- read-problem-requires
-    (λ c κs. search rules)  -- early-refusal-requires
+    (λ c κs. search rules)  -- read_problem-g-requires
+    (λ c κs. search rules)  -- early_refusal-early-requires
     refused-requires
-    (λ c κs. search rules)  -- unmeasured-requires
+    (λ c κs. search rules)  -- unmeasured-measures-requires
     returns
     flat-room-requires
     find-list-requires
     copy-out-requires
     answer-of-requires
-    (λ c. search rules)  -- same-length
-    (λ c. search rules)  -- same-length-2
-    (λ c. search rules)  -- same-length-3
+    (λ c. search rules)  -- shape_of-costs
+    (λ c. search rules)  -- shape_of-choices
+    (λ c. search rules)  -- shape_of-work
     returns-2)
