@@ -9,7 +9,8 @@ use borrow.Author.Tests.{ne_eqb}
 use Rattle.model.specs.Limits.{max_objectives}
 use Rattle.model.specs.Refusals.{bad_prefix}
 use Rattle.model.specs.Problems.{Table}
-use Rattle.model.specs.Reading.{head_objectives, head_tables, domains_of, tables_start, tables_at, verdict_of, problem_of}
+use Rattle.model.specs.Reading.{head_objectives, head_tables, domains_of, tables_start, tables_at, verdict_of}
+use Rattle.model.specs.Reading.{problem_of}
 use Rattle.model.specs.Costs.{totals_from, totals}
 use Rattle.model.specs.Bounds.{prefix_ok, least_of, bound_of}
 use Rattle.model.specs.Calls.{padded, bound_verdict, bound_outcome}
@@ -26,7 +27,8 @@ abbrev pub zeros : List ℕ
 zeros = 0 ∷ 0 ∷ 0 ∷ 0 ∷ []
 
 -- number and place are the problem's
-pub refused_answer : (s prefix : List ℕ) (n at : ℕ) → n ≡ (verdict_of s).number → at ≡ (verdict_of s).place → (n ≡ 0 → ⊥)
+pub refused_answer : (s prefix : List ℕ) (n at : ℕ) → n ≡ (verdict_of s).number → at ≡ (verdict_of s).place
+    → (n ≡ 0 → ⊥)
     → BoundSays s prefix (answer n at zeros)
 unfolding bound_outcome bound_verdict padded
 refused_answer s prefix n at e f h =

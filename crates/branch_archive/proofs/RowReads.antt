@@ -14,6 +14,7 @@ pub front_costs : (p : ℕ) (work row : List ℕ) (i : ℕ) → p ≤ max_object
 front_costs p work row i few e = rw e (costs_front work i p max_objectives few)
 
 -- a test of them, as the code makes it
-pub row_test : (p : ℕ) (work : List ℕ) (i : ℕ) (row : List ℕ) → p ≤ max_objectives → row ≡ costs_in max_objectives work i
+pub row_test : (p : ℕ) (work : List ℕ) (i : ℕ) (row : List ℕ) → p ≤ max_objectives
+    → row ≡ costs_in max_objectives work i
     → (test : List ℕ → Bool) (met t : Bool) → met ≡ t → met ≡ test (take p row) → test (costs_in p work i) ≡ t
 row_test p work i row few read test met t is says = sym (ap test (front_costs p work row i few read)) ∙ sym says ∙ is

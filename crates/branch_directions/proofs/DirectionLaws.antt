@@ -59,7 +59,8 @@ whole_added d u v e =
     rw (sums_added d d.sums 0 u v e, added_append u v (sums_from d d.sums 0 u) (sums_from d d.sums 0 v) e)
 
 pub directions_added : (d : DD.Directions) (u v : List ℕ) → length u ≡ d.objectives → length v ≡ d.objectives
-    → (j : ℕ) → get_or (directions_of d (added u v)) j 0 ≡ get_or (directions_of d u) j 0 + get_or (directions_of d v) j 0
+    → (j : ℕ)
+    → get_or (directions_of d (added u v)) j 0 ≡ get_or (directions_of d u) j 0 + get_or (directions_of d v) j 0
 directions_added d u v e f j =
     ap (λ (l : List ℕ). get_or l j 0) (whole_added d u v (e ∙ sym f))
     ∙ added_at (directions_of d u) (directions_of d v) (omega (arith, width d u, width d v)) j

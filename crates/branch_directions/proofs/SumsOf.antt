@@ -36,7 +36,8 @@ module _ (d : DD.Directions) where
   sums_length zero i v = refl
   sums_length (suc c) i v = ap suc (sums_length c (suc i) v)
 
-  pub sums_at : (c i : ℕ) (v : List ℕ) (k : ℕ) → k < c → get_or (sums_from d c i v) k 0 ≡ weighted (weights_of d (i + k)) v
+  pub sums_at : (c i : ℕ) (v : List ℕ) (k : ℕ) → k < c
+      → get_or (sums_from d c i v) k 0 ≡ weighted (weights_of d (i + k)) v
   unfolding sums_from
   sums_at zero i v k h = absurd (omega arith)
   sums_at (suc c) i v zero h = let e : i + 0 ≡ i = omega arith in rw e

@@ -24,7 +24,8 @@ with_row table i row = take (4 * i) table ++ row ++ drop (4 * i + 4) table
 
 -- number by number, as the code writes it
 pub row_written : (xs row : List ℕ) (at : ℕ) → at + 4 ≤ length xs → length row ≡ 4
-    → set (set (set (set xs at (get_or row 0 0)) (at + 1) (get_or row 1 0)) (at + 2) (get_or row 2 0)) (at + 3) (get_or row 3 0)
+    → set (set (set (set xs at (get_or row 0 0)) (at + 1) (get_or row 1 0)) (at + 2) (get_or row 2 0)) (at + 3)
+    (get_or row 3 0)
     ≡ take at xs ++ row ++ drop (at + 4) xs
 row_written xs (a ∷ b ∷ c ∷ d ∷ []) at h e =
     let one : at + 1 ≡ suc at = omega arith in

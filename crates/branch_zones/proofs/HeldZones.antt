@@ -57,7 +57,8 @@ split_none p z zones m k l = inl (held_itself p zones m m k l (λ e. omega arith
 
 -- one split after another
 module _ (p : ℕ) (z zones : List ℕ) (m : ℕ) (zones' : List ℕ) (m' : ℕ) (zones'' : List ℕ) (m'' : ℕ)
-    (few : p ≤ max_objectives) (long : zones_end ≤ length zones) (count : m ≤ max_zones) (long' : zones_end ≤ length zones')
+    (few : p ≤ max_objectives) (long : zones_end ≤ length zones) (count : m ≤ max_zones)
+    (long' : zones_end ≤ length zones')
     (count' : m' ≤ max_zones) (second : SplitRows p z zones' m' zones'' m'') where
   -- what a zone has before the second split
   carried : (u : List ℕ) → length u ≡ p → Held p zones' m' m' u

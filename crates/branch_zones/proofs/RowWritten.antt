@@ -87,7 +87,8 @@ module _ (d : DD.Directions) (zones : List ℕ) (i : ℕ) (t all zones' : List �
       (λ h. over_part zones (zone_width * i) (map clamped all) (zone_width * i + zone_width) row_end inside zone_width
       (zone_width * k) (omega arith))
       (λ h. ap (take zone_width)
-      (over_behind zones (zone_width * i) (map clamped all) (zone_width * i + zone_width) row_end inside (zone_width * k)
+      (over_behind zones (zone_width * i) (map clamped all) (zone_width * i + zone_width) row_end inside
+      (zone_width * k)
       (omega arith)))
       (one_first k i n))
 

@@ -32,7 +32,8 @@ front_number n zones i j l = get_or-take n (drop (zone_width * i) zones) j 0 l �
 -- eight numbers are at most a row if four are at most its first four, and four at most the others
 pub row_fours : (least zones : List ℕ) (at : ℕ) → length least ≡ zone_width → at + zone_width ≤ length zones
     → at_most least (take zone_width (drop at zones))
-    ≡ (at_most (take 4 least) (take 4 (drop at zones)) && at_most (take 4 (drop 4 least)) (take 4 (drop (at + 4) zones)))
+    ≡
+    (at_most (take 4 least) (take 4 (drop at zones)) && at_most (take 4 (drop 4 least)) (take 4 (drop (at + 4) zones)))
 row_fours least zones at e l =
     let long = length-drop at zones in
     let all : least ≡ take 4 least ++ take 4 (drop 4 least) =
@@ -54,7 +55,8 @@ pub corner_words : (p : ℕ) (zones : List ℕ) (i : ℕ) → ((k : ℕ) → get
     → All Word (corner_in p zones i)
 corner_words p zones i words =
     all_take Word p (drop (zone_width * i) zones)
-    (all_drop Word (zone_width * i) zones (all_in Word zones (λ x m. let (k, l, e) = in_at zones 0 m in rw e (words k))))
+    (all_drop Word (zone_width * i) zones
+    (all_in Word zones (λ x m. let (k, l, e) = in_at zones 0 m in rw e (words k))))
 
 -- equal rows have equal corners and equal numbers
 module _ (zones zones' : List ℕ) (k : ℕ) (same : row_in zones' k ≡ row_in zones k) where
@@ -64,7 +66,8 @@ module _ (zones zones' : List ℕ) (k : ℕ) (same : row_in zones' k ≡ row_in 
       ∙ ap (take p) same
       ∙ take-take p zone_width (drop (zone_width * k) zones) few
 
-  pub same_number : (j : ℕ) → j < zone_width → get_or zones' (zone_width * k + j) 0 ≡ get_or zones (zone_width * k + j) 0
+  pub same_number : (j : ℕ) → j < zone_width
+      → get_or zones' (zone_width * k + j) 0 ≡ get_or zones (zone_width * k + j) 0
   same_number j l =
       sym (front_number zone_width zones' k j l)
       ∙ ap (λ (r : List ℕ). get_or r j 0) same
@@ -89,7 +92,8 @@ module _ (p : ℕ) (zones : List ℕ) where
   corner_listed m j l =
       rw (corners_at 0 m j l, zero-add) at (at_in (corners_in p zones 0 m) j [] (rw (corners_length 0 m) l))
 
-  pub listed_corner : (m : ℕ) (t : List ℕ) → In t (corners_in p zones 0 m) → (j : ℕ) × (j < m) × (t ≡ corner_in p zones j)
+  pub listed_corner : (m : ℕ) (t : List ℕ) → In t (corners_in p zones 0 m)
+      → (j : ℕ) × (j < m) × (t ≡ corner_in p zones j)
   listed_corner m t h =
       let (j, l, e) = in_at (corners_in p zones 0 m) [] h in
       let below : j < m = omega (arith, corners_length 0 m) in

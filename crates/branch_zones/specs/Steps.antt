@@ -19,7 +19,8 @@ Under zones least i = at_most least (row_in zones i) ≡ false
 pub record Written (d : DD.Directions) (zones : List ℕ) (i : ℕ) (t zones' : List ℕ) : Type 0 where
   pub long : length zones' ≡ length zones
   pub corner : corner_in d.objectives zones' i ≡ t
-  pub numbers : (j : ℕ) → j < width_of d → get_or zones' (zone_width * i + j) 0 ≡ clamped (get_or (directions_of d t) j 0)
+  pub numbers : (j : ℕ) → j < width_of d
+      → get_or zones' (zone_width * i + j) 0 ≡ clamped (get_or (directions_of d t) j 0)
   pub others : (k : ℕ) → k < max_zones → (k ≡ i → ⊥) → row_in zones' k ≡ row_in zones k
 
 -- a zone of m has all that is in the zone with the corner t; what stands in the row `free` does not count

@@ -1,6 +1,7 @@
 -- The zones in memory: rows of eight numbers, a corner's costs and its sums. A number that does not fit 32 bits counts
 -- as the greatest that does.
-use Rattle.std.specs.Prelude.{◌≡◌, ◌⊎◌, true, false, ℕ, zero, suc, ◌+◌, ◌-◌, ◌*◌, ◌≤◌, ◌<◌, ltb, length, get_or, take, drop}
+use Rattle.std.specs.Prelude.{◌≡◌, ◌⊎◌, true, false, ℕ, zero, suc, ◌+◌, ◌-◌, ◌*◌, ◌≤◌, ◌<◌, ltb, length, get_or, take}
+use Rattle.std.specs.Prelude.{drop}
 use mathlib.Core.List.{List, [], ◌∷◌, Memᴰ as In}
 use Rattle.model.specs.Basics.{pick}
 use Rattle.model.specs.Limits.{word_end}

@@ -42,7 +42,8 @@ module _ (ds s : List ℕ) (at : ℕ) (bytes : (i : ℕ) → get_or s i 0 < byte
   least_small pre = least_limit entry_end ds pre (table_at ds s at) entry_small
 
   -- and a least entry taken back is the one of the table that was read
-  pub plain_least : (pre : List ℕ) → plain (least_of ds pre (table_at ds s at)) ≡ least_of ds pre (table_of ds (drop at s))
+  pub plain_least : (pre : List ℕ)
+      → plain (least_of ds pre (table_at ds s at)) ≡ least_of ds pre (table_of ds (drop at s))
   plain_least pre =
       ap plain (core_least ds pre (table_of ds (drop at s)))
       ∙ plain_entry _ (least_limit word_end ds pre (table_of ds (drop at s)) word)

@@ -122,7 +122,8 @@ module _ (ds s was : List ℕ) (r : ℕ) (placed : Placed ds s was r) where
           let next : (k : ℕ) → k < length ds
           → get_or marked (k + 1) 0 ≡ start_of s places k + length (group_of s k places) =
           λ k h. omega (arith, marked_starts (k + 1) (omega arith), length_next s places k) in
-          let part : (k : ℕ) → k < length ds → get_or marked (k + 1) 0 - get_or marked k 0 ≡ length (group_of s k places) =
+          let part : (k : ℕ) → k < length ds
+          → get_or marked (k + 1) 0 - get_or marked k 0 ≡ length (group_of s k places) =
           λ k h. omega (arith, here k h, next k h) in (
             record {
               placed = marked_placed v end low;

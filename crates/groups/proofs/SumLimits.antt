@@ -22,13 +22,15 @@ module _ (ds s : List ℕ) (f : Table → ℕ) (each : (at : ℕ) → f (table_a
   all_small [] = tt
   all_small (at ∷ places) = (each at, all_small places)
 
-  total_small : (o : ℕ) (places : List ℕ) → length places ≤ max_tables → total o f (tables_over ds s places) < core_sum_end
+  total_small : (o : ℕ) (places : List ℕ) → length places ≤ max_tables
+      → total o f (tables_over ds s places) < core_sum_end
   total_small o places few =
       core_sum o f (tables_over ds s places) (omega (arith, tables_count ds s places)) (all_small places)
 
 -- s has bytes only
 pub costs_small : (ds s y : List ℕ) → ((i : ℕ) → get_or s i 0 < byte_end) → (p o : ℕ) (places : List ℕ)
-    → length places ≤ max_tables → All (λ c. c < core_sum_end) (totals_from p o (cost_of ds y) (tables_over ds s places))
+    → length places ≤ max_tables
+    → All (λ c. c < core_sum_end) (totals_from p o (cost_of ds y) (tables_over ds s places))
 costs_small ds s y bytes p o places few =
     core_sums p o (cost_of ds y) (tables_over ds s places) (omega (arith, tables_count ds s places))
     (all_small ds s (cost_of ds y) (λ at. cost_small ds s at bytes y) places)

@@ -77,7 +77,8 @@ module _ {f : Table → ℕ} {ds s work : List ℕ} {from to : ℕ} {sums : List
     pub place_whole : Whole ds s (get_or work i 0)
     place_whole = (rw step at u.whole).0
 
-    pub sums_next : (o cost : ℕ) → o ≡ table_objective (drop (get_or work i 0) s) → cost ≡ f (table_at ds s (get_or work i 0))
+    pub sums_next : (o cost : ℕ) → o ≡ table_objective (drop (get_or work i 0) s)
+        → cost ≡ f (table_at ds s (get_or work i 0))
         → cost < entry_end → SummingOver f ds s work from to (set sums o (get_or sums o 0 + cost)) (i + 1)
     unfolding table_of tables_over
     sums_next o cost own is word =

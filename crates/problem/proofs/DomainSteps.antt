@@ -52,7 +52,8 @@ domains_more s at (suc i) =
     ap (λ (l : List ℕ). domain_size (drop at s) ∷ l) (rw (← k) (domains_more s (at + 3) i))
 
 -- the sizes in an array: the first n of it, and its length
-pub domains_taken : (n : ℕ) (s : List ℕ) (at : ℕ) → take n (padded max_variables (domains_at n s at)) ≡ domains_at n s at
+pub domains_taken : (n : ℕ) (s : List ℕ) (at : ℕ)
+    → take n (padded max_variables (domains_at n s at)) ≡ domains_at n s at
 domains_taken n s at = take_padded max_variables n (domains_at n s at) (length_domains_at n s at)
 
 pub domains_room : (n : ℕ) (s : List ℕ) (at : ℕ) → n ≤ max_variables

@@ -31,7 +31,8 @@ module _ (s : List ℕ) where
     module _ (variables : outside max_variables (head_variables s) ≡ false) where
       pub head_objectives_lem : outside max_objectives (head_objectives s) ≡ true → head_number s ≡ bad_objectives
       unfolding head_number
-      head_objectives_lem h = pass_number _ start ∙ pass_test bad_variables _ variables ∙ stop_test bad_objectives _ refl h
+      head_objectives_lem h = pass_number _ start ∙ pass_test bad_variables _ variables
+          ∙ stop_test bad_objectives _ refl h
 
       module _ (objectives : outside max_objectives (head_objectives s) ≡ false) where
         pub head_tables_lem : max_tables < head_tables s → head_number s ≡ bad_tables

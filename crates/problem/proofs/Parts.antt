@@ -111,7 +111,8 @@ reads_refused s n at e v =
     }
 
 pub reads_accepted : (s : List ℕ) (h : DH.Header) (sizes : List ℕ) → (verdict_of s).number ≡ 0 → HeadSays s h
-    → sizes ≡ padded max_variables (domains_of s) → ReadSays s (record { number = 0; place = 0; head = h; sizes = sizes })
+    → sizes ≡ padded max_variables (domains_of s)
+    → ReadSays s (record { number = 0; place = 0; head = h; sizes = sizes })
 unfolding problem_of
 reads_accepted s h sizes e says k =
     let v = accepted_place s e in

@@ -18,7 +18,8 @@ use Rattle.problem.specs.Says.{ScanSays}
 use Rattle.problem.proofs.Chains.{pass_number, stop_number, pass_test, stop_test, when_on}
 
 module _ (p : ℕ) (ds s : List ℕ) where
-  pub table_start : (start_number letter_c letter_f 2 s ≡ 0 → ⊥) → table_number p ds s ≡ start_number letter_c letter_f 2 s
+  pub table_start : (start_number letter_c letter_f 2 s ≡ 0 → ⊥)
+      → table_number p ds s ≡ start_number letter_c letter_f 2 s
   unfolding table_number
   table_start h = stop_number _ _ h
 
@@ -49,7 +50,8 @@ module _ (p : ℕ) (ds s : List ℕ) where
 
         module _ (there : 4 + table_arity s ≤ length s) where
           pub table_scope_lem : scope_rule (length ds) (table_scope s) ≡ false → table_number p ds s ≡ bad_scope
-          table_scope_lem h = fields_passed ∙ pass_test cut_short _ (le-ltb _ _ there) ∙ stop_test bad_scope _ refl (ap not h)
+          table_scope_lem h = fields_passed ∙ pass_test cut_short _ (le-ltb _ _ there)
+              ∙ stop_test bad_scope _ refl (ap not h)
 
           module _ (distinct : scope_rule (length ds) (table_scope s) ≡ true) where
             table_last : table_number p ds s ≡ when (ltb (length s) (table_length ds s)) cut_short

@@ -51,7 +51,8 @@ changed_framed {work} {work'} u long =
       behind = ext_get_or 0 (drop list_end work') (drop list_end work)
           (rw (length-drop list_end work', length-drop list_end work, u.long))
           (λ j h.
-          rw (get_or-drop list_end work' j 0, get_or-drop list_end work j 0) (u.others (list_end + j) (inr (omega arith))));
+          rw (get_or-drop list_end work' j 0, get_or-drop list_end work j 0)
+          (u.others (list_end + j) (inr (omega arith))));
     }
   where
     wide : length (take list_at work) ≡ list_at

@@ -27,4 +27,9 @@ module _ (n p : ℕ) (xs : List ℕ) (few : p ≤ n) (long : n ≤ length xs) wh
   unfolding padded
   padded_rest i h l =
       let e : length (take p xs) + (i - p) ≡ i = omega (arith, front_long) in
-      rw (← e, get_or-append-add, get_or-replicate {A = ℕ} (n - length (take p xs)) (i - p) 0 0 (omega (arith, front_long)))
+      rw (
+        ← e,
+        get_or-append-add,
+        get_or-replicate {A = ℕ} (n - length (take p xs)) (i - p) 0 0
+            (omega (arith, front_long)),
+      )

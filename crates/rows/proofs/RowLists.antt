@@ -17,7 +17,8 @@ use Rattle.rows.proofs.RowPlaces.{rows_at, same_point}
 
 -- where the other points stand
 pub list_split : (p n : ℕ) (work : List ℕ) (i c : ℕ) → i < c
-    → list_in p n work 0 c ≡ take i (list_in p n work 0 c) ++ (point_in p n work i ∷ drop (suc i) (list_in p n work 0 c))
+    → list_in p n work 0 c
+    ≡ take i (list_in p n work 0 c) ++ (point_in p n work i ∷ drop (suc i) (list_in p n work 0 c))
 list_split p n work i c l =
     split_at (list_in p n work 0 c) i (point [] []) (omega (arith, rows_length p n work 0 c))
     ∙ rw (rows_at p n work 0 c i (point [] []) l, zero-add)
@@ -55,7 +56,8 @@ module _ {work : List ℕ} {i : ℕ} {row : Point} {work' : List ℕ} (w : RowWr
           (λ (t : j ≡ i).
           rw t (sym (get_or-set_same old i (point_in p n work' i) none (omega (arith, rows_length p n work 0 c)))))
           (λ t. other_point j (omega arith) t
-          ∙ sym (get_or-set_other old i j (point_in p n work' i) none t ∙ rows_at p n work 0 c j none below ∙ rw zero-add))
+          ∙ sym
+          (get_or-set_other old i j (point_in p n work' i) none t ∙ rows_at p n work 0 c j none below ∙ rw zero-add))
           (equal_or j i))
 
   pub list_added : i ≤ max_points → list_in p n work' 0 (i + 1) ≡ list_in p n work 0 i ++ (point_in p n work' i ∷ [])

@@ -52,45 +52,46 @@ module _ (k : ℕ) {costs choice work one two : List ℕ} (c : CostsWritten (row
 
 -- the numbers of row j are copied to row k
 module _ (work work' : List ℕ) (j k : ℕ) (l : j ≤ max_points) (few : k ≤ max_points) (long : list_end ≤ length work)
-    (is : work' ≡ take (row_at k) work ++ take row_width (drop (row_at j) work) ++ drop (row_at k + row_width) work) where
-  abbrev numbers : List ℕ
-  numbers = take row_width (drop (row_at j) work)
+    (is : work' ≡ take (row_at k) work ++ take row_width (drop (row_at j) work) ++ drop (row_at k + row_width) work)
+  where
+    abbrev numbers : List ℕ
+    numbers = take row_width (drop (row_at j) work)
 
-  ends : row_at k + row_width ≡ row_at k + length numbers
-  ends = omega (arith, length-take-le row_width (drop (row_at j) work) (omega (arith, length-drop (row_at j) work)))
+    ends : row_at k + row_width ≡ row_at k + length numbers
+    ends = omega (arith, length-take-le row_width (drop (row_at j) work) (omega (arith, length-drop (row_at j) work)))
 
-  inside : row_at k + row_width ≤ length work
-  inside = omega arith
+    inside : row_at k + row_width ≤ length work
+    inside = omega arith
 
-  here : (m : ℕ) → m < row_width → get_or work' (row_at k + m) 0 ≡ get_or work (row_at j + m) 0
-  here m h =
-      let count : length numbers ≡ row_width = omega (arith, ends) in
-      let part : take row_width (drop (row_at k) work') ≡ numbers =
-      rw is (rw count at (over_here work (row_at k) numbers (row_at k + row_width) ends inside)) in
-      sym (get_or-take row_width (drop (row_at k) work') m 0 h ∙ get_or-drop (row_at k) work' m 0)
-      ∙ ap (λ (xs : List ℕ). get_or xs m 0) part
-      ∙ get_or-take row_width (drop (row_at j) work) m 0 h
-      ∙ get_or-drop (row_at j) work m 0
+    here : (m : ℕ) → m < row_width → get_or work' (row_at k + m) 0 ≡ get_or work (row_at j + m) 0
+    here m h =
+        let count : length numbers ≡ row_width = omega (arith, ends) in
+        let part : take row_width (drop (row_at k) work') ≡ numbers =
+        rw is (rw count at (over_here work (row_at k) numbers (row_at k + row_width) ends inside)) in
+        sym (get_or-take row_width (drop (row_at k) work') m 0 h ∙ get_or-drop (row_at k) work' m 0)
+        ∙ ap (λ (xs : List ℕ). get_or xs m 0) part
+        ∙ get_or-take row_width (drop (row_at j) work) m 0 h
+        ∙ get_or-drop (row_at j) work m 0
 
-  copied : Changed (row_at k) row_width work work'
-  copied =
-      record {
-        long = rw is (over_length work (row_at k) numbers (row_at k + row_width) ends inside);
-        others = λ m o. ⊎_elim
-            (λ h. rw is (over_before work (row_at k) numbers (row_at k + row_width) ends inside m h))
-            (λ h. behind m h)
-            o;
-      }
-    where
-      behind : (m : ℕ) → row_at k + row_width ≤ m → get_or work' m 0 ≡ get_or work m 0
-      behind m h =
-          get_d_later 0 m m work' work (omega arith)
-          (rw is (over_behind work (row_at k) numbers (row_at k + row_width) ends inside m h))
+    copied : Changed (row_at k) row_width work work'
+    copied =
+        record {
+          long = rw is (over_length work (row_at k) numbers (row_at k + row_width) ends inside);
+          others = λ m o. ⊎_elim
+              (λ h. rw is (over_before work (row_at k) numbers (row_at k + row_width) ends inside m h))
+              (λ h. behind m h)
+              o;
+        }
+      where
+        behind : (m : ℕ) → row_at k + row_width ≤ m → get_or work' m 0 ≡ get_or work m 0
+        behind m h =
+            get_d_later 0 m m work' work (omega arith)
+            (rw is (over_behind work (row_at k) numbers (row_at k + row_width) ends inside m h))
 
-  pub row_copied : RowWritten work k (row_in work j) work'
-  row_copied =
-      written_row copied few long (row_in work j)
-      (equal_points work' work k j row_width here max_objectives max_variables (omega arith) (omega arith))
+    pub row_copied : RowWritten work k (row_in work j) work'
+    row_copied =
+        written_row copied few long (row_in work j)
+        (equal_points work' work k j row_width here max_objectives max_variables (omega arith) (omega arith))
 
 -- the point that stands in a written row
 pub written_point : (work costs choice work' : List ℕ) (p n k : ℕ) → p ≤ max_objectives → n ≤ max_variables

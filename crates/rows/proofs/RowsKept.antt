@@ -57,7 +57,8 @@ module _ {work work' : List ℕ} (f : Framed work work') where
 
   pub framed_number : (k : ℕ) → k < list_at → get_or work' k 0 ≡ get_or work k 0
   framed_number k l =
-      sym (get_or-take list_at work' k 0 l) ∙ ap (λ (u : List ℕ). get_or u k 0) f.before ∙ get_or-take list_at work k 0 l
+      sym (get_or-take list_at work' k 0 l) ∙ ap (λ (u : List ℕ). get_or u k 0) f.before
+      ∙ get_or-take list_at work k 0 l
 
   pub framed_part : (k at : ℕ) → at + k ≤ list_at → take k (drop at work') ≡ take k (drop at work)
   framed_part k at l = take_drop k at work' ∙ ap (drop at) (front (at + k) l) ∙ sym (take_drop k at work)

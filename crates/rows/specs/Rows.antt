@@ -1,6 +1,7 @@
 -- The listed points in work memory, a row of 14 numbers each: four costs of two numbers, and 24 values of a byte, four
 -- to a number.
-use Rattle.std.specs.Prelude.{◌≡◌, ◌⊎◌, List, [], ◌∷◌, ℕ, zero, suc, ◌+◌, ◌*◌, ◌/◌, ◌%◌, ◌^◌, ◌≤◌, ◌<◌, length, get_or, take, drop}
+use Rattle.std.specs.Prelude.{◌≡◌, ◌⊎◌, List, [], ◌∷◌, ℕ, zero, suc, ◌+◌, ◌*◌, ◌/◌, ◌%◌, ◌^◌, ◌≤◌, ◌<◌, length, get_or}
+use Rattle.std.specs.Prelude.{take, drop}
 use Rattle.model.specs.Basics.{All}
 use Rattle.model.specs.Limits.{max_objectives, max_variables, max_points, word_end}
 use Rattle.model.specs.Frontiers.{Point, point}

@@ -28,7 +28,8 @@ four_all xs e = sym (four_listed xs (omega arith)) ∙ take_all max_objectives x
 pub four_half : (xs : List ℕ) (at : ℕ) → at + max_objectives ≤ length xs → ((i : ℕ) → get_or xs i 0 < word_end)
     → All Half (take max_objectives (drop at xs))
 four_half xs at l h =
-    let small : (i : ℕ) → Half (get_or (drop at xs) i 0) = λ i. rw (get_or-drop at xs i 0) (omega (arith, h (at + i))) in
+    let small : (i : ℕ)
+    → Half (get_or (drop at xs) i 0) = λ i. rw (get_or-drop at xs i 0) (omega (arith, h (at + i))) in
     rw (four_listed (drop at xs) (omega (arith, length-drop at xs))) (small 0, (small 1, (small 2, (small 3, tt))))
 
 pub at_listed : (f : ℕ → ℕ) (o : ℕ) → o < max_objectives → get_or (listed f) o 0 ≡ f o

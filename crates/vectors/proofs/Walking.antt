@@ -36,7 +36,8 @@ module _ {test : Bool} {p : ℕ} {a b : List ℕ} {i : ℕ} {above : Bool} (u : 
     unfolding at_most
     walked_within l = record {
       fewer = omega arith;
-      left = u.left ∙ rw (front_cons 0 p a la i h, front_cons 0 p b lb i h, le-leb (get_or a i 0) (get_or b i 0) l) refl;
+      left = u.left
+          ∙ rw (front_cons 0 p a la i h, front_cons 0 p b lb i h, le-leb (get_or a i 0) (get_or b i 0) l) refl;
     }
 
   pub walked_end : p ≤ i → test ≡ not above
@@ -44,5 +45,6 @@ module _ {test : Bool} {p : ℕ} {a b : List ℕ} {i : ℕ} {above : Bool} (u : 
   walked_end h = u.left ∙ rw (front_end p a la i h) (and-true (not above))
 
   -- what is left is asked by another function, which answers r
-  pub walked_rest : above ≡ false → {r t : Bool} → r ≡ at_most (drop i (take p a)) (drop i (take p b)) → r ≡ t → test ≡ t
+  pub walked_rest : above ≡ false → {r t : Bool} → r ≡ at_most (drop i (take p a)) (drop i (take p b)) → r ≡ t
+      → test ≡ t
   walked_rest none says is = u.left ∙ rw none (sym says ∙ is)

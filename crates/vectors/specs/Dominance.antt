@@ -12,4 +12,5 @@ pub record DominanceLaws : Type 0 where
   pub sound : (p : ℕ) (a b : List ℕ) → p ≤ length a → p ≤ length b → front_at_most p a b ≡ true → EachAtMost p a b
   pub complete : (p : ℕ) (a b : List ℕ) → p ≤ length a → p ≤ length b → EachAtMost p a b → front_at_most p a b ≡ true
   -- whatever stands beyond two vectors of p costs, it says what the model says of them
-  pub beyond : (p : ℕ) (a b x y : List ℕ) → length a ≡ p → length b ≡ p → front_at_most p (a ++ x) (b ++ y) ≡ at_most a b
+  pub beyond : (p : ℕ) (a b x y : List ℕ) → length a ≡ p → length b ≡ p
+      → front_at_most p (a ++ x) (b ++ y) ≡ at_most a b

@@ -47,7 +47,8 @@ module _ {ds s ss : List ℕ} {r at here left : ℕ} (u : Linking ds s ss r at h
     pub linking_whole : Whole ds s here
     linking_whole = (whole_next left ds s here more u.whole).0
 
-    pub linking_found : has_side 0 ss (table_scope (drop here s)) ≡ true → has_side 1 ss (table_scope (drop here s)) ≡ true
+    pub linking_found : has_side 0 ss (table_scope (drop here s)) ≡ true
+        → has_side 1 ss (table_scope (drop here s)) ≡ true
         → linked_verdict ss (tables_at r ds s at) (places_at r ds s at) ≡ verdict linked here
     linking_found e f = sym u.rest ∙ linked_next ds s ss left here more ∙ rw (e, f)
 

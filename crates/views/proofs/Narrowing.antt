@@ -1,5 +1,6 @@
 -- The domain sizes that a side leaves: how many they are, that they are domain sizes, and an array filled with them one
 -- by one.
+use mathlib.Core.Logic.{⊎_elim}
 use mathlib.Core.Path.{◌≡◌, refl, sym, ◌∙◌}
 use mathlib.Core.Bool.{true, false}
 use mathlib.Core.List.{List, [], ◌∷◌, ◌++◌}
@@ -13,7 +14,7 @@ use Rattle.model.specs.Basics.{All, pick}
 use Rattle.model.specs.Limits.{max_variables}
 use Rattle.model.specs.Problems.{DomainSize}
 use Rattle.model.specs.Views.{narrowed}
-use Rattle.model.proofs.Bits.{pick_both}
+use Rattle.model.proofs.Bits.{test, pick_both}
 use Rattle.model.proofs.Spread.{narrowed_length as side-length}
 
 module _ (k : ℕ) where
@@ -91,7 +92,18 @@ module _ {k : ℕ} {ss ds array : List ℕ} {v : ℕ} (u : Narrowing k ss ds arr
 
     -- a variable of the side keeps its domain, another has one value
     pub narrowing_own : eqb (get_or ss v 0) k ≡ true → Narrowing k ss ds (set array v (get_or ds v 0)) (v + 1)
-    narrowing_own e = next (set array v (get_or ds v 0)) (rw (e, ones) (set_at front 1 rest (get_or ds v 0) v front_length))
+    narrowing_own e =
+        next (set array v (get_or ds v 0)) (rw (e, ones) (set_at front 1 rest (get_or ds v 0) v front_length))
 
     pub narrowing_other : eqb (get_or ss v 0) k ≡ false → Narrowing k ss ds array (v + 1)
     narrowing_other e = next array (rw e ones)
+
+    -- either of them
+    pub narrowing_step : (new : List ℕ)
+        → new ≡ pick (eqb (get_or ss v 0) k) (set array v (get_or ds v 0)) array
+        → Narrowing k ss ds new (v + 1)
+    narrowing_step new e =
+        ⊎_elim
+        (λ (t : eqb (get_or ss v 0) k ≡ true). rw (e, t) (narrowing_own t))
+        (λ (t : eqb (get_or ss v 0) k ≡ false). rw (e, t) (narrowing_other t))
+        (test (eqb (get_or ss v 0) k))

@@ -20,7 +20,8 @@ use Rattle.branch_directions.proofs.sum_at.Reads as sum-at-reads
 use Rattle.branch_directions.proofs.with_costs.Reads as with-costs-reads
 
 abbrev invariant-loop : tie.invariant-loop-i
-invariant-loop v d p sums all₀ i₀ all i = (i ≤ sums) × (all ≡ padded max_directions (take p v ++ sums_from d i 0 (take p v)))
+invariant-loop v d p sums all₀ i₀ all i = (i ≤ sums)
+    × (all ≡ padded max_directions (take p v ++ sums_from d i 0 (take p v)))
 
 abbrev decreases-loop : tie.decreases-loop-i
 decreases-loop v d p sums all₀ i₀ all i = sums - i

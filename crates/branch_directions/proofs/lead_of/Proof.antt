@@ -21,4 +21,4 @@ lead_of_spec =
     (λ c κs. search rules)  -- lead_at-requires
     mul_result
     array-read-result
-    (λ c. rw c.lead_at.ensures))  -- returns  -- returns
+    (λ c. rw c.lead_at.ensures))  -- returns

@@ -10,7 +10,8 @@ use Rattle.branch_directions.proofs.row_of.Tie as tie
 
 returns : tie.Need-returns
 returns c =
-    four_read 0 c.args.table (4 * c.args.i) (omega (arith, c.requires, array_length w64 16 c.args.table _ c.well_formed.0))
+    four_read 0 c.args.table (4 * c.args.i)
+    (omega (arith, c.requires, array_length w64 16 c.args.table _ c.well_formed.0))
 
 pub row_of_spec : {M : Type 1} → statement M
 row_of_spec =

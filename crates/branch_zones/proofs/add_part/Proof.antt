@@ -52,7 +52,8 @@ returns-3 : tie.Need-returns-then-free-count
 returns-3 c =
     let s = c in
     part_written _ _ _ s.requires.0 s.requires.1 s.requires.3
-    (written_as (front s.before.before.before.before.before.before.before.before.before) c.put_zone.ensures) refl (inl (c.if-free-count.true, refl))
+    (written_as (front s.before.before.before.before.before.before.before.before.before) c.put_zone.ensures) refl
+    (inl (c.if-free-count.true, refl))
 
 returns-4 : tie.Need-returns
 returns-4 c =

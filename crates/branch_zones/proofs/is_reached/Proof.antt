@@ -62,10 +62,12 @@ shared-slice-read-is-under : tie.Need-bounds-from-j invariant-loop decreases-loo
 shared-slice-read-is-under c = let s = start c.before.before in omega (arith, s.requires.2.few, s.requires.2.long)
 
 cast-is-under : tie.Need-overflow_cast-from invariant-loop decreases-loop
-cast-is-under c = let w = c in omega (arith, inside w.before.before (omega arith), (start w.before.before).requires.1.few)
+cast-is-under c = let w = c in
+    omega (arith, inside w.before.before (omega arith), (start w.before.before).requires.1.few)
 
 mul-is-under : tie.Need-overflow_mul-from invariant-loop decreases-loop
-mul-is-under c = let w = c in omega (arith, inside w.before.before (omega arith), (start w.before.before).requires.1.few)
+mul-is-under c = let w = c in
+    omega (arith, inside w.before.before (omega arith), (start w.before.before).requires.1.few)
 
 is-under-requires : tie.Need-is_under-requires invariant-loop decreases-loop
 is-under-requires c κs =

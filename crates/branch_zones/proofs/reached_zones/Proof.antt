@@ -16,7 +16,8 @@ use Rattle.branch_zones.proofs.reached_zones.Statement.{statement}
 use Rattle.branch_zones.proofs.reached_zones.Tie as tie
 
 abbrev invariant-loop : tie.invariant-loop-j
-invariant-loop from m zones to₀ least count kept₀ j₀ to kept j = (j ≤ count) × Sifting m (Under zones least) from j to kept
+invariant-loop from m zones to₀ least count kept₀ j₀ to kept j = (j ≤ count)
+    × Sifting m (Under zones least) from j to kept
 
 abbrev decreases-loop : tie.decreases-loop-j
 decreases-loop from m zones to₀ least count kept₀ j₀ to kept j = count - j
@@ -68,10 +69,12 @@ shared-slice-read-i : tie.Need-bounds-from-j invariant-loop decreases-loop
 shared-slice-read-i c = let s = start c.before.before in omega (arith, s.requires.2.few, s.requires.2.long)
 
 cast-is-under : tie.Need-overflow_cast-i invariant-loop decreases-loop
-cast-is-under c = let w = c in omega (arith, inside w.before.before (omega arith), (start w.before.before).requires.1.few)
+cast-is-under c = let w = c in
+    omega (arith, inside w.before.before (omega arith), (start w.before.before).requires.1.few)
 
 mul-is-under : tie.Need-overflow_mul-i invariant-loop decreases-loop
-mul-is-under c = let w = c in omega (arith, inside w.before.before (omega arith), (start w.before.before).requires.1.few)
+mul-is-under c = let w = c in
+    omega (arith, inside w.before.before (omega arith), (start w.before.before).requires.1.few)
 
 is-under-requires : tie.Need-is_under-requires invariant-loop decreases-loop
 is-under-requires c κs =
@@ -82,7 +85,12 @@ is-under-requires c κs =
 slice-write-to : tie.Need-bounds-to-kept invariant-loop decreases-loop
 slice-write-to c =
     let w = c in
-    omega (arith, (start w.before.before.before.before).requires.2.few, w.loop-j.invariant.1.fewer, w.loop-j.invariant.1.long)
+    omega (
+      arith,
+      (start w.before.before.before.before).requires.2.few,
+      w.loop-j.invariant.1.fewer,
+      w.loop-j.invariant.1.long,
+    )
 
 add_kept : tie.Need-overflow_add-kept invariant-loop decreases-loop
 add_kept c =

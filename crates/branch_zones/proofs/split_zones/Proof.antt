@@ -9,7 +9,8 @@ use Rattle.branch_zones.proofs.split_zones.Statement.{statement}
 use Rattle.branch_zones.proofs.split_zones.Tie as tie
 
 abbrev invariant-loop : tie.invariant-loop-i
-invariant-loop z m d zones₀ count₀ i₀ zones count i = (i ≤ count) × ZonesSplit d (take d.objectives z) zones₀ m zones count
+invariant-loop z m d zones₀ count₀ i₀ zones count i = (i ≤ count)
+    × ZonesSplit d (take d.objectives z) zones₀ m zones count
 
 abbrev decreases-loop : tie.decreases-loop-i
 decreases-loop z m d zones₀ count₀ i₀ zones count i = i

@@ -143,7 +143,8 @@ bounds_of_spec =
     loop-holds
     (λ c κs. (whole c, (start c).requires.2))  -- record_at-t-requires
     (λ c. omega (arith, c.before.record_at-t.ensures.objective, (whole c.before.before).owner))  -- overflow_cast-owner
-    (λ c. omega (arith, c.before.record_at-t.ensures.objective, (whole c.before.before).owner))  -- offset_bounds-sums-owner
+    -- offset_bounds-sums-owner
+    (λ c. omega (arith, c.before.record_at-t.ensures.objective, (whole c.before.before).owner))
     (λ c. omega (arith, c.before.record_at-t.ensures.objective, (whole c.before.before).owner))  -- bounds-sums-owner
     least-at-requires
     (λ c κs. search rules)  -- unweighed-requires

@@ -96,7 +96,8 @@ least_in_spec =
     (tie.spec
     invariant-loop
     decreases-loop
-    (λ c κs. let q = c.before.before.requires in (q.0, q.1.some, omega (arith, q.1.inside)))  -- least_row-least-requires
+    -- least_row-least-requires
+    (λ c κs. let q = c.before.before.requires in (q.0, q.1.some, omega (arith, q.1.inside)))
     loop-holds
     add-here
     least-row-requires-2

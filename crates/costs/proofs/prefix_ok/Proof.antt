@@ -10,7 +10,8 @@ use Rattle.costs.proofs.prefix_ok.Statement.{statement}
 use Rattle.costs.proofs.prefix_ok.Tie as tie
 
 abbrev invariant-loop : tie.invariant-loop-i
-invariant-loop sizes prefix i₀ i = (i ≤ length prefix) × (prefix_ok (drop i sizes) (drop i prefix) ≡ prefix_ok sizes prefix)
+invariant-loop sizes prefix i₀ i = (i ≤ length prefix)
+    × (prefix_ok (drop i sizes) (drop i prefix) ≡ prefix_ok sizes prefix)
 
 abbrev decreases-loop : tie.decreases-loop-i
 decreases-loop sizes prefix i₀ i = length prefix - i

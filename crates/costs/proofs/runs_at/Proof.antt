@@ -1,6 +1,7 @@
 -- `costs::runs_at` meets its contract. The invariant, `Running`: after the first k variables the indices that agree are
 -- runs in even steps.
 use mathlib.Core.Path.{◌≡◌, sym, subst}
+use mathlib.Core.Logic.{◌≢◌}
 use Prim.Native.Nat.{ℕ, ◌+◌, ◌-◌, ◌*◌, ◌≤◌, ◌<◌}
 use native.Mathlib.Omega.{arith}
 use lib.ListN.{length, get_or, drop}
@@ -138,40 +139,51 @@ loop-again c =
     (running_free a.sizes.now a.prefix.now a.s.now a.at s.requires.0 s.requires.1 w.k w.first
     w.count w.rows w.stride w.invariant (more r.before) (rw is at c.if-prefix-v.true))
 
-loop-again-2 : tie.Need-loop-k-preserved-then-count-eq1 invariant-loop decreases-loop
-loop-again-2 c =
-    let v = c.before in
-    let r = read v in
-    let s = start (head r.before) in
-    let a = s.args in
-    let w = r.before.before.loop-k in
-    let is = r.scope_at-v.ensures in
-    subst
-    (λ (u : ℕ). Running a.sizes.now a.prefix.now a.s.now a.at (w.k + 1)
-    (w.first * get_or a.sizes.now u 0 + get_or a.prefix.now u 0) w.count w.rows
-    (w.stride * get_or a.sizes.now u 0))
-    (sym is)
-    (running_fixed a.sizes.now a.prefix.now a.s.now a.at s.requires.0 s.requires.1 w.k w.first
-    w.count w.rows w.stride w.invariant (more r.before) (within v)
-    (prefix_below a.sizes.now a.prefix.now s.requires.2 _ (within v))
-    c.if-count-eq1.true)
+-- after a variable with a value in the prefix, where the run is one entry and where it is several
+module _ (v : Valued) where
+  abbrev before : Read
+  before = read v
 
-loop-again-3 : tie.Need-loop-k-preserved invariant-loop decreases-loop
-loop-again-3 c =
-    let v = c.before in
-    let r = read v in
-    let s = start (head r.before) in
-    let a = s.args in
-    let w = r.before.before.loop-k in
-    let is = r.scope_at-v.ensures in
-    subst
-    (λ (u : ℕ). Running a.sizes.now a.prefix.now a.s.now a.at (w.k + 1)
-    (w.first * get_or a.sizes.now u 0 + get_or a.prefix.now u 0) 1 w.count (get_or a.sizes.now u 0))
-    (sym is)
-    (running_split a.sizes.now a.prefix.now a.s.now a.at s.requires.0 s.requires.1 w.k w.first
-    w.count w.rows w.stride w.invariant (more r.before) (within v)
-    (prefix_below a.sizes.now a.prefix.now s.requires.2 _ (within v))
-    c.if-count-eq1.false)
+  abbrev held : tie.Start invariant-loop decreases-loop
+  held = start (head before.before)
+
+  again_fixed :
+      let a = held.args in
+      let w = before.before.before.loop-k in
+      w.count ≡ 1
+      → Running a.sizes.now a.prefix.now a.s.now a.at (w.k + 1)
+      (w.first * domain before + get_or a.prefix.now before.scope_at-v.result 0) w.count w.rows
+      (w.stride * domain before)
+  again_fixed e =
+      let a = held.args in
+      let w = before.before.before.loop-k in
+      subst
+      (λ (u : ℕ). Running a.sizes.now a.prefix.now a.s.now a.at (w.k + 1)
+      (w.first * get_or a.sizes.now u 0 + get_or a.prefix.now u 0) w.count w.rows
+      (w.stride * get_or a.sizes.now u 0))
+      (sym before.scope_at-v.ensures)
+      (running_fixed a.sizes.now a.prefix.now a.s.now a.at held.requires.0 held.requires.1 w.k w.first
+      w.count w.rows w.stride w.invariant (more before.before) (within v)
+      (prefix_below a.sizes.now a.prefix.now held.requires.2 _ (within v))
+      e)
+
+  again_split :
+      let a = held.args in
+      let w = before.before.before.loop-k in
+      w.count ≢ 1
+      → Running a.sizes.now a.prefix.now a.s.now a.at (w.k + 1)
+      (w.first * domain before + get_or a.prefix.now before.scope_at-v.result 0) 1 w.count (domain before)
+  again_split n =
+      let a = held.args in
+      let w = before.before.before.loop-k in
+      subst
+      (λ (u : ℕ). Running a.sizes.now a.prefix.now a.s.now a.at (w.k + 1)
+      (w.first * get_or a.sizes.now u 0 + get_or a.prefix.now u 0) 1 w.count (get_or a.sizes.now u 0))
+      (sym before.scope_at-v.ensures)
+      (running_split a.sizes.now a.prefix.now a.s.now a.at held.requires.0 held.requires.1 w.k w.first
+      w.count w.rows w.stride w.invariant (more before.before) (within v)
+      (prefix_below a.sizes.now a.prefix.now held.requires.2 _ (within v))
+      n)
 
 returns : tie.Need-returns invariant-loop decreases-loop
 returns c =
@@ -214,7 +226,7 @@ runs_at_spec =
     (λ c. omega (arith, below c, size (read c)))  -- overflow_cast-first
     (λ c. omega (arith, value_fits c))  -- overflow_add-first
     (λ c. omega arith)  -- loop-k-smaller-then-count-eq1
-    loop-again-2
+    (λ c. again_fixed c.before (omega arith))  -- loop-k-preserved-then-count-eq1
     (λ c. omega arith)  -- loop-k-smaller
-    loop-again-3
+    (λ c. again_split c.before (omega arith))  -- loop-k-preserved
     returns)

@@ -4,15 +4,8 @@ use Rattle.model.specs.Core.{plain}
 use Rattle.costs.proofs.unweighed.Statement.{statement}
 use Rattle.costs.proofs.unweighed.Tie as tie
 
-returns : tie.Need-returns-then-w-gt4294967295
-unfolding plain
-returns c = omega arith
-
-returns-2 : tie.Need-returns
-unfolding plain
-returns-2 c = omega arith
-
 pub unweighed_spec : {M : Type 1} → statement M
+unfolding plain
 unweighed_spec = tie.close (tie.spec
-    returns
-    returns-2)
+    (λ c. omega arith)  -- returns-then-w-gt4294967295
+    (λ c. omega arith))  -- returns

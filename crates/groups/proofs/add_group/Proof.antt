@@ -55,7 +55,9 @@ has-variable-requires c κs =
     (adding_has c.before.before.loop-i.invariant (omega arith) (Whole a.sizes.now a.s.now) q.0.whole)
 
 -- a place that is kept has room
-room : (c : lts.Then-has_variable (has-variable-reads.Asked, has-variable-reads.Learnt) reads.Pre reads.Post invariant-loop decreases-loop)
+room :
+    (c : lts.Then-has_variable (has-variable-reads.Asked, has-variable-reads.Learnt) reads.Pre reads.Post invariant-loop
+    decreases-loop)
     → let w = c.before.before.before.before.loop-i in (w.end < records_at) × (records_at ≤ length w.work)
 room c =
     let q = c.before.before.before.before.before.before.before.before.requires in
@@ -94,4 +96,4 @@ add_group_spec =
     (λ c. omega arith)  -- loop-i-smaller
     loop-again
     (λ c. adding_length c.before.loop-i.invariant)  -- shape_of-work
-    (λ c. adding_end c.before.loop-i.invariant (omega arith)))  -- returns  -- returns
+    (λ c. adding_end c.before.loop-i.invariant (omega arith)))  -- returns

@@ -11,7 +11,8 @@ use Rattle.groups.proofs.bounds_over.Statement.{statement}
 use Rattle.groups.proofs.bounds_over.Tie as tie
 
 abbrev invariant-loop : tie.invariant-loop-i
-invariant-loop s sizes from to prefix work sums₀ i₀ sums i = SummingOver (least_of sizes prefix) sizes s work from to sums i
+invariant-loop s sizes from to prefix work sums₀ i₀ sums i =
+    SummingOver (least_of sizes prefix) sizes s work from to sums i
 
 abbrev decreases-loop : tie.decreases-loop-i
 decreases-loop s sizes from to prefix work sums₀ i₀ sums i = to - i
@@ -92,4 +93,4 @@ bounds_over_spec =
     add-i
     (λ c. omega arith)  -- loop-i-smaller
     loop-again
-    (λ c. sums_end c.before.loop-i.invariant (omega arith)))  -- returns  -- returns
+    (λ c. sums_end c.before.loop-i.invariant (omega arith)))  -- returns

@@ -41,10 +41,12 @@ shared-slice-read-allows-size c =
     omega (arith, (start_marked letter_d letter_o 1 l (started c.before)).long, length-drop a.at a.s.now)
 
 returns-2 : tie.Need-returns-then-not-allows_size
-returns-2 c = sym (domain_large _ (started c.before.before.before) (denied _ (sized c.before) c.if-not-allows_size.true))
+returns-2 c =
+    sym (domain_large _ (started c.before.before.before) (denied _ (sized c.before) c.if-not-allows_size.true))
 
 returns-3 : tie.Need-returns
-returns-3 c = sym (domain_fits _ (started c.before.before.before) (allowed _ (sized c.before) c.if-not-allows_size.false))
+returns-3 c =
+    sym (domain_fits _ (started c.before.before.before) (allowed _ (sized c.before) c.if-not-allows_size.false))
 
 pub domain_number_spec : {M : Type 1} → statement M
 domain_number_spec =

@@ -13,4 +13,4 @@ objective_at_spec =
     (λ c. omega arith)  -- overflow_add-result
     (λ c. omega arith)  -- bounds-s-at
     (λ c. omega (arith, c.shared_slice_known-1.given (c.before.args.at + 2)))  -- overflow_cast-result
-    (λ c. sym (get_or-drop c.before.args.at c.before.args.s.now 2 0)))  -- returns  -- returns
+    (λ c. sym (get_or-drop c.before.args.at c.before.args.s.now 2 0)))  -- returns

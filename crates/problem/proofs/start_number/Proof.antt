@@ -16,7 +16,8 @@ returns c = simp (length-drop, lt-ltb _ _ c.if-left-lt2.true)
 returns-2 : tie.Need-returns-then-s-at
 unfolding first_of start_number
 returns-2 c =
-    simp (length-drop, get_d_first, get_or-drop, le-ltb _ _ c.before.before.if-left-lt2.false, ne_eqb _ _ c.if-s-at.true)
+    simp
+    (length-drop, get_d_first, get_or-drop, le-ltb _ _ c.before.before.if-left-lt2.false, ne_eqb _ _ c.if-s-at.true)
 
 returns-3 : tie.Need-returns-then-s-at-2
 unfolding first_of start_number

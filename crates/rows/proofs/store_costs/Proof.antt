@@ -45,11 +45,13 @@ loop-again c =
     let w = branch.before.before.loop-i in
     let s = branch.before.before.before in
     let a = s.args in
-    let long : max_objectives ≤ length a.costs = omega (arith, array_length w64 max_objectives a.costs _ s.well_formed.0) in
+    let long : max_objectives ≤ length a.costs =
+    omega (arith, array_length w64 max_objectives a.costs _ s.well_formed.0) in
     let is : branch.if-i-p.cost ≡ get_or (padded max_objectives (take a.p a.costs)) w.i 0 =
     ⊎_elim
     (λ t. t.cost-is ∙ padded_front max_objectives a.p a.costs s.requires.1 long w.i (omega (arith, t.if-i-p.true)))
-    (λ t. t.cost-is ∙ padded_rest max_objectives a.p a.costs s.requires.1 long w.i (omega (arith, t.if-i-p.false)) (omega arith))
+    (λ t. t.cost-is
+    ∙ padded_rest max_objectives a.p a.costs s.requires.1 long w.i (omega (arith, t.if-i-p.false)) (omega arith))
     branch.if-i-p.branch-raw in
     (omega arith, costs_more w.invariant.1 (omega arith) s.requires.0 branch.if-i-p.cost is)
 

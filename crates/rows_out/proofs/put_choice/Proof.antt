@@ -35,4 +35,4 @@ put_choice_spec =
     (λ c. omega arith)  -- loop-i-smaller
     (λ c. copied_next c.loop-i.invariant (omega arith) _ refl)  -- loop-i-preserved
     (λ c. copied_length c.loop-i.invariant)  -- shape_of-choices
-    (λ c. copied_end c.before.loop-i.invariant (omega arith)))  -- returns  -- returns
+    (λ c. copied_end c.before.loop-i.invariant (omega arith)))  -- returns

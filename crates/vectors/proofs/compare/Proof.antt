@@ -1,5 +1,5 @@
--- `compare` meets its contract. The invariant, `Walked` both ways: among the first i numbers none of a is above b's, and
--- `less` says whether one of b is above a's.
+-- `compare` meets its contract. The invariant, `Walked` both ways: among the first i numbers none of a is above b's,
+-- and `less` says whether one of b is above a's.
 use mathlib.Core.Path.{◌≡◌, ◌∙◌}
 use mathlib.Core.Bool.{Bool, false}
 use mathlib.Core.Logic.{⊎_elim}
@@ -17,7 +17,8 @@ use Rattle.vectors.proofs.compare.Statement.{statement}
 use Rattle.vectors.proofs.compare.Tie as tie
 
 abbrev invariant-loop : tie.invariant-loop-i
-invariant-loop a b p less₀ i₀ less i = Walked (front_at_most p a b) p a b i false × Walked (front_at_most p b a) p b a i less
+invariant-loop a b p less₀ i₀ less i = Walked (front_at_most p a b) p a b i false
+    × Walked (front_at_most p b a) p b a i less
 
 abbrev decreases-loop : tie.decreases-loop-i
 decreases-loop a b p less₀ i₀ less i = p - i
@@ -68,7 +69,8 @@ returns-2 : tie.Need-returns-then-is_rest_at_most invariant-loop decreases-loop
 returns-2 c =
     let w = looping c.before in
     let s = start w in
-    said w Beaten (walked_above w.loop-i.invariant.0 s.requires.0 s.requires.1 (omega arith) (larger c.before).if-b-i.true)
+    said w Beaten
+    (walked_above w.loop-i.invariant.0 s.requires.0 s.requires.1 (omega arith) (larger c.before).if-b-i.true)
     (rest c.before _ c.if-is_rest_at_most.true)
 
 returns-3 : tie.Need-returns-then-b-i invariant-loop decreases-loop
@@ -86,8 +88,12 @@ loop-again c =
     let s = start w in (
       walked_within w.loop-i.invariant.0 s.requires.0 s.requires.1 (omega arith) first.if-b-i.false,
       ⊎_elim
-          (λ t. rw t.less-is (walked_met w.loop-i.invariant.1 s.requires.1 s.requires.0 (omega arith) (omega (arith, t.if-b-i-2.true))))
-          (λ t. rw t.less-is (walked_within w.loop-i.invariant.1 s.requires.1 s.requires.0 (omega arith) (omega (arith, t.if-b-i-2.false))))
+          (λ t. rw t.less-is
+          (walked_met w.loop-i.invariant.1 s.requires.1 s.requires.0 (omega arith)
+          (omega (arith, t.if-b-i-2.true))))
+          (λ t. rw t.less-is
+          (walked_within w.loop-i.invariant.1 s.requires.1 s.requires.0 (omega arith)
+          (omega (arith, t.if-b-i-2.false))))
           c.if-b-i-2.branch-raw,
     )
 

@@ -12,20 +12,11 @@ invariant-loop a b p i₀ i = Matching p a b i
 abbrev decreases-loop : tie.decreases-loop-i
 decreases-loop a b p i₀ i = p - i
 
-returns : tie.Need-returns-then-a-i invariant-loop decreases-loop
-returns c =
-    let w = c.before.before.before.before in
-    let s = w.before in
-    matching_more w.loop-i.invariant s.requires.0 s.requires.1 (omega arith) c.if-a-i.true
-
 loop-again : tie.Need-loop-i-preserved invariant-loop decreases-loop
-loop-again c =
-    let w = c.before.before.before.before in
-    let s = w.before in
-    matching_next w.loop-i.invariant s.requires.0 s.requires.1 (omega arith) c.if-a-i.false
+loop-again c = matching_next c.loop-i.invariant c.requires.0 c.requires.1 (omega arith) (omega arith)
 
-returns-2 : tie.Need-returns invariant-loop decreases-loop
-returns-2 c =
+returns : tie.Need-returns invariant-loop decreases-loop
+returns c =
     let w = c.before in
     let s = w.before in
     matching_end w.loop-i.invariant s.requires.0 s.requires.1 (omega arith)
@@ -41,8 +32,8 @@ is_at_most_spec =
     (λ c. search rules)  -- bounds-a-i
     (λ c. search rules)  -- offset_bounds-b-i
     (λ c. search rules)  -- bounds-b-i
-    returns
+    (λ c. matching_more c.loop-i.invariant c.requires.0 c.requires.1 (omega arith) (omega arith))  -- returns-then-a-i
     (λ c. search rules)  -- overflow_add-i
     (λ c. search rules)  -- loop-i-smaller
     loop-again
-    returns-2)
+    returns)

@@ -64,7 +64,8 @@ loop-again c =
     let wide = c.before.record_at-t.ensures.width in
     let first = sym c.before.before.before.has_side.ensures in
     linking_next u (omega arith)
-    (⊎_elim (λ t. inr (sym t.has_side-then-has_side.ensures ∙ t.if-has_side-2.false)) (λ t. inl (first ∙ t.if-has_side.false))
+    (⊎_elim (λ t. inr (sym t.has_side-then-has_side.ensures ∙ t.if-has_side-2.false))
+    (λ t. inl (first ∙ t.if-has_side.false))
     c.before.before.else-has_side.branch-raw) _
     wide
 

@@ -11,7 +11,8 @@ returns-2 c = rw (get_or-drop, le-leb _ _ c.before.before.if-o-part.false, le-lt
 returns-3 : tie.Need-returns
 returns-3 c =
     let below : tie.Else-o-part-2 = c.before in
-    rw (get_or-drop, le-leb _ _ below.before.before.if-o-part.false, lt-ltb _ _ below.if-o-part-2.false) c.lies_on.ensures
+    rw (get_or-drop, le-leb _ _ below.before.before.if-o-part.false, lt-ltb _ _ below.if-o-part-2.false)
+    c.lies_on.ensures
 
 pub is_wanted_spec : {M : Type 1} → statement M
 is_wanted_spec =

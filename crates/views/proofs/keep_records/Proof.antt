@@ -29,7 +29,8 @@ begun c =
     let known : tie.After-slice_known-1 invariant-loop decreases-loop = c.before in
     known.before.before.before.before
 
-abbrev turn : tie.After-slice_known-in-loop-i-1 invariant-loop decreases-loop → tie.At-loop-i invariant-loop decreases-loop
+abbrev turn : tie.After-slice_known-in-loop-i-1 invariant-loop decreases-loop
+    → tie.At-loop-i invariant-loop decreases-loop
 turn c = c.before.before
 
 abbrev looked : tie.After-is_wanted invariant-loop decreases-loop → tie.At-loop-i invariant-loop decreases-loop
@@ -77,7 +78,9 @@ loop-again c =
     let u = w.loop-i.invariant in
     let says = c.before.is_wanted.ensures in
     ⊎_elim
-    (λ t. rw (t.work-is, t.count-is) (rw (add_assoc (begun w.before).args.which.to w.loop-i.count 1) at (adding_next u (omega arith) (rw says at t.if-is_wanted.true))))
+    (λ t. rw (t.work-is, t.count-is)
+    (rw (add_assoc (begun w.before).args.which.to w.loop-i.count 1) at
+    (adding_next u (omega arith) (rw says at t.if-is_wanted.true))))
     (λ t. rw (t.work-is, t.count-is) (adding_skip u (omega arith) (rw says at t.if-is_wanted.false)))
     c.if-is_wanted.branch-raw
 

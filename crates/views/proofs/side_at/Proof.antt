@@ -8,4 +8,4 @@ side_at_spec =
     (tie.spec
     (λ c κs. (c.before.before.requires.0, c.before.before.requires.1))  -- scope_at-v-requires
     (λ c. rw c.before.scope_at-v.ensures c.before.before.before.before.requires.2)  -- bounds-sides-v
-    (λ c. rw c.before.scope_at-v.ensures))  -- returns  -- returns
+    (λ c. rw c.before.scope_at-v.ensures))  -- returns

@@ -19,7 +19,13 @@ returns-2 : tie.Need-returns-then-sides-i-gt1 invariant-loop decreases-loop
 returns-2 c =
     let w = c.before.before.before.loop-i in
     let next = sides_next c.before.before.before.before.before.args.sides.now w.i (omega arith) in
-    rw (eq-eqb _ _ c.before.before.before.before.if-sides-n.false, ← w.invariant.1, next, lt-leb _ _ c.if-sides-i-gt1.true)
+    rw (
+      eq-eqb _ _ c.before.before.before.before.if-sides-n.false,
+      ← w.invariant.1,
+      next,
+      lt-leb _ _
+          c.if-sides-i-gt1.true,
+    )
 
 loop-again : tie.Need-loop-i-preserved invariant-loop decreases-loop
 loop-again c =
