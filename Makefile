@@ -3,10 +3,10 @@
 #
 #   make            prove the library, and build the programs list and chooser
 #   make demo       prove the library, build chooser, and solve the example
-#   make check      the gate: all proofs from nothing, and all tests
+#   make check      the gate: all proofs, and all tests
 #   make install    copy what 'make' has built to DESTDIR and PREFIX (/usr/local)
 #   make disc       pack it all into target/disc/, with its digests
-#   make check-disc DISC=FILE [REBUILD=no] [PROVED=yes]
+#   make check-disc DISC=FILE [REBUILD=no]
 #                   hold a disc to its digests, and to what its commit gives when built again
 #   make clean      remove everything that was built, proofs too
 
@@ -14,14 +14,13 @@ PREFIX = /usr/local
 DESTDIR =
 DISC =
 REBUILD = yes
-PROVED = no
 
 LIBRARY = target/staticlib/libfrontier.a
 LIST = target/bin/list
 CHOOSER = host/target/release/chooser
 
 # what rt proves; it looks itself which of it has changed
-PROVED_FILES := crates.txt $(shell find crates -type f -not -path '*/must-fail/*')
+PROVED_FILES := crates.txt $(shell find crates -type d \( -name out -o -name must-fail \) -prune -o -type f -print)
 
 # what is set for other work must not get into the binaries, nor these settings into another make
 unexport MAKEFLAGS $(filter RUSTFLAGS RUSTC_% CARGO_ENCODED_% CARGO_BUILD_% CARGO_PROFILE_% CARGO_TARGET_%,$(.VARIABLES))
@@ -32,12 +31,10 @@ unexport MAKEFLAGS $(filter RUSTFLAGS RUSTC_% CARGO_ENCODED_% CARGO_BUILD_% CARG
 all: $(LIBRARY) $(LIST) chooser
 
 $(LIBRARY): $(PROVED_FILES)
-	rt staticlib frontier
-	@touch $@
+	@bash packaging/build library
 
 $(LIST): $(PROVED_FILES)
-	rt check list
-	@touch $@
+	@bash packaging/build list
 
 # cargo looks itself what has changed
 chooser: $(LIBRARY)
@@ -57,10 +54,10 @@ disc: all
 	@bash packaging/disc
 
 check-disc:
-	@REBUILD='$(REBUILD)' PROVED='$(PROVED)' bash packaging/check-disc '$(DISC)'
+	@REBUILD='$(REBUILD)' bash packaging/check-disc '$(DISC)'
 
 clean:
-	rm -rf target host/target
+	rm -rf target host/target crates/*/out
 
 help:
 	@sed -n 's/^#   //p' Makefile

@@ -66,19 +66,12 @@ list_files() { # FOLDER
     )
 }
 
-# Clones a commit into a new folder and makes its disc there. With PROVED=yes it starts from the proofs of this
-# repository's target/ without what was built from them: a program is linked when it is proved, so that of list the
-# proof goes too.
+# Clones a commit into a new folder and makes its disc there.
 build_disc() { # COMMIT FOLDER
     local began=$SECONDS log=$scratch/log
-    git clone -q --no-checkout "$root" "$2" && git -C "$2" checkout -q --detach "$1" ||
+    { git clone -q --no-checkout "$root" "$2" && git -C "$2" checkout -q --detach "$1"; } ||
         fail "this repository has no commit $1; fetch it from where the disc was made, and try again"
-    if [ "${PROVED:-no}" = yes ]; then
-        [ -d "$root/target/stamp" ] || fail "target/ has no proofs to start from; run 'make' first, or leave PROVED=yes out"
-        cp -r "$root/target" "$2/target" || fail "target/ cannot be copied; see above"
-        rm -rf "$2/target/staticlib" "$2/target/bin" "$2/target/stamp/list" "$2/target/disc"
-    fi
-    say "building commit $1 in $2; without proofs to start from it takes minutes"
+    say "building commit $1 in $2; what rt has not proved on this machine takes long"
     env -u MAKEFLAGS make -C "$2" disc >"$log" 2>&1 </dev/null || {
         tail -n 20 "$log"
         fail "'make disc' failed in a clone of commit $1; see above"
@@ -89,7 +82,7 @@ build_disc() { # COMMIT FOLDER
 # The disc that 'make disc' has left in a repository's folder.
 disc_in() { # FOLDER
     local discs=("$1"/target/disc/*.tar)
-    [ -f "${discs[0]}" ] && [ "${#discs[@]}" -eq 1 ] || fail "'make disc' has left no disc, or several, in $1/target/disc"
+    { [ -f "${discs[0]}" ] && [ "${#discs[@]}" -eq 1 ]; } || fail "'make disc' has left no disc, or several, in $1/target/disc"
     printf '%s\n' "${discs[0]}"
 }
 

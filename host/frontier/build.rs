@@ -4,7 +4,7 @@ use std::env;
 use std::path::Path;
 use std::process::exit;
 
-/// Where `rt staticlib frontier` puts the archive, from the repository's root.
+/// Where `packaging/build` puts the archive, from the repository's root.
 const FOLDER: &str = "target/staticlib";
 const ARCHIVE: &str = "libfrontier.a";
 
@@ -20,7 +20,7 @@ fn main() {
     if !folder.join(ARCHIVE).is_file() {
         eprintln!(
             "{FOLDER}/{ARCHIVE} is missing: the proved chooser, which this package links.\n\
-             Make it with 'rt staticlib frontier' in the repository's root, {}",
+             Make it with 'packaging/build library' in the repository's root, {}",
             root.display()
         );
         exit(1);

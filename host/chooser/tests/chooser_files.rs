@@ -8,7 +8,7 @@ use std::path::Path;
 use std::process::{Command, Stdio};
 use std::time::{Duration, Instant};
 
-use testing::chooser_run::{chooser, folder, run, run_with};
+use testing::chooser_run::{chooser, folder, run, run_with, Apart};
 use testing::examples::{colours, staircase};
 use testing::owned::list_text;
 use testing::places::root;
@@ -164,7 +164,7 @@ fn a_disk_that_is_full_leaves_the_old_file() {
 
 #[test]
 fn an_output_file_keeps_its_permissions_and_its_links() {
-    let folder = folder("links");
+    let folder = Apart::new("links");
     let [target, link] = ["target.bin", "link.bin"].map(|name| folder.join(name));
     fs::write(&target, "old").expect("the file is written");
     fs::set_permissions(&target, fs::Permissions::from_mode(0o640)).expect("it is mine");

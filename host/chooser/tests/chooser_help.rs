@@ -4,7 +4,7 @@ use std::env;
 use std::os::unix::fs::symlink;
 use std::process::Command;
 
-use testing::chooser_run::{chooser, folder, run, subcommands};
+use testing::chooser_run::{chooser, run, subcommands, Apart};
 use testing::places::root;
 
 /// All helps: that of the command and those of the subcommands.
@@ -69,7 +69,7 @@ fn examples(help: &str) -> Vec<String> {
 #[test]
 fn the_examples_run_as_they_are_pasted() {
     // A folder that looks like the repository's root, so that what examples write goes there.
-    let folder = folder("examples");
+    let folder = Apart::new("examples");
     let root = root().canonicalize().expect("the root is there");
     for name in ["examples", "host"] {
         symlink(root.join(name), folder.join(name)).expect("a link is made");
@@ -83,7 +83,7 @@ fn the_examples_run_as_they_are_pasted() {
         let ended = Command::new("sh")
             .args(["-c", &line])
             .env("PATH", &path)
-            .current_dir(&folder)
+            .current_dir(&*folder)
             .output()
             .expect("a shell runs");
         let told = String::from_utf8_lossy(&ended.stderr);

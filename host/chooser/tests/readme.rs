@@ -3,10 +3,10 @@
 
 use std::fs;
 use std::os::unix::fs::symlink;
-use std::path::{Path, PathBuf};
+use std::path::Path;
 use std::process::{Command, Output};
 
-use testing::chooser_run::{chooser, folder};
+use testing::chooser_run::{chooser, folder, Apart};
 use testing::places::root;
 
 const README: &str = include_str!("../../../README.md");
@@ -38,8 +38,9 @@ fn blocks(text: &str) -> Vec<Block> {
 
 /// A folder that looks like the repository's root with the command built, so that what the commands
 /// write goes there.
-fn newcomers_folder() -> PathBuf {
-    let (folder, root) = (folder("readme"), root().canonicalize().expect("the root"));
+fn newcomers_folder() -> Apart {
+    let folder = Apart::new("readme");
+    let root = root().canonicalize().expect("the root");
     for name in ["examples", "include", "target", "docs", "crates", ".ci"] {
         symlink(root.join(name), folder.join(name)).expect("a link is made");
     }
@@ -108,7 +109,7 @@ fn what_the_long_commands_name_is_there() {
          frontier) -o link\n",
         "make disc\n",
         &format!("make check-disc DISC=target/disc/frontier-{VERSION}-x86_64-linux.tar\n"),
-        "rt check list && target/bin/list < examples/colours.bin\n",
+        "packaging/build list && target/bin/list < examples/colours.bin\n",
     ];
     assert_eq!(long, expected);
     for path in [
@@ -116,6 +117,7 @@ fn what_the_long_commands_name_is_there() {
         "host/data/nightly",
         "examples/colours.bin",
         "examples/link.c",
+        "packaging/build",
     ] {
         assert!(root().join(path).exists(), "{path}");
     }
@@ -124,7 +126,7 @@ fn what_the_long_commands_name_is_there() {
         assert!(found, "{target}");
     }
     let crates = fs::read_to_string(root().join("crates.txt")).expect("crates.txt");
-    for name in ["frontier:", "list:"] {
+    for name in ["frontier:", "frontier_c staticlib:", "list:"] {
         assert!(crates.lines().any(|line| line.starts_with(name)), "{name}");
     }
     // What the list program prints is asked by its own tests; that README says it is asked here.

@@ -12,7 +12,7 @@ fn texts(folder: &Path, found: &mut Vec<PathBuf>) {
     for entry in fs::read_dir(folder).expect("the folder can be read") {
         let path = entry.expect("it has entries").path();
         let name = path.file_name().and_then(|name| name.to_str());
-        if path.is_dir() && !matches!(name, Some("target" | ".git")) {
+        if path.is_dir() && !matches!(name, Some("target" | "out" | ".git")) {
             texts(&path, found);
         } else if ENDS
             .iter()

@@ -3,9 +3,9 @@
 
 use std::fs;
 use std::os::unix::fs::PermissionsExt;
-use std::path::{Path, PathBuf};
+use std::path::Path;
 
-use testing::chooser_run::folder;
+use testing::chooser_run::{folder, Apart};
 use testing::places::root;
 use testing::scripts::{bash, must, printed};
 
@@ -52,8 +52,8 @@ fn pack_line() -> String {
 }
 
 /// A folder with a small disc in `out/`, and its tree.
-fn packed(name: &str) -> PathBuf {
-    let folder = folder(name);
+fn packed(name: &str) -> Apart {
+    let folder = Apart::new(name);
     write_tree(&folder, 0);
     must(&folder, &pack_line(), &[]);
     folder
@@ -76,7 +76,7 @@ fn two_folders_give_the_same_bytes() {
     let line = format!("umask 077 && {}", pack_line());
     must(&other, &line, &OTHER_SETTINGS);
     for file in ["out/small.tar", "out/SHA256SUMS"] {
-        let [first, second] = [&one, &other].map(|folder| fs::read(folder.join(file)));
+        let [first, second] = [&*one, &other].map(|folder| fs::read(folder.join(file)));
         assert!(first.expect("a file") == second.expect("a file"), "{file}");
     }
 }
@@ -237,8 +237,8 @@ fn what_is_no_disc_is_told() {
 }
 
 /// A repository of its own with the scripts, whose disc is the small one.
-fn small_repository(name: &str) -> PathBuf {
-    let folder = folder(name);
+fn small_repository(name: &str) -> Apart {
+    let folder = Apart::new(name);
     write_tree(&folder, 0);
     let makefile = "disc:\n\t@printf 'name: small\\ncommit: %s\\nkit: another kit\\n' \
                     \"$$(git rev-parse HEAD)\" | bash packaging/pack tree small 0 target/disc\n";

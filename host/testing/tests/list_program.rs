@@ -23,8 +23,8 @@ fn run(bytes: &[u8]) -> Output {
     let program = root().join(PROGRAM);
     assert!(
         program.is_file(),
-        "the list program is not built: there is no {PROGRAM}; make it with 'rt check list' \
-         in the repository's root, and test again"
+        "the list program is not built: there is no {PROGRAM}; make it with \
+         'packaging/build list' in the repository's root, and test again"
     );
     let mut process = Command::new(program)
         .stdin(Stdio::piped())

@@ -4,6 +4,7 @@ use std::env;
 use std::ffi::OsStr;
 use std::fs;
 use std::io::Write;
+use std::ops::Deref;
 use std::path::{Path, PathBuf};
 use std::process::{Command, Stdio};
 use std::thread;
@@ -96,9 +97,38 @@ pub fn subcommands() -> Vec<String> {
     listed.lines().filter_map(name).collect()
 }
 
-/// An empty folder for a test's files.
+/// A folder outside of the repository, where `rt ci` wants no links and no second `.git`. It goes with its test.
+pub struct Apart(PathBuf);
+
+impl Apart {
+    /// An empty one.
+    pub fn new(name: &str) -> Apart {
+        let name = format!("chooser_{name}_{}", std::process::id());
+        Apart(emptied(env::temp_dir().join(name)))
+    }
+}
+
+impl Deref for Apart {
+    type Target = Path;
+
+    fn deref(&self) -> &Path {
+        &self.0
+    }
+}
+
+impl Drop for Apart {
+    fn drop(&mut self) {
+        drop(fs::remove_dir_all(&self.0));
+    }
+}
+
+/// An empty folder for a test's files, without links.
 pub fn folder(name: &str) -> PathBuf {
-    let folder = built().join("../tmp").join(format!("chooser_{name}"));
+    emptied(built().join("../tmp").join(format!("chooser_{name}")))
+}
+
+/// The folder, made anew.
+fn emptied(folder: PathBuf) -> PathBuf {
     if folder.exists() {
         fs::remove_dir_all(&folder).expect("an old folder can be removed");
     }

@@ -10,14 +10,16 @@ use std::collections::BTreeMap;
 use declared::{calls_in_c, calls_in_rust, defined, fields, pointer_lines};
 use frontier::limits as limit;
 use frontier::refusal as number;
-use source::{constants, exports, fields_in_c, numbers, Export};
+use source::{constants, exported, exports, fields_in_c, numbers, Export};
 use testing::{batch, cache};
 
 const HEADER: &str = include_str!("../../../../include/frontier.h");
 const MEASURE_HEADER: &str = include_str!("../../../../include/frontier_measure.h");
 const RUST_CALLS: &str = include_str!("../../../frontier/src/ffi.rs");
 
-/// The Rattle source: the exported calls, the kinds with their limits, what calls refuse, the store, batches.
+/// The Rattle source: the exported calls, the calls that they stand for, the kinds with their limits, what calls refuse,
+/// the store, batches.
+const EXPORTS: &str = include_str!("../../../../crates/frontier_c/src/lib.rt");
 const CALLS: &str = include_str!("../../../../crates/frontier/src/lib.rt");
 const KINDS: &str = include_str!("../../../../crates/model/src/lib.rt");
 const ANSWERS: &str = include_str!("../../../../crates/answers/src/lib.rt");
@@ -75,13 +77,13 @@ fn limits_agree() {
 fn the_parts_of_a_slot_agree() {
     let (specified, source) = (numbers(STORES), constants(STORE));
     for (name, in_source, place) in [
-        ("costsAt", "COSTS_AT", cache::COSTS_AT),
-        ("choicesAt", "CHOICES_AT", cache::CHOICES_AT),
-        ("lengthAt", "LENGTH_AT", cache::LENGTH_AT),
-        ("countAt", "COUNT_AT", cache::COUNT_AT),
-        ("nextAt", "NEXT_AT", cache::NEXT_AT),
-        ("slotSize", "SLOT_SIZE", limit::SLOT_BYTES),
-        ("maxSlots", "MAX_SLOTS", limit::MAX_SLOTS),
+        ("costs_at", "COSTS_AT", cache::COSTS_AT),
+        ("choices_at", "CHOICES_AT", cache::CHOICES_AT),
+        ("length_at", "LENGTH_AT", cache::LENGTH_AT),
+        ("count_at", "COUNT_AT", cache::COUNT_AT),
+        ("next_at", "NEXT_AT", cache::NEXT_AT),
+        ("slot_size", "SLOT_SIZE", limit::SLOT_BYTES),
+        ("max_slots", "MAX_SLOTS", limit::MAX_SLOTS),
     ] {
         assert_eq!(specified.get(name), Some(&place), "{name}");
         assert_eq!(source.get(in_source), Some(&place), "{in_source}");
@@ -94,17 +96,17 @@ fn the_parts_of_a_batch_agree() {
     let (mut specified, source) = (numbers(BATCHES), constants(FRAMES));
     specified.extend(numbers(BATCH_AREAS));
     for (name, in_source, in_rust, due) in [
-        ("maxBatch", "MAX_BATCH", limit::MAX_BATCH, batch::MOST),
-        ("frameHead", "FRAME_HEAD", limit::FRAME_BYTES, batch::HEAD),
-        ("costArea", "COST_AREA", limit::COSTS_LEN, batch::COSTS),
+        ("max_batch", "MAX_BATCH", limit::MAX_BATCH, batch::MOST),
+        ("frame_head", "FRAME_HEAD", limit::FRAME_BYTES, batch::HEAD),
+        ("cost_area", "COST_AREA", limit::COSTS_LEN, batch::COSTS),
         (
-            "choiceArea",
+            "choice_area",
             "CHOICE_AREA",
             limit::CHOICES_LEN,
             batch::CHOICES,
         ),
         (
-            "resultArea",
+            "result_area",
             "RESULT_AREA",
             limit::RESULT_LEN,
             batch::RESULTS,
@@ -114,7 +116,7 @@ fn the_parts_of_a_batch_agree() {
         assert_eq!(source.get(in_source), Some(&due), "{in_source}");
         assert_eq!(in_rust, due, "{name}");
     }
-    let mark = ["letterB", "letterP"].map(|name| specified[name]);
+    let mark = ["letter_b", "letter_p"].map(|name| specified[name]);
     assert_eq!(mark, [b'B', b'P'].map(usize::from));
     let header = defined(HEADER);
     assert_eq!(header["FRAME_BYTES"], limit::FRAME_BYTES);
@@ -174,13 +176,13 @@ fn numbers_of_refusal_are_those_of_the_specification() {
     specified.extend(numbers(STORE_REFUSALS));
     // Beside the number stand the lengths of areas.
     let batch = numbers(BATCH_AREAS).into_iter();
-    specified.extend(batch.filter(|(name, _)| !name.ends_with("Area")));
+    specified.extend(batch.filter(|(name, _)| !name.ends_with("_area")));
     assert_eq!(refusals.len(), specified.len());
     for (name, number) in refusals {
-        // The specification has `cutShort`, `badScope`, `workShort`.
-        let letters = name.replace('_', "").to_lowercase();
-        let has_letters = |(name, _): &(&&str, &usize)| name.to_lowercase().contains(&letters);
-        let named: Vec<_> = specified.iter().filter(has_letters).collect();
+        // The specification has `cut_short`, `bad_scope`, `work_short`.
+        let word = name.to_lowercase();
+        let has_word = |(name, _): &(&&str, &usize)| name.contains(&word);
+        let named: Vec<_> = specified.iter().filter(has_word).collect();
         assert!(named.len() == 1, "{name}: {named:?}");
         assert_eq!(*named[0].1, number, "{name}");
     }
@@ -198,7 +200,7 @@ fn a_refusal_has_the_name_of_its_word() {
 
 /// Asserts that each export of the library is declared, once and alike, and nothing else.
 fn assert_declared(mut declared: Vec<String>, written: fn(&Export) -> String) {
-    let mut exported: Vec<String> = exports(CALLS).iter().map(written).collect();
+    let mut exported: Vec<String> = exports(EXPORTS).iter().map(written).collect();
     assert!(exported.len() > 4, "the calls are found in the source");
     declared.sort();
     exported.sort();
@@ -218,6 +220,12 @@ fn rust_declares_each_export_once() {
     assert_declared(calls_in_rust(RUST_CALLS, &defined(HEADER)), Export::in_rust);
 }
 
+#[test]
+fn each_export_has_the_name_and_the_parameters_of_its_call() {
+    let called: Vec<String> = exported(CALLS).iter().map(Export::in_c).collect();
+    assert_declared(called, Export::in_c);
+}
+
 /// What the header must say of a pointer: none may be null, and only what is read may overlap what is
 /// read.
 fn pointer_line((name, is_read): (&str, bool), all: &[(&str, bool)]) -> String {
@@ -231,7 +239,7 @@ fn pointer_line((name, is_read): (&str, bool), all: &[(&str, bool)]) -> String {
 
 #[test]
 fn the_comment_of_a_call_has_a_line_for_each_pointer() {
-    for export in exports(CALLS) {
+    for export in exports(EXPORTS) {
         let pointers = export.pointers();
         let expected = pointers.iter().map(|p| pointer_line(*p, &pointers));
         let lines = pointer_lines(&[HEADER, MEASURE_HEADER], &export.name);

@@ -36,6 +36,13 @@ pub fn exports(source: &str) -> Vec<Export> {
     heads.map(Export::read).collect()
 }
 
+/// The calls of a source that exports stand for, which have their names.
+pub fn exported(source: &str) -> Vec<Export> {
+    let heads = source.split("pub fn ").skip(1);
+    let named = heads.filter(|text| text.starts_with("frontier_"));
+    named.map(Export::read).collect()
+}
+
 impl Parameter {
     fn read(text: &str) -> Parameter {
         let (name, kind) = text.split_once(": ").expect("a name and a type");
