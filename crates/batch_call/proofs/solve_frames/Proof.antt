@@ -10,93 +10,93 @@ use Rattle.batch_call.proofs.Turns.{Turned, none_turned, all_turned, next_asked,
 use Rattle.batch_call.proofs.solve_frames.Statement.{statement}
 use Rattle.batch_call.proofs.solve_frames.Tie as tie
 
-abbrev invariant-loop : tie.invariant-loop
+abbrev invariant-loop : tie.invariant-loop-at
 invariant-loop batch costs₀ choices₀ results₀ work₀ at₀ k₀ costs choices results work at k =
     Turned batch costs₀ choices₀ results₀ work₀ at k costs choices results work
 
-abbrev decreases-loop : tie.decreases-loop
+abbrev decreases-loop : tie.decreases-loop-at
 decreases-loop batch costs₀ choices₀ results₀ work₀ at₀ k₀ costs choices results work at k = length batch - at
 
-abbrev start : tie.At-loop invariant-loop decreases-loop → tie.Start invariant-loop decreases-loop
+abbrev start : tie.At-loop-at invariant-loop decreases-loop → tie.Start invariant-loop decreases-loop
 start p = p.before.before.before.before.before.before
 
-loop-holds : tie.Need-loop-init invariant-loop decreases-loop
+loop-holds : tie.Need-loop-at-init invariant-loop decreases-loop
 loop-holds c =
-    let a = c.before.before.before.before.before.args in
+    let a = c.args in
     none_turned a.batch.now a.costs.now a.choices.now a.results.now a.work.now
 
-solve-frame-requires : tie.Need-solve-frame-requires invariant-loop decreases-loop
+solve-frame-requires : tie.Need-solve_frame-at-requires invariant-loop decreases-loop
 solve-frame-requires c κs =
-    let due : tie.In-loop invariant-loop decreases-loop = c.before.before.before.before.before in
-    let p : tie.At-loop invariant-loop decreases-loop = due.before in
+    let due : tie.In-loop-at invariant-loop decreases-loop = c.before.before.before.before.before in
+    let p : tie.At-loop-at invariant-loop decreases-loop = due.before in
     let a = (start p).args in
-    rw (take_rest a.batch.now p.loop.at)
+    rw (take_rest a.batch.now p.loop-at.at)
     (next_asked a.batch.now a.costs.now a.choices.now a.results.now a.work.now
-    p.loop.at p.loop.k p.loop.costs p.loop.choices p.loop.results p.loop.work
-    p.loop.invariant (start p).requires due.loop-test.true)
+    p.loop-at.at p.loop-at.k p.loop-at.costs p.loop-at.choices p.loop-at.results p.loop-at.work
+    p.loop-at.invariant (start p).requires due.loop-at-test.true)
 
 -- ## the problem there is solved
 
-abbrev due : tie.After-solve-frame invariant-loop decreases-loop → tie.In-loop invariant-loop decreases-loop
+abbrev due : tie.After-solve_frame-at invariant-loop decreases-loop → tie.In-loop-at invariant-loop decreases-loop
 due f = f.before.before.before.before.before.before
 
-told : (f : tie.After-solve-frame invariant-loop decreases-loop)
-    → let p : tie.At-loop invariant-loop decreases-loop = (due f).before in
-    let left = f.solve-frame.new.1.1 in
-    Solved (drop p.loop.at (start p).args.batch.now) p.loop.k
-    p.loop.costs p.loop.choices p.loop.results p.loop.work
-    left.0 left.1.0 left.1.1.0 left.1.1.1.0 f.solve-frame.result
+told : (f : tie.After-solve_frame-at invariant-loop decreases-loop)
+    → let p : tie.At-loop-at invariant-loop decreases-loop = (due f).before in
+    let left = f.solve_frame-at.new in
+    Solved (drop p.loop-at.at (start p).args.batch.now) p.loop-at.k
+    p.loop-at.costs p.loop-at.choices p.loop-at.results p.loop-at.work
+    left.costs left.choices left.results left.work f.solve_frame-at.result
 told f =
-    let p : tie.At-loop invariant-loop decreases-loop = (due f).before in
-    rw (take_rest (start p).args.batch.now p.loop.at) at f.solve-frame.ensures
+    let p : tie.At-loop-at invariant-loop decreases-loop = (due f).before in
+    rw (take_rest (start p).args.batch.now p.loop-at.at) at f.solve_frame-at.ensures
 
-next : (f : tie.After-solve-frame invariant-loop decreases-loop)
-    → let p : tie.At-loop invariant-loop decreases-loop = (due f).before in
+next : (f : tie.After-solve_frame-at invariant-loop decreases-loop)
+    → let p : tie.At-loop-at invariant-loop decreases-loop = (due f).before in
     let a = (start p).args in
-    let left = f.solve-frame.new.1.1 in
+    let left = f.solve_frame-at.new in
     Turned a.batch.now a.costs.now a.choices.now a.results.now a.work.now
-    (p.loop.at + f.solve-frame.result) (p.loop.k + 1) left.0 left.1.0 left.1.1.0 left.1.1.1.0
+    (p.loop-at.at + f.solve_frame-at.result) (p.loop-at.k + 1) left.costs left.choices left.results left.work
 next f =
-    let p : tie.At-loop invariant-loop decreases-loop = (due f).before in
+    let p : tie.At-loop-at invariant-loop decreases-loop = (due f).before in
     let a = (start p).args in
-    let left = f.solve-frame.new.1.1 in
-    let kept = f.solve-frame.auto.1.1 in
+    let left = f.solve_frame-at.new in
+    let kept = f.solve_frame-at.auto in
     next_turned a.batch.now a.costs.now a.choices.now a.results.now a.work.now
-    p.loop.at p.loop.k p.loop.costs p.loop.choices p.loop.results p.loop.work
-    p.loop.inv (start p).pre (due f).loop-test.true
-    left.0 left.1.0 left.1.1.0 left.1.1.1.0 f.solve-frame.result (told f)
-    kept.0 kept.1.0 kept.1.1.0 kept.1.1.1.0
+    p.loop-at.at p.loop-at.k p.loop-at.costs p.loop-at.choices p.loop-at.results p.loop-at.work
+    p.loop-at.invariant (start p).requires (due f).loop-at-test.true
+    left.costs left.choices left.results left.work f.solve_frame-at.result (told f)
+    kept.costs kept.choices kept.results kept.work
 
-abbrev solved : tie.After-slice-known8 invariant-loop decreases-loop → tie.After-solve-frame invariant-loop decreases-loop
+abbrev solved : tie.After-slice_known-in-loop-at-4-1 invariant-loop decreases-loop → tie.After-solve_frame-at invariant-loop decreases-loop
 solved c = c.before.before.before.before.before.before.before.before
 
 -- ## the buffers at the end
 
 returns : tie.Need-returns invariant-loop decreases-loop
 returns c =
-    let p : tie.At-loop invariant-loop decreases-loop = c.before in
+    let p : tie.At-loop-at invariant-loop decreases-loop = c.before in
     let a = (start p).args in
     all_turned a.batch.now a.costs.now a.choices.now a.results.now a.work.now
-    p.loop.at p.loop.k p.loop.costs p.loop.choices p.loop.results p.loop.work
-    p.loop.invariant c.loop-test.false
+    p.loop-at.at p.loop-at.k p.loop-at.costs p.loop-at.choices p.loop-at.results p.loop-at.work
+    p.loop-at.invariant c.loop-at-test.false
 
-pub solve-frames-spec : {M : Type 1} → statement M
-solve-frames-spec =
+pub solve_frames_spec : {M : Type 1} → statement M
+solve_frames_spec =
     tie.close
     (tie.spec
     invariant-loop
     decreases-loop
     loop-holds
-    (λ c. omega arith)  -- sub-solve-frame
-    (λ c. omega arith)  -- part-solve-frame-start
-    (λ c. search rules)  -- part-solve-frame-end
+    (λ c. omega arith)  -- slice_bounds-solve_frame-count
+    (λ c. omega arith)  -- slice_bounds-solve_frame-start
+    (λ c. search rules)  -- slice_bounds-solve_frame-end
     solve-frame-requires
-    (λ c. omega (arith, (next (solved c)).read))  -- add-at
-    (λ c. omega (arith, (next (solved c)).read))  -- add-k
-    (λ c. omega (arith, (next (solved c)).read, (told (solved c)).ends))  -- loop-less
-    (λ c. next (solved c))  -- loop-again
-    (λ c. search rules)  -- same-length
-    (λ c. search rules)  -- same-length-2
-    (λ c. search rules)  -- same-length-3
-    (λ c. search rules)  -- same-length-4
+    (λ c. omega (arith, (next (solved c)).read))  -- overflow_add-at
+    (λ c. omega (arith, (next (solved c)).read))  -- overflow_add-k
+    (λ c. omega (arith, (next (solved c)).read, (told (solved c)).ends))  -- loop-at-smaller
+    (λ c. next (solved c))  -- loop-at-preserved
+    (λ c. search rules)  -- shape_of-costs
+    (λ c. search rules)  -- shape_of-choices
+    (λ c. search rules)  -- shape_of-results
+    (λ c. search rules)  -- shape_of-work
     returns)

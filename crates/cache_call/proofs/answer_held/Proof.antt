@@ -10,102 +10,102 @@ use Rattle.cache_call.proofs.answer_held.Tie as tie
 
 -- ## the places: cleared, the points and the room known, loaded
 
-abbrev cleared : tie.After-flat-room → tie.After-clear
-cleared c = let known : tie.After-slice-known4 = c.before.before.before.before in known.before.before
+abbrev cleared : tie.After-flat_room-room → tie.After-clear
+cleared c = let known : tie.After-slice_known-4-1 = c.before.before.before.before in known.before.before
 
-abbrev start : tie.After-flat-room → tie.Start
-start c = let known : tie.After-slice-known3 = (cleared c).before.before in known.before.before.before.before
+abbrev start : tie.After-flat_room-room → tie.Start
+start c = let known : tie.After-slice_known-3-1 = (cleared c).before.before in known.before.before.before.before
 
-abbrev opened : tie.After-costs → tie.Else1
+abbrev opened : tie.After-costs-1 → tie.Else-room-points
 opened c = c.before.before.before
 
-abbrev loaded : tie.After-choices → tie.After-costs
+abbrev loaded : tie.After-choices-1 → tie.After-costs-1
 loaded c = c.before.before.before.before
 
-few : (c : tie.After-flat-room) → c.before.count-in.result ≤ max_points
-few c = omega (arith, c.before.count-in.ensures)
+few : (c : tie.After-flat_room-room) → c.before.count_in-points.result ≤ max_points
+few c = omega (arith, c.count_in-points.ensures)
 
 -- ## what loading relies on
 
-mul-load-costs : tie.Need-overflow-mul-load-costs
+mul-load-costs : tie.Need-overflow_mul-points
 mul-load-costs c =
-    let known : tie.After-flat-room = c.before in
+    let known : tie.After-flat_room-room = c.before in
     let s : tie.Start = start known in
-    omega (arith, costs_few s.args.head s.pre.1 known.before.count-in.result (few known))
+    omega (arith, costs_few s.args.head s.requires.1 known.count_in-points.result (few known))
 
-load-costs-requires : tie.Need-load-costs-requires
+load-costs-requires : tie.Need-load_costs-requires
 load-costs-requires c κs =
-    let known : tie.After-flat-room = c.before.before in
+    let known : tie.After-flat_room-room = c.before.before in
     let s : tie.Start = start known in
     let a = s.args in
-    let points = known.before.count-in.result in (
-      s.pre.0,
-      costs_few a.head s.pre.1 points (few known),
-      costs_room a.head a.costs.now a.choices.now points known.flat-room.result
-          known.flat-room.ensures c.before.if1.false,
+    let points = known.count_in-points.result in (
+      s.requires.0,
+      costs_few a.head s.requires.1 points (few known),
+      costs_room a.head a.costs.now a.choices.now points known.flat_room-room.result
+          known.flat_room-room.ensures c.if-room-points.false,
     )
 
-mul-load-choices : tie.Need-overflow-mul-load-choices
+mul-load-choices : tie.Need-overflow_mul-points-2
 mul-load-choices c =
-    let known : tie.After-flat-room = (opened c.before).before in
+    let known : tie.After-flat_room-room = (opened c.before).before in
     let s : tie.Start = start known in
-    omega (arith, choices_few s.args.head s.pre.1 known.before.count-in.result (few known))
+    omega (arith, choices_few s.args.head s.requires.1 known.count_in-points.result (few known))
 
-load-choices-requires : tie.Need-load-choices-requires
+load-choices-requires : tie.Need-load_choices-requires
 load-choices-requires c κs =
-    let fits : tie.Else1 = opened c.before.before in
-    let known : tie.After-flat-room = fits.before in
+    let fits : tie.Else-room-points = opened c.before.before in
+    let known : tie.After-flat_room-room = fits.before in
     let s : tie.Start = start known in
     let a = s.args in
-    let points = known.before.count-in.result in (
-      s.pre.0,
-      choices_few a.head s.pre.1 points (few known),
-      choices_room a.head a.costs.now a.choices.now points known.flat-room.result
-          known.flat-room.ensures fits.if1.left,
+    let points = known.count_in-points.result in (
+      s.requires.0,
+      choices_few a.head s.requires.1 points (few known),
+      choices_room a.head a.costs.now a.choices.now points known.flat_room-room.result
+          known.flat_room-room.ensures fits.if-room-points.false,
     )
 
 -- ## the answers
 
-returns : tie.Need-returns
+returns : tie.Need-returns-then-room-points
 returns c =
-    let short : tie.Then1 = c.before in
-    let known : tie.After-flat-room = short.before in
+    let short : tie.Then-room-points = c.before in
+    let known : tie.After-flat_room-room = short.before in
     let a = (start known).args in
     rw c.refused.ensures
     (held_full a.head a.costs.now a.choices.now a.work.now a.store.now a.k
-    known.before.count-in.result known.flat-room.result known.before.count-in.ensures
-    known.flat-room.ensures (cleared known).clear.ensures short.if1.true)
+    known.count_in-points.result known.flat_room-room.result known.count_in-points.ensures
+    known.flat_room-room.ensures (cleared known).clear.ensures short.if-room-points.true)
 
-returns-2 : tie.Need-returns-2
+returns-2 : tie.Need-returns
 returns-2 c =
-    let choices : tie.After-choices = c.before in
-    let costs : tie.After-costs = loaded choices in
-    let fits : tie.Else1 = opened costs in
-    let known : tie.After-flat-room = fits.before in
+    let choices : tie.After-choices-1 = c.before in
+    let costs : tie.After-costs-1 = loaded choices in
+    let fits : tie.Else-room-points = opened costs in
+    let known : tie.After-flat_room-room = fits.before in
     let a = (start known).args in
     held_fits a.head a.costs.now a.choices.now a.work.now a.store.now a.k
-    known.before.count-in.result known.flat-room.result known.before.count-in.ensures
-    known.flat-room.ensures (cleared known).clear.ensures fits.if1.left costs.before.load-costs.ensures
-    choices.before.load-choices.ensures
+    known.count_in-points.result known.flat_room-room.result known.count_in-points.ensures
+    known.flat_room-room.ensures (cleared known).clear.ensures fits.if-room-points.false costs.load_costs.ensures
+    choices.load_choices.ensures
 
-pub answer-held-spec : {M : Type 1} → statement M
-answer-held-spec =
+pub answer_held_spec : {M : Type 1} → statement M
+answer_held_spec =
     tie.close
     (tie.spec
     (λ c κs. search rules)  -- clear-requires
-    (λ c. search rules)  -- cast-n
-    (λ c. search rules)  -- cast-p
-    (λ c κs. search rules)  -- count-in-requires
-    (λ c κs. search rules)  -- flat-room-requires
+    (λ c. search rules)  -- overflow_cast-n
+    (λ c. search rules)  -- overflow_cast-p
+    (λ c κs. search rules)  -- count_in-points-requires
+    (λ c κs. search rules)  -- flat_room-room-requires
     (λ c κs. search rules)  -- refused-requires
-    (λ c. search rules)  -- same-length
+    (λ c. search rules)  -- shape_of-work-then-room-points
     returns
     mul-load-costs
     load-costs-requires
     mul-load-choices
     load-choices-requires
-    (λ c. search rules)  -- cast-t21
-    (λ c. search rules)  -- same-length-2
-    (λ c. search rules)  -- same-length-3
-    (λ c. search rules)  -- same-length-4
+    (λ c. search rules)  -- overflow_cast-result
+    (λ c. search rules)  -- shape_of-costs
+    (λ c. search rules)  -- shape_of-choices
+    (λ c. search rules)  -- shape_of-work
     returns-2)

@@ -11,19 +11,19 @@ use Rattle.problem.proofs.Filled.{over_step, over_end}
 use Rattle.cache_call.proofs.copy_numbers.Statement.{statement}
 use Rattle.cache_call.proofs.copy_numbers.Tie as tie
 
-abbrev invariant-loop : tie.invariant-loop
+abbrev invariant-loop : tie.invariant-loop-i
 invariant-loop numbers out₀ i₀ out i =
     (i ≤ length numbers) × (length out ≡ length out₀)
     × (take i out ++ over (drop i numbers) (drop i out) ≡ over numbers out₀)
 
-abbrev decreases-loop : tie.decreases-loop
+abbrev decreases-loop : tie.decreases-loop-i
 decreases-loop numbers out₀ i₀ out i = length numbers - i
 
-loop-again : tie.Need-loop-preserved invariant-loop decreases-loop
+loop-again : tie.Need-loop-i-preserved invariant-loop decreases-loop
 loop-again c =
-    let p : tie.At-loop invariant-loop decreases-loop = c.before.before in
-    let numbers = p.before.args.numbers.now in
-    let w = p.loop in
+    let p : tie.At-loop-i invariant-loop decreases-loop = c.before.before in
+    let numbers = p.args.numbers.now in
+    let w = p.loop-i in
     let x = get_or numbers w.i 0 in
     let next = over_step w.i x (drop (w.i + 1) numbers) w.out (omega arith) in
     let first = drop-cons numbers w.i 0 (omega arith) in (
@@ -34,25 +34,25 @@ loop-again c =
 
 returns : tie.Need-returns invariant-loop decreases-loop
 returns c =
-    let p : tie.At-loop invariant-loop decreases-loop = c.before in
-    let numbers = p.before.args.numbers.now in
-    let w = p.loop in
+    let p : tie.At-loop-i invariant-loop decreases-loop = c.before in
+    let numbers = p.args.numbers.now in
+    let w = p.loop-i in
     let none = drop_of_length-le numbers {i = w.i} (omega arith) in
     sym (over_end w.i w.out) ∙ rw none at w.invariant.2
 
-pub copy-numbers-spec : {M : Type 1} → statement M
-copy-numbers-spec =
+pub copy_numbers_spec : {M : Type 1} → statement M
+copy_numbers_spec =
     tie.close
     (tie.spec
     invariant-loop
     decreases-loop
-    (λ c. (omega arith, refl, refl))  -- loop-holds
-    (λ c. omega arith)  -- mul-out
-    (λ c. omega arith)  -- shared-slice-read-out
-    (λ c. omega arith)  -- mul-out-2
-    (λ c. omega arith)  -- slice-write-out
-    (λ c. omega arith)  -- add-i
-    (λ c. omega arith)  -- loop-less
+    (λ c. (omega arith, refl, refl))  -- loop-i-init
+    (λ c. omega arith)  -- offset_bounds-numbers-i
+    (λ c. omega arith)  -- bounds-numbers-i
+    (λ c. omega arith)  -- offset_bounds-out-i
+    (λ c. omega arith)  -- bounds-out-i
+    (λ c. omega arith)  -- overflow_add-i
+    (λ c. omega arith)  -- loop-i-smaller
     loop-again
-    (λ c. c.before.loop.invariant.1)  -- same-length
+    (λ c. c.loop-i.invariant.1)  -- shape_of-out
     returns)

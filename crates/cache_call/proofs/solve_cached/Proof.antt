@@ -25,228 +25,228 @@ use Rattle.cache_call.proofs.solve_cached.Tie as tie
 
 -- ## the places: read, accepted, with a slot, its form written, sought
 
-abbrev lent : tie.After-read-problem → tie.After-shared-slice-known
+abbrev lent : tie.After-read_problem-g → tie.After-shared_slice_known-1
 lent c = c.before.before.before.before.before
 
-abbrev start : tie.After-read-problem → tie.Start
+abbrev start : tie.After-read_problem-g → tie.Start
 start c = (lent c).before
 
-abbrev bytes : tie.After-read-problem → List ℕ
+abbrev bytes : tie.After-read_problem-g → List ℕ
 bytes c = (start c).args.problem.now
 
-are_bytes : (c : tie.After-read-problem) → All Byte (bytes c)
-are_bytes c = all_each Byte 0 (bytes c) (λ i. omega (arith, (lent c).shared-slice-known.given i))
+are_bytes : (c : tie.After-read_problem-g) → All Byte (bytes c)
+are_bytes c = all_each Byte 0 (bytes c) (λ i. omega (arith, (lent c).shared_slice_known-1.given i))
 
-abbrev memory : tie.After-read-problem → ℕ
+abbrev memory : tie.After-read_problem-g → ℕ
 memory c = length (start c).args.work.now
 
-abbrev told : tie.Else1 → tie.After-early-refusal
+abbrev told : tie.Else-early-ne0 → tie.After-early_refusal-early
 told c = c.before.before
 
-abbrev read : tie.Else1 → tie.After-read-problem
+abbrev read : tie.Else-early-ne0 → tie.After-read_problem-g
 read c = (told c).before
 
-accepted : (c : tie.Else1) → AcceptedReading (bytes (read c)) (read c).read-problem.result
+accepted : (c : tie.Else-early-ne0) → AcceptedReading (bytes (read c)) (read c).read_problem-g.result
 accepted c =
-    let g = (read c).read-problem in
-    early_accepted (bytes (read c)) (memory (read c)) g.result g.ensures (told c).early-refusal.ensures
-    c.if1.false
+    let g = (read c).read_problem-g in
+    early_accepted (bytes (read c)) (memory (read c)) g.result g.ensures (told c).early_refusal-early.ensures
+    c.if-early-ne0.false
 
-none : (c : tie.Else1) → (early_verdict (bytes (read c)) (memory (read c))).number ≡ 0
+none : (c : tie.Else-early-ne0) → (early_verdict (bytes (read c)) (memory (read c))).number ≡ 0
 none c =
-    let g = (read c).read-problem in
-    early_none (bytes (read c)) (memory (read c)) g.result g.ensures (told c).early-refusal.ensures
-    c.if1.false
+    let g = (read c).read_problem-g in
+    early_none (bytes (read c)) (memory (read c)) g.result g.ensures (told c).early_refusal-early.ensures
+    c.if-early-ne0.false
 
-abbrev spaced : tie.After-sizes → tie.Else2
+abbrev spaced : tie.After-sizes-1 → tie.Else-store-lt-LEAST_STORE
 spaced c = c.before.before.before
 
-abbrev put : tie.After-put-form → tie.Else2
+abbrev put : tie.After-put_form → tie.Else-store-lt-LEAST_STORE
 put c = spaced c.before.before.before
 
-abbrev fine : tie.After-put-form → tie.Else1
+abbrev fine : tie.After-put_form → tie.Else-early-ne0
 fine c = (put c).before
 
-slot : (c : tie.Else2) → slot_size ≤ length (start (read c.before)).args.store.now
-slot c = omega (arith, c.if2.false)
+slot : (c : tie.Else-store-lt-LEAST_STORE) → slot_size ≤ length (start (read c.before)).args.store.now
+slot c = omega (arith, c.if-store-lt-LEAST_STORE.false)
 
-abbrev written : tie.After-find-form → tie.After-put-form
-written c = c.before.before.before.before
+abbrev written : tie.After-find_form-k → tie.After-put_form
+written c = c.before.before.before
 
-sought : (c : tie.After-find-form)
+sought : (c : tie.After-find_form-k)
     → let s : tie.Start = start (read (fine (written c))) in
-    c.find-form.result
+    c.find_form-k.result
     ≡ find_form (slots_in s.args.store.now) 0 (canonical_bytes s.args.problem.now) s.args.store.now
 sought c =
-    let at : tie.Else1 = fine (written c) in
+    let at : tie.Else-early-ne0 = fine (written c) in
     let store = (start (read at)).args.store.now in
-    c.find-form.ensures
+    c.find_form-k.ensures
     ∙ ap (λ (f : List ℕ). find_form (slots_in store) 0 f store)
-    (form_held (accepted at) (are_bytes (read at)) no_bytes (written c).put-form.ensures)
+    (form_held (accepted at) (are_bytes (read at)) no_bytes (written c).put_form.ensures)
 
 -- ## refused before a look into the store
 
-cast-refused : tie.Need-overflow-cast-refused
+cast-refused : tie.Need-overflow_cast-early
 cast-refused c =
-    let early : tie.After-early-refusal = c.before.before.before in
-    let g = early.before.read-problem in
+    let early : tie.After-early_refusal-early = c.before.before.before in
+    let g = early.read_problem-g in
     omega (
       arith,
       early_place (bytes early.before) (memory early.before) g.result g.ensures
-          early.early-refusal.ensures,
+          early.early_refusal-early.ensures,
     )
 
-returns : tie.Need-returns
+returns : tie.Need-returns-then-early-ne0
 returns c =
-    let stopped : tie.Then1 = c.before.before in
-    let early : tie.After-early-refusal = stopped.before.before in
-    let g = early.before.read-problem in
+    let stopped : tie.Then-early-ne0 = c.before.before in
+    let early : tie.After-early_refusal-early = stopped.before.before in
+    let g = early.read_problem-g in
     let a = (start early.before).args in
     let said =
     early_said (bytes early.before) (memory early.before) g.result g.ensures
-    early.early-refusal.ensures in
+    early.early_refusal-early.ensures in
     rw c.refused.ensures
     (refused_cached a.problem.now a.costs.now a.choices.now a.work.now a.store.now
-    early.early-refusal.result said stopped.if1.true)
+    early.early_refusal-early.result said stopped.if-early-ne0.true)
 
-returns-2 : tie.Need-returns-2
+returns-2 : tie.Need-returns-then-store-lt-LEAST_STORE
 returns-2 c =
-    let short : tie.Then2 = c.before in
-    let at : tie.Else1 = short.before in
+    let short : tie.Then-store-lt-LEAST_STORE = c.before in
+    let at : tie.Else-early-ne0 = short.before in
     let a = (start (read at)).args in
-    rw c.refused2.ensures
+    rw c.refused-then-store-lt-LEAST_STORE.ensures
     (short_cached a.problem.now a.costs.now a.choices.now a.work.now a.store.now (none at)
-    short.if2.true)
+    short.if-store-lt-LEAST_STORE.true)
 
 -- ## the form
 
-put-form-requires : tie.Need-put-form-requires
+put-form-requires : tie.Need-put_form-requires
 put-form-requires c κs =
-    let at : tie.Else1 = (spaced c.before.before).before in
+    let at : tie.Else-early-ne0 = (spaced c.before.before).before in
     let a = accepted at in (
-      opened (bytes (read at)) (read at).read-problem.result a (are_bytes (read at)),
+      opened (bytes (read at)) (read at).read_problem-g.result a (are_bytes (read at)),
       omega (arith, a.short, length-replicate {A = ℕ} max_bytes 0),
     )
 
-form-prefix : tie.Need-array-share-prefix-form
+form-prefix : tie.Need-slice_bounds-form-end
 form-prefix c =
-    let there : tie.After-put-form = c.before.before in
-    let at : tie.Else1 = fine there in
-    form_inside (accepted at) (are_bytes (read at)) no_bytes there.put-form.ensures
+    let there : tie.After-put_form = c.before in
+    let at : tie.Else-early-ne0 = fine there in
+    form_inside (accepted at) (are_bytes (read at)) no_bytes there.put_form.ensures
 
-form-slice : tie.Need-slice-aggregate-find-form
+form-slice : tie.Need-slice_bounds-find_form-end
 form-slice c =
-    let there : tie.After-put-form = c.before.before.before in
-    let at : tie.Else1 = fine there in
-    form_lent (bytes (read at)) no_bytes (are_bytes (read at)) (accepted at).none _ there.put-form.ensures
+    let there : tie.After-put_form = c.before.before in
+    let at : tie.Else-early-ne0 = fine there in
+    form_lent (bytes (read at)) no_bytes (are_bytes (read at)) (accepted at).none _ there.put_form.ensures
 
-find-form-requires : tie.Need-find-form-requires
+find-form-requires : tie.Need-find_form-k-requires
 find-form-requires c κs =
-    let there : tie.After-put-form = c.before.before.before in
-    let at : tie.Else1 = fine there in
-    form_short_lem (accepted at) (are_bytes (read at)) no_bytes there.put-form.ensures
+    let there : tie.After-put_form = c.before.before in
+    let at : tie.Else-early-ne0 = fine there in
+    form_short_lem (accepted at) (are_bytes (read at)) no_bytes there.put_form.ensures
 
 -- ## a hit
 
-answer-held-requires : tie.Need-answer-held-requires
+answer-held-requires : tie.Need-answer_held-requires
 unfolding slots_in
 answer-held-requires c κs =
-    let hit : tie.Then3 = c.before.before.before.before in
-    let slots : tie.After-slots-in = hit.before in
-    let at : tie.Else1 = fine (written slots.before) in
-    (omega (arith, slots.slots-in.ensures, hit.if3.true), header_counted (accepted at))
+    let hit : tie.Then-k-slots_in = c.before.before.before in
+    let slots : tie.After-slots_in = hit.before in
+    let at : tie.Else-early-ne0 = fine (written slots.before) in
+    (omega (arith, slots.slots_in.ensures, hit.if-k-slots_in.true), header_counted (accepted at))
 
-returns-3 : tie.Need-returns-3
+returns-3 : tie.Need-returns-then-k-slots_in
 unfolding slots_in
 returns-3 c =
-    let work : tie.After-work = c.before in
-    let held : tie.After-answer-held = work.before.before.before.before.before in
-    let hit : tie.Then3 = held.before.before.before.before.before in
-    let slots : tie.After-slots-in = hit.before in
-    let look : tie.After-find-form = slots.before in
-    let space : tie.Else2 = put (written look) in
-    let at : tie.Else1 = space.before in
+    let work : tie.After-work-1 = c.before in
+    let held : tie.After-answer_held = work.before.before.before.before.before in
+    let hit : tie.Then-k-slots_in = held.before.before.before.before in
+    let slots : tie.After-slots_in = hit.before in
+    let look : tie.After-find_form-k = slots.before in
+    let space : tie.Else-store-lt-LEAST_STORE = put (written look) in
+    let at : tie.Else-early-ne0 = space.before in
     let a = (start (read at)).args in
-    let g = (read at).read-problem.result in
+    let g = (read at).read_problem-g.result in
     let same =
     held_cached a.problem.now a.costs.now a.choices.now a.work.now a.store.now (none at)
-    (slot space) look.find-form.result (sought look) g.head (objectives_are _ g (accepted at))
-    (variables_are _ g (accepted at)) (omega (arith, slots.slots-in.ensures, hit.if3.true)) in
-    rw same held.answer-held.ensures
+    (slot space) look.find_form-k.result (sought look) g.head (objectives_are _ g (accepted at))
+    (variables_are _ g (accepted at)) (omega (arith, slots.slots_in.ensures, hit.if-k-slots_in.true)) in
+    rw same held.answer_held.ensures
 
 -- ## no hit
 
-form-prefix-2 : tie.Need-array-share-prefix-form-2
+form-prefix-2 : tie.Need-slice_bounds-form-end-2
 form-prefix-2 c =
-    let there : tie.After-put-form = written c.before.before in
-    let at : tie.Else1 = fine there in
-    form_inside (accepted at) (are_bytes (read at)) no_bytes there.put-form.ensures
+    let there : tie.After-put_form = written c.before.before in
+    let at : tie.Else-early-ne0 = fine there in
+    form_inside (accepted at) (are_bytes (read at)) no_bytes there.put_form.ensures
 
-form-slice-2 : tie.Need-slice-aggregate-answer-anew
+form-slice-2 : tie.Need-slice_bounds-answer_anew-end
 form-slice-2 c =
-    let there : tie.After-put-form = written c.before.before.before in
-    let at : tie.Else1 = fine there in
-    form_lent (bytes (read at)) no_bytes (are_bytes (read at)) (accepted at).none _ there.put-form.ensures
+    let there : tie.After-put_form = written c.before.before.before in
+    let at : tie.Else-early-ne0 = fine there in
+    form_lent (bytes (read at)) no_bytes (are_bytes (read at)) (accepted at).none _ there.put_form.ensures
 
-answer-anew-requires : tie.Need-answer-anew-requires
+answer-anew-requires : tie.Need-answer_anew-requires
 answer-anew-requires c κs =
-    let miss : tie.Else3 = c.before.before.before.before.before in
-    let there : tie.After-put-form = written miss.before.before in
-    let at : tie.Else1 = fine there in
+    let miss : tie.Else-k-slots_in = c.before.before.before.before.before in
+    let there : tie.After-put_form = written miss.before.before in
+    let at : tie.Else-early-ne0 = fine there in
     let a = (start (read at)).args in
-    not_held (accepted at) (are_bytes (read at)) no_bytes there.put-form.ensures a.work.now a.store.now
+    not_held (accepted at) (are_bytes (read at)) no_bytes there.put_form.ensures a.work.now a.store.now
     (none at) (slot (put there))
 
-returns-4 : tie.Need-returns-4
+returns-4 : tie.Need-returns
 unfolding slots_in
 returns-4 c =
-    let work : tie.After-work2 = c.before.before.before in
-    let anew : tie.After-answer-anew = work.before.before.before.before.before in
-    let miss : tie.Else3 = anew.before.before.before.before.before.before in
-    let slots : tie.After-slots-in = miss.before in
-    let look : tie.After-find-form = slots.before in
-    let there : tie.After-put-form = written look in
-    let space : tie.Else2 = put there in
-    let at : tie.Else1 = space.before in
+    let work : tie.After-work-2-1 = c.before.before.before in
+    let anew : tie.After-answer_anew = work.before.before.before.before.before in
+    let miss : tie.Else-k-slots_in = anew.before.before.before.before.before.before in
+    let slots : tie.After-slots_in = miss.before in
+    let look : tie.After-find_form-k = slots.before in
+    let there : tie.After-put_form = written look in
+    let space : tie.Else-store-lt-LEAST_STORE = put there in
+    let at : tie.Else-early-ne0 = space.before in
     let a = (start (read at)).args in
     let same =
     fresh_cached a.problem.now a.costs.now a.choices.now a.work.now a.store.now (none at)
-    (slot space) look.find-form.result (sought look)
-    (form_held (accepted at) (are_bytes (read at)) no_bytes there.put-form.ensures)
-    (omega (arith, slots.slots-in.ensures, miss.if3.false)) in
-    rw same anew.answer-anew.ensures
+    (slot space) look.find_form-k.result (sought look)
+    (form_held (accepted at) (are_bytes (read at)) no_bytes there.put_form.ensures)
+    (omega (arith, slots.slots_in.ensures, miss.if-k-slots_in.false)) in
+    rw same anew.answer_anew.ensures
 
-pub solve-cached-spec : {M : Type 1} → statement M
-solve-cached-spec =
+pub solve_cached_spec : {M : Type 1} → statement M
+solve_cached_spec =
     tie.close
     (tie.spec
-    (λ c κs. search rules)  -- read-problem-requires
-    (λ c κs. search rules)  -- early-refusal-requires
+    (λ c κs. search rules)  -- read_problem-g-requires
+    (λ c κs. search rules)  -- early_refusal-early-requires
     cast-refused
     (λ c κs. search rules)  -- refused-requires
     returns
-    (λ c κs. search rules)  -- refused-requires-2
+    (λ c κs. search rules)  -- refused-requires-then-store-lt-LEAST_STORE
     returns-2
-    (λ c. search rules)  -- cast-n
-    (λ c. within _ _ (accepted (spaced c).before))  -- array-share-prefix-sizes
-    (λ c. taken _ _ (accepted (spaced c.before).before))  -- slice-aggregate-put-form
-    (λ c. search rules)  -- slice-aggregate-put-form-2
+    (λ c. search rules)  -- overflow_cast-n
+    (λ c. within _ _ (accepted (spaced c).before))  -- slice_bounds-sizes-end
+    (λ c. taken _ _ (accepted (spaced c.before).before))  -- slice_bounds-put_form-end
+    (λ c. search rules)  -- slice_bounds-put_form-end-2
     put-form-requires
     form-prefix
     form-slice
     find-form-requires
-    (λ c κs. search rules)  -- slots-in-requires
+    (λ c κs. search rules)  -- slots_in-requires
     answer-held-requires
-    (λ c. search rules)  -- same-length
-    (λ c. search rules)  -- same-length-2
-    (λ c. search rules)  -- same-length-3
-    (λ c. search rules)  -- same-length-4
+    (λ c. search rules)  -- shape_of-costs-then-k-slots_in
+    (λ c. search rules)  -- shape_of-choices-then-k-slots_in
+    (λ c. search rules)  -- shape_of-work-then-k-slots_in
+    (λ c. search rules)  -- shape_of-store-then-k-slots_in
     returns-3
     form-prefix-2
     form-slice-2
     answer-anew-requires
-    (λ c. search rules)  -- same-length-5
-    (λ c. search rules)  -- same-length-6
-    (λ c. search rules)  -- same-length-7
-    (λ c. search rules)  -- same-length-8
+    (λ c. search rules)  -- shape_of-costs
+    (λ c. search rules)  -- shape_of-choices
+    (λ c. search rules)  -- shape_of-work
+    (λ c. search rules)  -- shape_of-store
     returns-4)
