@@ -7,7 +7,6 @@ use lib.ListN.{length}
 use Rattle.model.specs.Limits.{max_points}
 use Rattle.model.specs.Refusals.{Verdict, accepted}
 use Rattle.model.specs.Reading.{problem_of}
-use Rattle.model.specs.Frontiers.{Point}
 use Rattle.model.specs.Calls.{room_of}
 use Rattle.model.specs.Calls.{solve_outcome, list_outcome, cut_outcome, bound_outcome}
 use Rattle.model.specs.Demands.{SolveLeaves, SolveSame, ListLeaves, ListSame}

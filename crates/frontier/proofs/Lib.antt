@@ -11,5 +11,5 @@ pub mod TextBack
 pub mod EqualForms
 pub mod CachedRuns
 pub mod BatchTurns
+
 -- walks by hand
-pub mod Lent

@@ -3,7 +3,6 @@
 use mathlib.Core.Path.{◌≡◌}
 use mathlib.Core.List.{List}
 use Prim.Native.Nat.{ℕ}
-use Rattle.model.specs.Frontiers.{Point}
 use Rattle.model.specs.Calls.{SolveOutcome, ListOutcome, CutOutcome, BoundOutcome}
 use Rattle.model.specs.declared.Point as DP
 use Rattle.frontier.specs.Says.{as_points, SolveExports, ListExports, CutExports, BoundExports}

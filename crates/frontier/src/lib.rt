@@ -159,12 +159,7 @@ pub fn bound_prefix(problem: &[u8], prefix: &[u8]) -> bound_call::Least
     bound_call::bound_of(problem, prefix)
 }
 
-pub fn frontier_bound(
-    problem: &[u8],
-    prefix: &[u8],
-    least: &mut [u64; 4],
-    place: &mut u32,
-) -> u8
+pub fn frontier_bound(problem: &[u8], prefix: &[u8], least: &mut [u64; 4], place: &mut u32) -> u8
     ensures { BoundExports problem.now (bound_outcome problem.now prefix.now)
         result place.new least.new }
 {
@@ -218,12 +213,7 @@ pub fn problem_to_text(problem: &[u8], text: &mut [u8]) -> text_networks::Conver
     text_writing::to_text(problem, text)
 }
 
-pub fn frontier_to_text(
-    problem: &[u8],
-    text: &mut [u8],
-    place: &mut u32,
-    count: &mut u32,
-) -> u8
+pub fn frontier_to_text(problem: &[u8], text: &mut [u8], place: &mut u32, count: &mut u32) -> u8
     ensures { ConvertExports problem.now (to_text_outcome problem.now text.old)
         text.new result place.new count.new }
 {
@@ -239,12 +229,7 @@ pub fn problem_from_text(text: &[u8], problem: &mut [u8]) -> text_networks::Conv
     text_reading::from_text(text, problem)
 }
 
-pub fn frontier_from_text(
-    text: &[u8],
-    problem: &mut [u8],
-    place: &mut u32,
-    count: &mut u32,
-) -> u8
+pub fn frontier_from_text(text: &[u8], problem: &mut [u8], place: &mut u32, count: &mut u32) -> u8
     ensures { ConvertExports text.now (from_text_outcome text.now problem.old)
         problem.new result place.new count.new }
 {

@@ -7,14 +7,14 @@ use Rattle.frontier.proofs.bound_prefix.Tie as tie
 
 returns : tie.Need-returns
 returns c =
-    let known : tie.After-shared-slice-known = c.before.before in
-    let a = known.before.args in
-    bound_promise a.problem.now (λ i. omega (arith, known.shared-slice-known.given i)) a.prefix.now
+    let known : tie.After-shared_slice_known-1 = c.before.before in
+    let a = known.args in
+    bound_promise a.problem.now (λ i. omega (arith, known.shared_slice_known-1.given i)) a.prefix.now
     c.bound_of.result c.bound_of.ensures
 
-pub bound-prefix-spec : {M : Type 1} → statement M
-bound-prefix-spec =
+pub bound_prefix_spec : {M : Type 1} → statement M
+bound_prefix_spec =
     tie.close
     (tie.spec
-    (λ c κs. search rules)  -- bound-of-requires
+    (λ c κs. search rules)  -- bound_of-requires
     returns)

@@ -7,18 +7,18 @@ use Rattle.frontier.proofs.frontier_canonical.Tie as tie
 
 returns : tie.Need-returns
 returns c =
-    let lent : tie.After-slice-known2 = c.before.before.before.before in
-    let done : tie.After-problem-canonical = lent.before.before in
-    let a = done.before.before.before.before.args in
+    let lent : tie.After-slice_known-2-1 = c.before.before.before.before in
+    let done : tie.After-problem_canonical-canonical = lent.before.before in
+    let a = done.args in
     let o = canonical_outcome a.problem.now a.form.now in
-    canonical_export {o = o} done.problem-canonical.result done.problem-canonical.ensures _ _ _ _
+    canonical_export {o = o} done.problem_canonical-canonical.result done.problem_canonical-canonical.ensures _ _ _ _
     c.tell.ensures
 
-pub frontier-canonical-spec : {M : Type 1} → statement M
-frontier-canonical-spec =
+pub frontier_canonical_spec : {M : Type 1} → statement M
+frontier_canonical_spec =
     tie.close
     (tie.spec
-    (λ c κs. search rules)  -- problem-canonical-requires
+    (λ c κs. search rules)  -- problem_canonical-canonical-requires
     (λ c κs. search rules)  -- tell-requires
-    (λ c. search rules)  -- same-length
+    (λ c. search rules)  -- shape_of-form
     returns)

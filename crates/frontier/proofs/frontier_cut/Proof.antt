@@ -7,23 +7,23 @@ use Rattle.frontier.proofs.frontier_cut.Tie as tie
 
 returns : tie.Need-returns
 returns c =
-    let lent : tie.After-tell-halves-arg = c.before.before.before.before in
-    let worked : tie.After-work = lent.before.before in
-    let chosen : tie.After-choices = worked.before.before in
-    let cut : tie.After-solve-cut = chosen.before.before.before in
-    let known : tie.After-slice-known3 = cut.before.before.before.before in
-    let read : tie.After-shared-slice-known = known.before.before.before.before in
-    let a = read.before.args in
+    let lent : tie.After-tell_halves-arg-1 = c.before.before.before.before in
+    let worked : tie.After-work-1 = lent.before.before in
+    let chosen : tie.After-choices-1 = worked.before.before in
+    let cut : tie.After-solve_cut-halves = chosen.before.before.before in
+    let known : tie.After-slice_known-3-1 = cut.before.before.before.before in
+    let read : tie.After-shared_slice_known-1 = known.before.before.before.before in
+    let a = read.args in
     let o = cut_outcome a.problem.now a.sides.now a.costs.now a.choices.now a.work.now in
-    cut_export {o = o} cut.solve-cut.result cut.solve-cut.ensures _ _ _ _ _ c.tell-halves.ensures
+    cut_export {o = o} cut.solve_cut-halves.result cut.solve_cut-halves.ensures _ _ _ _ _ c.tell_halves.ensures
 
-pub frontier-cut-spec : {M : Type 1} → statement M
-frontier-cut-spec =
+pub frontier_cut_spec : {M : Type 1} → statement M
+frontier_cut_spec =
     tie.close
     (tie.spec
-    (λ c κs. search rules)  -- solve-cut-requires
-    (λ c κs. search rules)  -- tell-halves-requires
-    (λ c. search rules)  -- same-length
-    (λ c. search rules)  -- same-length-2
-    (λ c. search rules)  -- same-length-3
+    (λ c κs. search rules)  -- solve_cut-halves-requires
+    (λ c κs. search rules)  -- tell_halves-requires
+    (λ c. search rules)  -- shape_of-costs
+    (λ c. search rules)  -- shape_of-choices
+    (λ c. search rules)  -- shape_of-work
     returns)

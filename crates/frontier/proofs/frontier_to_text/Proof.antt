@@ -7,17 +7,17 @@ use Rattle.frontier.proofs.frontier_to_text.Tie as tie
 
 returns : tie.Need-returns
 returns c =
-    let lent : tie.After-slice-known2 = c.before.before.before in
-    let done : tie.After-problem-to-text = lent.before.before in
-    let a = done.before.before.before.before.args in
+    let lent : tie.After-slice_known-2-1 = c.before.before.before in
+    let done : tie.After-problem_to_text-converted = lent.before.before in
+    let a = done.args in
     let o = to_text_outcome a.problem.now a.text.now in
-    convert_export {o = o} done.problem-to-text.result done.problem-to-text.ensures _ _ _ c.tell.ensures
+    convert_export {o = o} done.problem_to_text-converted.result done.problem_to_text-converted.ensures _ _ _ c.tell.ensures
 
-pub frontier-to-text-spec : {M : Type 1} → statement M
-frontier-to-text-spec =
+pub frontier_to_text_spec : {M : Type 1} → statement M
+frontier_to_text_spec =
     tie.close
     (tie.spec
-    (λ c κs. search rules)  -- problem-to-text-requires
+    (λ c κs. search rules)  -- problem_to_text-converted-requires
     (λ c κs. search rules)  -- tell-requires
-    (λ c. search rules)  -- same-length
+    (λ c. search rules)  -- shape_of-text
     returns)

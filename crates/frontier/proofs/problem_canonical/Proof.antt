@@ -8,17 +8,17 @@ use Rattle.frontier.proofs.problem_canonical.Tie as tie
 
 returns : tie.Need-returns
 returns c =
-    let done : tie.After-canonical-form = c.before.before in
-    let known : tie.After-shared-slice-known = done.before.before.before in
-    let a = known.before.args in
+    let done : tie.After-canonical_form = c.before.before in
+    let known : tie.After-shared_slice_known-1 = done.before.before.before in
+    let a = known.args in
     let o = canonical_outcome a.problem.now a.form.now in
-    canonical_promise a.problem.now (λ i. omega (arith, known.shared-slice-known.given i)) o
-    done.canonical-form.result done.canonical-form.ensures
+    canonical_promise a.problem.now (λ i. omega (arith, known.shared_slice_known-1.given i)) o
+    done.canonical_form.result done.canonical_form.ensures
 
-pub problem-canonical-spec : {M : Type 1} → statement M
-problem-canonical-spec =
+pub problem_canonical_spec : {M : Type 1} → statement M
+problem_canonical_spec =
     tie.close
     (tie.spec
-    (λ c κs. search rules)  -- canonical-form-requires
-    (λ c. search rules)  -- same-length
+    (λ c κs. search rules)  -- canonical_form-requires
+    (λ c. search rules)  -- shape_of-form
     returns)

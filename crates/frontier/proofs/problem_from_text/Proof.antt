@@ -8,17 +8,17 @@ use Rattle.frontier.proofs.problem_from_text.Tie as tie
 
 returns : tie.Need-returns
 returns c =
-    let done : tie.After-from-text = c.before.before in
-    let known : tie.After-shared-slice-known = done.before.before.before in
-    let a = known.before.args in
+    let done : tie.After-from_text = c.before.before in
+    let known : tie.After-shared_slice_known-1 = done.before.before.before in
+    let a = known.args in
     let o = from_text_outcome a.text.now a.problem.now in
-    convert_promise a.text.now (λ i. omega (arith, known.shared-slice-known.given i)) o
-    done.from-text.result done.from-text.ensures
+    convert_promise a.text.now (λ i. omega (arith, known.shared_slice_known-1.given i)) o
+    done.from_text.result done.from_text.ensures
 
-pub problem-from-text-spec : {M : Type 1} → statement M
-problem-from-text-spec =
+pub problem_from_text_spec : {M : Type 1} → statement M
+problem_from_text_spec =
     tie.close
     (tie.spec
-    (λ c κs. search rules)  -- from-text-requires
-    (λ c. search rules)  -- same-length
+    (λ c κs. search rules)  -- from_text-requires
+    (λ c. search rules)  -- shape_of-problem
     returns)

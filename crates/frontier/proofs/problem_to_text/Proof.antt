@@ -8,17 +8,17 @@ use Rattle.frontier.proofs.problem_to_text.Tie as tie
 
 returns : tie.Need-returns
 returns c =
-    let done : tie.After-to-text = c.before.before in
-    let known : tie.After-shared-slice-known = done.before.before.before in
-    let a = known.before.args in
+    let done : tie.After-to_text = c.before.before in
+    let known : tie.After-shared_slice_known-1 = done.before.before.before in
+    let a = known.args in
     let o = to_text_outcome a.problem.now a.text.now in
-    convert_promise a.problem.now (λ i. omega (arith, known.shared-slice-known.given i)) o
-    done.to-text.result done.to-text.ensures
+    convert_promise a.problem.now (λ i. omega (arith, known.shared_slice_known-1.given i)) o
+    done.to_text.result done.to_text.ensures
 
-pub problem-to-text-spec : {M : Type 1} → statement M
-problem-to-text-spec =
+pub problem_to_text_spec : {M : Type 1} → statement M
+problem_to_text_spec =
     tie.close
     (tie.spec
-    (λ c κs. search rules)  -- to-text-requires
-    (λ c. search rules)  -- same-length
+    (λ c κs. search rules)  -- to_text-requires
+    (λ c. search rules)  -- shape_of-text
     returns)

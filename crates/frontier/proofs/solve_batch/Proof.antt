@@ -8,22 +8,22 @@ use Rattle.frontier.proofs.solve_batch.Tie as tie
 
 returns : tie.Need-returns
 returns c =
-    let results : tie.After-slice-known6 = c.before.before.before.before in
-    let solved : tie.After-solve-batch = results.before.before.before.before in
-    let lent : tie.After-slice-known4 = solved.before.before.before.before.before in
-    let known : tie.After-shared-slice-known = lent.before.before.before.before in
-    let a = known.before.args in
+    let results : tie.After-slice_known-6-1 = c.before.before.before.before in
+    let solved : tie.After-solve_batch = results.before.before.before.before in
+    let lent : tie.After-slice_known-4-1 = solved.before.before.before.before.before in
+    let known : tie.After-shared_slice_known-1 = lent.before.before.before.before in
+    let a = known.args in
     let o = batch_outcome a.batch.now a.costs.now a.choices.now a.results.now a.work.now in
-    batch_promise a.batch.now (λ i. omega (arith, known.shared-slice-known.given i)) o
-    solved.solve-batch.result solved.solve-batch.ensures
+    batch_promise a.batch.now (λ i. omega (arith, known.shared_slice_known-1.given i)) o
+    solved.solve_batch.result solved.solve_batch.ensures
 
-pub solve-batch-spec : {M : Type 1} → statement M
-solve-batch-spec =
+pub solve_batch_spec : {M : Type 1} → statement M
+solve_batch_spec =
     tie.close
     (tie.spec
-    (λ c κs. search rules)  -- solve-batch-requires
-    (λ c. search rules)  -- same-length
-    (λ c. search rules)  -- same-length-2
-    (λ c. search rules)  -- same-length-3
-    (λ c. search rules)  -- same-length-4
+    (λ c κs. search rules)  -- solve_batch-requires
+    (λ c. search rules)  -- shape_of-costs
+    (λ c. search rules)  -- shape_of-choices
+    (λ c. search rules)  -- shape_of-results
+    (λ c. search rules)  -- shape_of-work
     returns)

@@ -8,22 +8,22 @@ use Rattle.frontier.proofs.solve_cached.Tie as tie
 
 returns : tie.Need-returns
 returns c =
-    let work : tie.After-slice-known6 = c.before.before.before.before in
-    let solved : tie.After-solve-cached = work.before.before.before.before in
-    let lent : tie.After-slice-known4 = solved.before.before.before.before.before in
-    let known : tie.After-shared-slice-known = lent.before.before.before.before in
-    let a = known.before.args in
+    let work : tie.After-slice_known-6-1 = c.before.before.before.before in
+    let solved : tie.After-solve_cached = work.before.before.before.before in
+    let lent : tie.After-slice_known-4-1 = solved.before.before.before.before.before in
+    let known : tie.After-shared_slice_known-1 = lent.before.before.before.before in
+    let a = known.args in
     let o = cached_outcome a.problem.now a.costs.now a.choices.now a.work.now a.store.now in
-    cached_promise a.problem.now (λ i. omega (arith, known.shared-slice-known.given i)) o
-    solved.solve-cached.result solved.solve-cached.ensures
+    cached_promise a.problem.now (λ i. omega (arith, known.shared_slice_known-1.given i)) o
+    solved.solve_cached.result solved.solve_cached.ensures
 
-pub solve-cached-spec : {M : Type 1} → statement M
-solve-cached-spec =
+pub solve_cached_spec : {M : Type 1} → statement M
+solve_cached_spec =
     tie.close
     (tie.spec
-    (λ c κs. search rules)  -- solve-cached-requires
-    (λ c. search rules)  -- same-length
-    (λ c. search rules)  -- same-length-2
-    (λ c. search rules)  -- same-length-3
-    (λ c. search rules)  -- same-length-4
+    (λ c κs. search rules)  -- solve_cached-requires
+    (λ c. search rules)  -- shape_of-costs
+    (λ c. search rules)  -- shape_of-choices
+    (λ c. search rules)  -- shape_of-work
+    (λ c. search rules)  -- shape_of-store
     returns)
