@@ -1,6 +1,8 @@
 // The list program: reads a problem from standard input and prints its frontier list, or why it is refused.
 #![tactic(auto)]
 
+ghost use Rattle.std.specs.Prelude.{◌≤◌, length, IfOk};
+
 use std::io;
 use std::io::{ErrorKind, Read};
 
@@ -21,7 +23,14 @@ fn print_choice(rt: &impl Print, choice: &[u8]) -> io::Result<()> {
 }
 
 // The points, a line each. What the buffers do not hold is not printed.
-fn print_points(rt: &impl Print, costs: &[u32], choices: &[u8], count: usize, p: usize, n: usize) -> io::Result<()> {
+fn print_points(
+    rt: &impl Print,
+    costs: &[u32],
+    choices: &[u8],
+    count: usize,
+    p: usize,
+    n: usize,
+) -> io::Result<()> {
     let mut i: usize = 0;
     let mut cost: usize = 0;
     let mut value: usize = 0;

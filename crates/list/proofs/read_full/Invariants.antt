@@ -1,0 +1,6 @@
+-- No more is read than the bytes hold.
+use Rattle.std.proofs.Common.{◌≤◌, length}
+use Rattle.list.proofs.read_full.Given as goal
+
+abbrev pub invariant-loop : goal.invariant-loop
+invariant-loop g l = l.count ≤ length l.bytes
