@@ -15,7 +15,8 @@ use Rattle.model.specs.Refusals.{full, verdict, accepted}
 use Rattle.model.specs.Problems.{Problem}
 use Rattle.model.specs.Reading.{problem_of}
 use Rattle.model.specs.Frontiers.{Point, frontier}
-use Rattle.model.specs.Calls.{over, room_of, flat_costs, flat_choices, SolveOutcome, work_verdict, work_after, solve_verdict}
+use Rattle.model.specs.Calls.{over, room_of, flat_costs, flat_choices, SolveOutcome, work_verdict, work_after}
+use Rattle.model.specs.Calls.{solve_verdict}
 use Rattle.model.specs.Calls.{solve_outcome}
 use Rattle.model.specs.declared.Header as DM
 use Rattle.form_canonical.specs.Places.{over_at}

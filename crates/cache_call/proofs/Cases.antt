@@ -21,7 +21,8 @@ use Rattle.answers.proofs.Early.{early_limits}
 use Rattle.answers.proofs.Early.{early_verdict as unasked}
 use Rattle.form_canonical.specs.Canonical.{canonical_bytes}
 use Rattle.cache_answers.specs.Stores.{slot_size, slots_in, find_form, Answer, loaded, stored}
-use Rattle.cache_answers.specs.Outcomes.{store_short, store_verdict, CachedOutcome, early_verdict, is_hit, cached_answer}
+use Rattle.cache_answers.specs.Outcomes.{store_short, store_verdict, CachedOutcome, early_verdict, is_hit}
+use Rattle.cache_answers.specs.Outcomes.{cached_answer}
 use Rattle.cache_answers.specs.Outcomes.{cached_outcome}
 use Rattle.cache_answers.specs.Says.{CachedSays}
 use Rattle.cache_call.specs.Steps.{told, judged, held_in, held_outcome, fresh_outcome}

@@ -38,7 +38,8 @@ use Rattle.cut_halves.proofs.Keeping.{kept_few, first_same}
 
 -- a list on the way is too long
 cut_full : (q : Problem) (ss : List ℕ) (room : ℕ) (work work' : List ℕ)
-    → (ltb max_points (half_size 0 q ss) || (ltb max_points (half_size 1 q ss) || ltb room (length (frontier q)))) ≡ true
+    → (ltb max_points (half_size 0 q ss) || (ltb max_points (half_size 1 q ss) || ltb room (length (frontier q))))
+    ≡ true
     → length work' ≡ length work → CutFound q ss room work work' no_lists
 cut_full q ss room work work' h long =
     record {

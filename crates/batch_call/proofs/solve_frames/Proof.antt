@@ -67,7 +67,8 @@ next f =
     left.costs left.choices left.results left.work f.solve_frame-at.result (told f)
     kept.costs kept.choices kept.results kept.work
 
-abbrev solved : tie.After-slice_known-in-loop-at-4-1 invariant-loop decreases-loop → tie.After-solve_frame-at invariant-loop decreases-loop
+abbrev solved : tie.After-slice_known-in-loop-at-4-1 invariant-loop decreases-loop
+    → tie.After-solve_frame-at invariant-loop decreases-loop
 solved c = c.before.before.before.before.before.before.before.before
 
 -- ## the buffers at the end

@@ -24,18 +24,16 @@ returns c = (
 
 returns-2 : tie.Need-returns
 returns-2 c =
-    let weighed = c in
-    let s = weighed in
-    let p = s.args.p in
-    let made = weighed.weights_for-weights in
+    let p = c.args.p in
+    let made = c.weights_for-weights in
     let count = c.some_sums.ensures in (
       record {
-        some = s.requires.0;
-        few = s.requires.1;
+        some = c.requires.0;
+        few = c.requires.1;
         few_sums = count.1;
         small = made.ensures.0;
         every =
-            rw (take-take p 4 made.result s.requires.1) at
+            rw (take-take p 4 made.result c.requires.1) at
             (all_take (λ w. 1 ≤ w) p (take 4 made.result) made.ensures.1);
         alone = λ z. absurd (omega (arith, z, count.0));
       },

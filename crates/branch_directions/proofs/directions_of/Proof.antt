@@ -32,8 +32,7 @@ loop-holds c = (omega arith, rw append-nil c.with_costs-all.ensures)
 
 sum-at-requires : tie.Need-sum_at-requires invariant-loop decreases-loop
 sum-at-requires c κs =
-    let s = c in
-    (s.requires.0, omega arith, s.requires.1)
+    (c.requires.0, omega arith, c.requires.1)
 
 sensible :
     (c : lts.After-sum_at (with-costs-reads.Asked, with-costs-reads.Learnt, sum-at-reads.Asked, sum-at-reads.Learnt)
@@ -43,15 +42,14 @@ sensible c = c.requires.0
 
 loop-again : tie.Need-loop-i-preserved invariant-loop decreases-loop
 loop-again c =
-    let s = c in
-    let d = s.args.d in
+    let d = c.args.d in
     let w = c.loop-i in
-    let v = s.args.v in
-    let long = array_length w64 max_objectives v _ s.well_formed.0 in (
+    let v = c.args.v in
+    let long = array_length w64 max_objectives v _ c.well_formed.0 in (
       omega arith,
       sums_stored d (take d.objectives v) w.all d.objectives w.i _
-          (length-take-le d.objectives v (omega (arith, long, s.requires.0.few)))
-          (omega (arith, s.requires.0.few, s.requires.0.few_sums)) c.sum_at.ensures w.invariant.1,
+          (length-take-le d.objectives v (omega (arith, long, c.requires.0.few)))
+          (omega (arith, c.requires.0.few, c.requires.0.few_sums)) c.sum_at.ensures w.invariant.1,
     )
 
 returns : tie.Need-returns invariant-loop decreases-loop

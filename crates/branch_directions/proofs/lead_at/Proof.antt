@@ -8,4 +8,4 @@ lead_at_spec =
     tie.close
     (tie.spec
     (λ c. rw (eq-eqb _ 0 c.if-d-eq0.true))  -- returns-then-d-eq0
-    (λ c. rw (ne_eqb _ 0 c.if-d-eq0.false)))  -- returns-else-d-eq0  -- returns-2
+    (λ c. rw (ne_eqb _ 0 c.if-d-eq0.false)))  -- returns-else-d-eq0

@@ -6,19 +6,16 @@ use Rattle.branch_directions.proofs.shares_at.Tie as tie
 
 returns : tie.Need-returns
 returns c =
-    let third = c in
-    let second = third in
-    let first = second in
-    let lead = first.least_share-least.ensures.1 in (
+    let lead = c.least_share-least.ensures.1 in (
       (
-        first.clamped.ensures.0,
-        (second.clamped-2.ensures.0, (third.clamped-3.ensures.0, (c.clamped-4.ensures.0, tt))),
+        c.clamped.ensures.0,
+        (c.clamped-2.ensures.0, (c.clamped-3.ensures.0, (c.clamped-4.ensures.0, tt))),
       ),
       λ z. (
-        omega (arith, lead z, first.clamped.ensures.1),
+        omega (arith, lead z, c.clamped.ensures.1),
         (
-          omega (arith, lead z, second.clamped-2.ensures.1),
-          (omega (arith, lead z, third.clamped-3.ensures.1), (omega (arith, lead z, c.clamped-4.ensures.1), tt)),
+          omega (arith, lead z, c.clamped-2.ensures.1),
+          (omega (arith, lead z, c.clamped-3.ensures.1), (omega (arith, lead z, c.clamped-4.ensures.1), tt)),
         ),
       ),
     )

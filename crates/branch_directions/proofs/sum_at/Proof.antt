@@ -15,21 +15,19 @@ row-of-requires c κs = omega (arith, c.requires.1)
 
 sum-of-requires : tie.Need-sum_of-requires
 sum-of-requires c κs =
-    let s = c in
-    let d = s.args.d in
+    let d = c.args.d in
     let small : ℕ → Type 0 = λ w. w ≤ max_weight in (
-      s.requires.0.few,
-      s.requires.2,
+      c.requires.0.few,
+      c.requires.2,
       all_take small d.objectives c.row_of.result
-          (row_all small d.weights c.row_of.result s.args.i c.row_of.ensures s.requires.0.small),
+          (row_all small d.weights c.row_of.result c.args.i c.row_of.ensures c.requires.0.small),
     )
 
 returns : tie.Need-returns
 returns c =
-    let s = c in
-    let d = s.args.d in
+    let d = c.args.d in
     c.sum_of.ensures
-    ∙ rw (c.row_of.ensures, take-take d.objectives 4 (drop (4 * s.args.i) d.weights) s.requires.0.few)
+    ∙ rw (c.row_of.ensures, take-take d.objectives 4 (drop (4 * c.args.i) d.weights) c.requires.0.few)
 
 pub sum_at_spec : {M : Type 1} → statement M
 sum_at_spec = tie.close (tie.spec

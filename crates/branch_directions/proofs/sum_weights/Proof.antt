@@ -29,15 +29,12 @@ rate-of-requires-4 c κs =
 
 returns : tie.Need-returns
 returns c =
-    let at = c in
-    let rates = at in
-    let s = rates in
-    let long = array_length w64 max_objectives s.args.shares _ s.well_formed.0 in
-    let shares = s.args.shares in
-    let weights = at.weight_of.result ∷ c.weight_of-2.result ∷ c.weight_of-3.result
+    let long = array_length w64 max_objectives c.args.shares _ c.well_formed.0 in
+    let shares = c.args.shares in
+    let weights = c.weight_of.result ∷ c.weight_of-2.result ∷ c.weight_of-3.result
     ∷ c.weight_of-4.result ∷ [] in (
       (
-        at.weight_of.ensures.0,
+        c.weight_of.ensures.0,
         (
           c.weight_of-2.ensures.0,
           (c.weight_of-3.ensures.0, (c.weight_of-4.ensures.0, tt)),
@@ -46,10 +43,10 @@ returns c =
       λ p.
           front_map (λ x. 1 ≤ x) (λ x. 1 ≤ x) 0 p shares weights (omega (arith, long)) (λ j l.
           four_each (λ k. 1 ≤ get_or shares k 0 → 1 ≤ get_or weights k 0)
-          (λ h. at.weight_of.ensures.1 (rates.rate_of-a.ensures h))
-          (λ h. c.weight_of-2.ensures.1 (rates.rate_of-b.ensures h))
-          (λ h. c.weight_of-3.ensures.1 (rates.rate_of-c.ensures h))
-          (λ h. c.weight_of-4.ensures.1 (rates.rate_of-d.ensures h))
+          (λ h. c.weight_of.ensures.1 (c.rate_of-a.ensures h))
+          (λ h. c.weight_of-2.ensures.1 (c.rate_of-b.ensures h))
+          (λ h. c.weight_of-3.ensures.1 (c.rate_of-c.ensures h))
+          (λ h. c.weight_of-4.ensures.1 (c.rate_of-d.ensures h))
           j (omega (arith, long))),
     )
 

@@ -7,10 +7,7 @@ use Rattle.branch_directions.proofs.sums_of.Tie as tie
 returns : tie.Need-returns
 unfolding sums_from
 returns c =
-    let third = c in
-    let second = third in
-    let first = second in
-    rw (first.sum_at.ensures, second.sum_at-2.ensures, third.sum_at-3.ensures, c.sum_at-4.ensures)
+    rw (c.sum_at.ensures, c.sum_at-2.ensures, c.sum_at-3.ensures, c.sum_at-4.ensures)
 
 pub sums_of_spec : {M : Type 1} → statement M
 sums_of_spec =

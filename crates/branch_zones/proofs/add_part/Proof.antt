@@ -23,44 +23,39 @@ front s = part_front s.args.d.objectives s.args.t s.args.z s.args.j s.requires.4
 
 returns : tie.Need-returns-then-z-j-eq0
 returns c =
-    let s = c in
-    let a = s.args in
-    part_none s.requires.1 s.requires.2
-    (λ o. absurd (omega (arith, get_or-take a.d.objectives a.z a.j 0 s.requires.4, c.if-z-j-eq0.true)))
+    let a = c.args in
+    part_none c.requires.1 c.requires.2
+    (λ o. absurd (omega (arith, get_or-take a.d.objectives a.z a.j 0 c.requires.4, c.if-z-j-eq0.true)))
 
 returns-2 : tie.Need-returns-then-is_held
 returns-2 c =
-    let s = c in
-    let a = s.args in
-    part_none s.requires.1 s.requires.2
-    (λ o. subst (Held a.d.objectives a.zones.now a.s.count a.s.free) (front s.before.before.before.before)
+    let a = c.args in
+    part_none c.requires.1 c.requires.2
+    (λ o. subst (Held a.d.objectives a.zones.now a.s.count a.s.free) (front c.before.before.before.before)
     (c.is_held.ensures c.if-is_held.true))
 
 put-zone-requires : tie.Need-put_zone-requires
 put-zone-requires c κs =
-    let s = c in
-    let a = s.args in (
-      s.requires.0,
-      s.requires.1.long,
-      s.requires.3,
-      subst (All Word) (sym (front s.before.before.before.before.before))
-          (part_words (take a.d.objectives a.t) (take a.d.objectives a.z) a.j s.requires.5
-          s.requires.6),
+    let a = c.args in (
+      c.requires.0,
+      c.requires.1.long,
+      c.requires.3,
+      subst (All Word) (sym (front c.before.before.before.before.before))
+          (part_words (take a.d.objectives a.t) (take a.d.objectives a.z) a.j c.requires.5
+          c.requires.6),
     )
 
 returns-3 : tie.Need-returns-then-free-count
 returns-3 c =
-    let s = c in
-    part_written _ _ _ s.requires.0 s.requires.1 s.requires.3
-    (written_as (front s.before.before.before.before.before.before.before.before.before) c.put_zone.ensures) refl
+    part_written _ _ _ c.requires.0 c.requires.1 c.requires.3
+    (written_as (front c.before.before.before.before.before.before.before.before.before) c.put_zone.ensures) refl
     (inl (c.if-free-count.true, refl))
 
 returns-4 : tie.Need-returns
 returns-4 c =
-    let s = c in
-    part_written _ _ _ s.requires.0 s.requires.1 s.requires.3
-    (written_as (front s.before.before.before.before.before.before.before.before.before) c.put_zone.ensures) refl
-    (inr (omega (arith, s.requires.2, c.if-free-count.false), refl))
+    part_written _ _ _ c.requires.0 c.requires.1 c.requires.3
+    (written_as (front c.before.before.before.before.before.before.before.before.before) c.put_zone.ensures) refl
+    (inr (omega (arith, c.requires.2, c.if-free-count.false), refl))
 
 pub add_part_spec : {M : Type 1} → statement M
 add_part_spec =

@@ -11,4 +11,4 @@ clamp_spec =
     (tie.spec
     (λ c. search rules)  -- overflow_cast-result
     (λ c. sym (clamped_small c.args.x c.if-x-lt4294967296.true))  -- returns-then-x-lt4294967296
-    (λ c. sym (clamped_large c.before.args.x c.if-x-lt4294967296.false)))  -- returns  -- returns-2
+    (λ c. sym (clamped_large c.before.args.x c.if-x-lt4294967296.false)))  -- returns

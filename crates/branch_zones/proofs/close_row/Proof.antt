@@ -11,25 +11,23 @@ use Rattle.branch_zones.proofs.close_row.Statement.{statement}
 use Rattle.branch_zones.proofs.close_row.Tie as tie
 
 returns : tie.Need-returns-then-free-count
-returns c = let s = c in closed_none s.requires.1 c.if-free-count.true
+returns c = closed_none c.requires.1 c.if-free-count.true
 
 put-zone-requires : tie.Need-put_zone-requires
-put-zone-requires c κs =
-    let s = c in (
-      s.requires.0,
-      s.requires.1.long,
-      omega (arith, s.requires.1.few, s.requires.2),
-      all_take Word s.args.d.objectives _ c.corner_at-last.ensures.1,
-    )
+put-zone-requires c κs = (
+  c.requires.0,
+  c.requires.1.long,
+  omega (arith, c.requires.1.few, c.requires.2),
+  all_take Word c.args.d.objectives _ c.corner_at-last.ensures.1,
+)
 
 returns-2 : tie.Need-returns
 returns-2 c =
-    let s = c in
-    let a = s.args in
-    let last = front_corner a.d.objectives a.zones.now (a.s.count - 1) _ s.requires.0.few
+    let a = c.args in
+    let last = front_corner a.d.objectives a.zones.now (a.s.count - 1) _ c.requires.0.few
     c.corner_at-last.ensures.0 in
-    closed_moved s.requires.0 s.requires.1
-    (omega (arith, s.requires.2, c.if-free-count.false))
+    closed_moved c.requires.0 c.requires.1
+    (omega (arith, c.requires.2, c.if-free-count.false))
     (written_as last c.put_zone.ensures)
 
 pub close_row_spec : {M : Type 1} → statement M

@@ -11,11 +11,10 @@ use Rattle.branch_zones.proofs.corner_at.Tie as tie
 
 returns : tie.Need-returns
 returns c =
-    let s = c in
     let read = c.numbers_at.ensures in (
       read,
       subst (All Word) (sym read)
-          (corner_words max_objectives s.args.zones.now s.args.i
+          (corner_words max_objectives c.args.zones.now c.args.i
           (λ k. omega (arith, c.shared_slice_known-1.given k))),
     )
 

@@ -23,4 +23,4 @@ find_zero_spec =
     (λ c. omega arith)  -- overflow_add-i
     (λ c. omega arith)  -- loop-i-smaller
     (λ c. omega arith)  -- loop-i-preserved
-    (λ c l. absurd (omega arith)))  -- returns  -- returns-2
+    (λ c l. absurd (omega arith)))  -- returns

@@ -20,31 +20,28 @@ top : (s : tie.Start) (r : List ℕ) → r ≡ lowered s.args.ceilings
 top s r e = ap (take s.args.d.objectives) e ∙ take_lowered s.args.d.objectives s.args.ceilings
 
 returns : tie.Need-returns-then-find_zero-p
-returns c =
-    let s = c in (
-      measured_none s.args.d s.args.zones.now s.requires.2,
-      refl,
-      inr (refl, (_, c.if-find_zero-p.true, c.find_zero.ensures c.if-find_zero-p.true)),
-    )
+returns c = (
+  measured_none c.args.d c.args.zones.now c.requires.2,
+  refl,
+  inr (refl, (_, c.if-find_zero-p.true, c.find_zero.ensures c.if-find_zero-p.true)),
+)
 
 put-zone-requires : tie.Need-put_zone-requires
-put-zone-requires c κs =
-    let s = c in (
-      s.requires.0,
-      s.requires.2,
-      omega arith,
-      subst (All Word) (sym (top s.before.before.before.before.before _ c.lower.ensures))
-          (lowered_words (take s.args.d.objectives s.args.ceilings) s.requires.1),
-    )
+put-zone-requires c κs = (
+  c.requires.0,
+  c.requires.2,
+  omega arith,
+  subst (All Word) (sym (top c.before.before.before.before.before _ c.lower.ensures))
+      (lowered_words (take c.args.d.objectives c.args.ceilings) c.requires.1),
+)
 
 returns-2 : tie.Need-returns
 returns-2 c =
-    let s = c in
     let w = c.put_zone.ensures in (
-      measured_written s.requires.0 w 0 (measured_none s.args.d s.args.zones.now s.requires.2) 1 (omega arith)
+      measured_written c.requires.0 w 0 (measured_none c.args.d c.args.zones.now c.requires.2) 1 (omega arith)
           (λ k l n. absurd (n (omega arith))),
       w.long,
-      inl (refl, w.corner ∙ top s.before.before.before.before.before.before.before.before _ c.lower.ensures),
+      inl (refl, w.corner ∙ top c.before.before.before.before.before.before.before.before _ c.lower.ensures),
     )
 
 pub first_zone_spec : {M : Type 1} → statement M

@@ -28,4 +28,4 @@ is_held_spec =
     (λ c. omega arith)  -- overflow_add-k
     (λ c. omega arith)  -- loop-k-smaller
     (λ c. omega arith)  -- loop-k-preserved
-    (λ c f. absurd (false≢true f)))  -- returns  -- returns-2
+    (λ c f. absurd (false≢true f)))  -- returns

@@ -10,12 +10,9 @@ use Rattle.branch_zones.proofs.is_part_of.Tie as tie
 
 returns-2 : tie.Need-returns
 returns-2 c =
-    let unmatched = c in
-    let read = unmatched in
-    let s = read in
-    let a = s.args in
+    let a = c.args in
     λ yes. ap (at_most (take a.p a.t))
-    (sym (front_corner a.p a.zones.now a.k _ s.requires.2 read.corner_at-corner.ensures.0))
+    (sym (front_corner a.p a.zones.now a.k _ c.requires.2 c.corner_at-corner.ensures.0))
     ∙ sym c.is_at_most-2.ensures
     ∙ yes
 

@@ -47,10 +47,10 @@ inside : (c : Looping) → c.loop-j.j < count_in (start c).args.from.now
 inside c l = (start c).requires.2.inside c.loop-j.j l
 
 add-clamp-bound : tie.Need-overflow_add-d invariant-loop decreases-loop
-add-clamp-bound c = let s = c in omega (arith, s.requires.0.few, s.requires.0.few_sums)
+add-clamp-bound c = omega (arith, c.requires.0.few, c.requires.0.few_sums)
 
 clamp-bound-requires : tie.Need-clamp_bound-least-requires invariant-loop decreases-loop
-clamp-bound-requires c κs = let s = c in omega (arith, s.requires.0.few, s.requires.0.few_sums)
+clamp-bound-requires c κs = omega (arith, c.requires.0.few, c.requires.0.few_sums)
 
 shared-slice-read-count : tie.Need-bounds-from-128 invariant-loop decreases-loop
 shared-slice-read-count c = omega (arith, (begun c.before).requires.2.long)
@@ -62,18 +62,15 @@ shared-slice-read-is-under : tie.Need-bounds-from-j invariant-loop decreases-loo
 shared-slice-read-is-under c = let s = start c.before.before in omega (arith, s.requires.2.few, s.requires.2.long)
 
 cast-is-under : tie.Need-overflow_cast-from invariant-loop decreases-loop
-cast-is-under c = let w = c in
-    omega (arith, inside w.before.before (omega arith), (start w.before.before).requires.1.few)
+cast-is-under c = omega (arith, inside c.before.before (omega arith), (start c.before.before).requires.1.few)
 
 mul-is-under : tie.Need-overflow_mul-from invariant-loop decreases-loop
-mul-is-under c = let w = c in
-    omega (arith, inside w.before.before (omega arith), (start w.before.before).requires.1.few)
+mul-is-under c = omega (arith, inside c.before.before (omega arith), (start c.before.before).requires.1.few)
 
 is-under-requires : tie.Need-is_under-requires invariant-loop decreases-loop
 is-under-requires c κs =
-    let w = c in
-    let s = start w.before.before in
-    omega (arith, inside w.before.before (omega arith), s.requires.1.few, s.requires.1.long)
+    let s = start c.before.before in
+    omega (arith, inside c.before.before (omega arith), s.requires.1.few, s.requires.1.long)
 
 loop-again : tie.Need-loop-j-preserved invariant-loop decreases-loop
 loop-again c =

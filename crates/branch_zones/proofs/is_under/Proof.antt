@@ -27,8 +27,7 @@ First = tie.After-is_at_most
 
 abbrev start : First → tie.Start
 start c =
-    let read = c in
-    read.before.before.before.before.before
+    c.before.before.before.before.before
 
 module _ (s : tie.Start) where
   abbrev least : List ℕ
@@ -53,10 +52,9 @@ read_four xs zones at e = ap (take 4) e ∙ take-take 4 4 (drop at zones) (omega
 
 first : (c : First) → c.is_at_most.result ≡ one (start c)
 first c =
-    let read = c in
     let s = start c in
     c.is_at_most.ensures
-    ∙ ap (at_most (take 4 (least s))) (read_four _ (zones s) s.args.at read.numbers_at.ensures)
+    ∙ ap (at_most (take 4 (least s))) (read_four _ (zones s) s.args.at c.numbers_at.ensures)
 
 returns : tie.Need-returns-then-not-is_at_most
 returns c =
@@ -66,9 +64,8 @@ returns c =
 returns-2 : tie.Need-returns
 returns-2 c =
     let read = c in
-    let passed = read in
-    let s = start passed.before.before.before.before.before in
-    let yes : one s ≡ true = sym (first passed.before.before.before.before.before) ∙ passed.if-not-is_at_most.false in
+    let s = start read.before.before.before.before.before in
+    let yes : one s ≡ true = sym (first read.before.before.before.before.before) ∙ read.if-not-is_at_most.false in
     let said : c.is_at_most-2.result ≡ two s =
     c.is_at_most-2.ensures
     ∙ ap (λ (u : List ℕ). at_most u (take 4 read.numbers_at-2.result))

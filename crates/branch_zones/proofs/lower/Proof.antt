@@ -9,13 +9,12 @@ use Rattle.branch_zones.proofs.lower.Tie as tie
 
 returns : tie.Need-returns
 returns c =
-    let s = c in
     rw (
       c.less_one.ensures,
       c.less_one-2.ensures,
       c.less_one-3.ensures,
       c.less_one-4.ensures,
-    ) (lowered_listed s.args.ceilings (array_length w64 max_objectives s.args.ceilings _ s.well_formed.0))
+    ) (lowered_listed c.args.ceilings (array_length w64 max_objectives c.args.ceilings _ c.well_formed.0))
 
 pub lower_spec : {M : Type 1} → statement M
 lower_spec =

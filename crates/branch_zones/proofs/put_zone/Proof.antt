@@ -31,22 +31,20 @@ module _ (s : tie.Start invariant-loop decreases-loop) where
       (omega (arith, array_length w64 max_objectives s.args.corner _ s.well_formed.1.0, s.requires.0.few))
 
 directions-of-requires : tie.Need-directions_of-all-requires invariant-loop decreases-loop
-directions-of-requires c κs =
-    let s = c in (
-      s.requires.0,
-      all_map Word (λ x. x < core_sum_end) (λ x l. omega arith) (take s.args.d.objectives s.args.corner)
-          s.requires.3,
-    )
+directions-of-requires c κs = (
+  c.requires.0,
+  all_map Word (λ x. x < core_sum_end) (λ x l. omega arith) (take c.args.d.objectives c.args.corner)
+      c.requires.3,
+)
 
 loop-holds : tie.Need-loop-j-init invariant-loop decreases-loop
 loop-holds c =
-    let s = c in
-    let a = s.args in
+    let a = c.args in
     copied_start a.zones.now (zone_width * a.i) (map clamped c.directions_of-all.result) zone_width
-    (omega (arith, s.requires))
+    (omega (arith, c.requires))
     (omega (
       arith,
-      row_long a.d (take a.d.objectives a.corner) _ s.requires.0 (wide s.before.before) c.directions_of-all.ensures,
+      row_long a.d (take a.d.objectives a.corner) _ c.requires.0 (wide c.before.before) c.directions_of-all.ensures,
     ))
 
 loop-again : tie.Need-loop-j-preserved invariant-loop decreases-loop
@@ -57,12 +55,11 @@ loop-again c =
 
 returns : tie.Need-returns invariant-loop decreases-loop
 returns c =
-    let s = c in
-    let a = s.args in
+    let a = c.args in
     let read = c.directions_of-all.ensures in
-    let full = row_long a.d (take a.d.objectives a.corner) _ s.requires.0 (wide s.before.before.before.before) read in
-    row_written a.d a.zones.now a.i (take a.d.objectives a.corner) _ _ s.requires.0 s.requires.1
-    s.requires.2 (wide s.before.before.before.before) s.requires.3 read
+    let full = row_long a.d (take a.d.objectives a.corner) _ c.requires.0 (wide c.before.before.before.before) read in
+    row_written a.d a.zones.now a.i (take a.d.objectives a.corner) _ _ c.requires.0 c.requires.1
+    c.requires.2 (wide c.before.before.before.before) c.requires.3 read
     (rw (take_all zone_width (map clamped c.directions_of-all.result) (omega (arith, full)))
     at (copied_end c.loop-j.invariant (omega arith)))
 

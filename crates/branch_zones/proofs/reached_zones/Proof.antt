@@ -34,8 +34,7 @@ Looping = tie.At-loop-j invariant-loop decreases-loop
 
 abbrev begun : Clamped → tie.Start invariant-loop decreases-loop
 begun c =
-    let known = c in
-    known.before.before.before.before.before
+    c.before.before.before.before.before
 
 abbrev clamped : Looping → Clamped
 clamped c = c.before.before
@@ -49,12 +48,11 @@ inside : (c : Looping) → c.loop-j.j < count_in (start c).args.from.now
 inside c l = (start c).requires.2.inside c.loop-j.j l
 
 add-clamp-bound : tie.Need-overflow_add-d invariant-loop decreases-loop
-add-clamp-bound c = let s = c in omega (arith, s.requires.0.few, s.requires.0.few_sums)
+add-clamp-bound c = omega (arith, c.requires.0.few, c.requires.0.few_sums)
 
 clamp-bound-requires : tie.Need-clamp_bound-least-requires invariant-loop decreases-loop
 clamp-bound-requires c κs =
-    let s = c in
-    omega (arith, s.requires.0.few, s.requires.0.few_sums)
+    omega (arith, c.requires.0.few, c.requires.0.few_sums)
 
 shared-slice-read-count : tie.Need-bounds-from-128 invariant-loop decreases-loop
 shared-slice-read-count c = omega (arith, (begun c.before).requires.2.long)
@@ -69,33 +67,28 @@ shared-slice-read-i : tie.Need-bounds-from-j invariant-loop decreases-loop
 shared-slice-read-i c = let s = start c.before.before in omega (arith, s.requires.2.few, s.requires.2.long)
 
 cast-is-under : tie.Need-overflow_cast-i invariant-loop decreases-loop
-cast-is-under c = let w = c in
-    omega (arith, inside w.before.before (omega arith), (start w.before.before).requires.1.few)
+cast-is-under c = omega (arith, inside c.before.before (omega arith), (start c.before.before).requires.1.few)
 
 mul-is-under : tie.Need-overflow_mul-i invariant-loop decreases-loop
-mul-is-under c = let w = c in
-    omega (arith, inside w.before.before (omega arith), (start w.before.before).requires.1.few)
+mul-is-under c = omega (arith, inside c.before.before (omega arith), (start c.before.before).requires.1.few)
 
 is-under-requires : tie.Need-is_under-requires invariant-loop decreases-loop
 is-under-requires c κs =
-    let w = c in
-    let s = start w.before.before in
-    omega (arith, inside w.before.before (omega arith), s.requires.1.few, s.requires.1.long)
+    let s = start c.before.before in
+    omega (arith, inside c.before.before (omega arith), s.requires.1.few, s.requires.1.long)
 
 slice-write-to : tie.Need-bounds-to-kept invariant-loop decreases-loop
 slice-write-to c =
-    let w = c in
     omega (
       arith,
-      (start w.before.before.before.before).requires.2.few,
-      w.loop-j.invariant.1.fewer,
-      w.loop-j.invariant.1.long,
+      (start c.before.before.before.before).requires.2.few,
+      c.loop-j.invariant.1.fewer,
+      c.loop-j.invariant.1.long,
     )
 
 add_kept : tie.Need-overflow_add-kept invariant-loop decreases-loop
 add_kept c =
-    let w = c in
-    omega (arith, (start w.before.before.before.before).requires.2.few, w.loop-j.invariant.1.fewer)
+    omega (arith, (start c.before.before.before.before).requires.2.few, c.loop-j.invariant.1.fewer)
 
 loop-again : tie.Need-loop-j-preserved invariant-loop decreases-loop
 loop-again c =
@@ -111,8 +104,7 @@ loop-again c =
 
 cast-to : tie.Need-overflow_cast-to invariant-loop decreases-loop
 cast-to c =
-    let w = c in
-    omega (arith, (start w.before).requires.2.few, w.loop-j.invariant.1.fewer)
+    omega (arith, (start c.before).requires.2.few, c.loop-j.invariant.1.fewer)
 
 slice-write-to-2 : tie.Need-bounds-to-128 invariant-loop decreases-loop
 slice-write-to-2 c = omega (arith, c.loop-j.invariant.1.long)

@@ -35,17 +35,16 @@ start c = c.before.before.before
 -- the zone is matched
 abbrev placed : Looping → Placed
 placed c =
-    let matched = c in
-    matched.before.before.before.before.before
+    c.before.before.before.before.before
 
 corner-at-requires : tie.Need-corner_at-t-requires invariant-loop decreases-loop
-corner-at-requires c κs = let s = c in omega (arith, s.requires.1.long, s.requires.1.few)
+corner-at-requires c κs = omega (arith, c.requires.1.long, c.requires.1.few)
 
 add-if1 : tie.Need-overflow_add-m invariant-loop decreases-loop
-add-if1 c = let s = c in omega (arith, s.requires.1.few, s.requires.0.few)
+add-if1 c = omega (arith, c.requires.1.few, c.requires.0.few)
 
 returns : tie.Need-returns-then-m-p invariant-loop decreases-loop
-returns c = let s = c in (zones_split_none _ s.requires.1, omega arith)
+returns c = (zones_split_none _ c.requires.1, omega arith)
 
 is-at-most-requires : tie.Need-is_at_most-requires invariant-loop decreases-loop
 is-at-most-requires c κs = let s = start c.before.before in search (rules, s.requires.0.few)
@@ -60,45 +59,39 @@ loop-holds c =
 
 add-part-requires : tie.Need-add_part-s-requires invariant-loop decreases-loop
 add-part-requires c κs =
-    let w = c in
-    let s = start (placed w.before.before) in
-    let u = w.loop-j.invariant.1 in (
+    let s = start (placed c.before.before) in
+    let u = c.loop-j.invariant.1 in (
       s.requires.0,
       u.measured,
       u.inside,
-      omega (arith, u.room, (placed w.before.before).if-m-p.false),
+      omega (arith, u.room, (placed c.before.before).if-m-p.false),
       omega arith,
-      all_take Word s.args.d.objectives _ (placed w.before.before).corner_at-t.ensures.1,
+      all_take Word s.args.d.objectives _ (placed c.before.before).corner_at-t.ensures.1,
       s.requires.3,
     )
 
 loop-again : tie.Need-loop-j-preserved invariant-loop decreases-loop
 loop-again c =
-    let added = c in
-    let w = added.loop-j in
-    (omega arith, splitting_next w.invariant.1 added.add_part-s.ensures)
+    let w = c.loop-j in
+    (omega arith, splitting_next w.invariant.1 c.add_part-s.ensures)
 
 close-row-requires : tie.Need-close_row-requires invariant-loop decreases-loop
 close-row-requires c κs =
-    let w = c in
-    ((start (placed w.before.before)).requires.0, w.loop-j.invariant.1.measured, w.loop-j.invariant.1.inside)
+    ((start (placed c.before.before)).requires.0, c.loop-j.invariant.1.measured, c.loop-j.invariant.1.inside)
 
 same-length-3 : tie.Need-shape_of-zones invariant-loop decreases-loop
 same-length-3 c =
-    let closed = c in
-    closed.close_row.ensures.long ∙ closed.loop-j.invariant.1.long
+    c.close_row.ensures.long ∙ c.loop-j.invariant.1.long
 
 returns-3 : tie.Need-returns invariant-loop decreases-loop
 returns-3 c =
-    let closed = c in
-    let w = closed in
-    let s = start (placed w.before.before.before.before.before) in
-    let e = closed.close_row.ensures in (
-      splitting_end w.loop-j.invariant.1 (omega arith)
+    let s = start (placed c.before.before.before.before.before) in
+    let e = c.close_row.ensures in (
+      splitting_end c.loop-j.invariant.1 (omega arith)
           (front_corner s.args.d.objectives s.args.zones.now s.args.i _ s.requires.0.few
-          (placed w.before.before.before.before.before).corner_at-t.ensures.0)
+          (placed c.before.before.before.before.before).corner_at-t.ensures.0)
           e,
-      omega (arith, w.loop-j.invariant.1.least, e.least),
+      omega (arith, c.loop-j.invariant.1.least, e.least),
     )
 
 pub split_zone_spec : {M : Type 1} → statement M

@@ -17,21 +17,18 @@ decreases-loop z m d zones₀ count₀ i₀ zones count i = i
 
 split-zone-requires : tie.Need-split_zone-count-requires invariant-loop decreases-loop
 split-zone-requires c κs =
-    let s = c in
     let w = c.loop-i in
-    (s.requires.0, w.invariant.1.measured, omega arith, s.requires.2)
+    (c.requires.0, w.invariant.1.measured, omega arith, c.requires.2)
 
 loop-again : tie.Need-loop-i-preserved invariant-loop decreases-loop
 loop-again c =
-    let s = c in
     let w = c.loop-i in
     let e = c.split_zone-count.ensures in
-    (omega (arith, e.1), zones_split_more s.requires.0 s.requires.1 w.invariant.1 e.0)
+    (omega (arith, e.1), zones_split_more c.requires.0 c.requires.1 w.invariant.1 e.0)
 
 returns : tie.Need-returns invariant-loop decreases-loop
 returns c =
-    let s = c in
-    let a = s.args in
+    let a = c.args in
     let w = c.loop-i in (
       w.invariant.1.measured,
       w.invariant.1.long,

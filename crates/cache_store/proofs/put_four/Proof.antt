@@ -22,4 +22,4 @@ put_four_spec =
     (λ c. search rules)  -- overflow_add-out-3
     (λ c. simp length-set (omega arith))  -- bounds-out-at-4
     (λ c. search rules)  -- shape_of-out
-    (λ c. four_stored c.args.x c.args.at c.args.out.now c.requires))  -- returns  -- returns
+    (λ c. four_stored c.args.x c.args.at c.args.out.now c.requires))  -- returns

@@ -8,4 +8,4 @@ lesser_spec =
     tie.close
     (tie.spec
     (λ c. search rules)  -- returns-then-a-b
-    (λ c. search rules))  -- returns  -- returns-2
+    (λ c. search rules))  -- returns

@@ -68,8 +68,11 @@ copied c = let chosen : tie.After-slice_known-5-1 = c.before.before.before.befor
 not-cut-requires : tie.Need-not_cut-requires
 not-cut-requires c κs =
     let early : tie.After-cut_refusal-early = c.before.before in
-    let at = early in
-    omega (arith, early.cut_refusal-early.ensures.place, (cut_limits (bytes at.before) (sides at.before) (length (memory at.before))).1)
+    omega (
+      arith,
+      early.cut_refusal-early.ensures.place,
+      (cut_limits (bytes early.before) (sides early.before) (length (memory early.before))).1,
+    )
 
 returns : tie.Need-returns-then-early-ne0
 returns c =

@@ -65,8 +65,15 @@ keep-half-requires-2 : tie.Need-keep_half-second-requires
 keep-half-requires-2 c κs =
     let half = first c.before in
     let s = start (widening half) in
-    let long = sides_long (problem_of s.args.s.now) s.args.sides.now s.requires.2 in
-    (s.requires.0, s.requires.1, long, omega arith, omega arith, omega (arith, s.requires.5, half.keep_half-first.ensures.long))
+    let long = sides_long (problem_of s.args.s.now) s.args.sides.now s.requires.2 in (
+      s.requires.0,
+      s.requires.1,
+      long,
+      omega arith,
+      omega arith,
+      omega
+          (arith, s.requires.5, half.keep_half-first.ensures.long),
+    )
 
 returns-2 : tie.Need-returns-then-second
 returns-2 c =

@@ -23,62 +23,55 @@ loop-holds c =
 
 next-sum-requires : tie.Need-next_sum-next-requires invariant-loop decreases-loop
 next-sum-requires c κs =
-    let s = c in
     let w = c.loop-k in
-    merging_halved s.requires.0 s.args.ceilings w.work w.k w.invariant.1 (omega arith)
+    merging_halved c.requires.0 c.args.ceilings w.work w.k w.invariant.1 (omega arith)
 
 same_length : tie.Need-shape_of-work-then-not-next invariant-loop decreases-loop
 same_length c = c.loop-k.invariant.1.same
 
 returns : tie.Need-returns-then-not-next invariant-loop decreases-loop
 returns c =
-    let s = c in
     let w = c.loop-k in
-    merging_done s.requires.0 s.args.ceilings w.work w.k w.invariant.1 c.next_sum-next.result
-    c.next_sum-next.ensures (not-true _ c.if-not-next.true) s.args.room w.invariant.0
+    merging_done c.requires.0 c.args.ceilings w.work w.k w.invariant.1 c.next_sum-next.result
+    c.next_sum-next.ensures (not-true _ c.if-not-next.true) c.args.room w.invariant.0
 
 store-point-requires : tie.Need-store_point-requires invariant-loop decreases-loop
 store-point-requires c κs =
-    let s = c in
     let w = c.loop-k in
-    (omega (arith, s.requires.0.long, w.invariant.1.same), omega arith, s.requires.0.objectives)
+    (omega (arith, c.requires.0.long, w.invariant.1.same), omega arith, c.requires.0.objectives)
 
 loop-again : tie.Need-loop-k-preserved invariant-loop decreases-loop
 loop-again c =
-    let s = c in
     let w = c.loop-k in
     let met = c.next_sum-next in (
       omega arith,
-      merging_next s.requires.0 s.args.ceilings w.work w.k w.invariant.1 met.result met.ensures
+      merging_next c.requires.0 c.args.ceilings w.work w.k w.invariant.1 met.result met.ensures
           (not-false _ c.if-not-next.false) (omega arith) _
           c.store_point.ensures,
     )
 
 next-sum-requires-2 : tie.Need-next_sum-last-requires invariant-loop decreases-loop
 next-sum-requires-2 c κs =
-    let s = c in
     let w = c.loop-k in
-    merging_halved s.requires.0 s.args.ceilings w.work w.k w.invariant.1 (omega arith)
+    merging_halved c.requires.0 c.args.ceilings w.work w.k w.invariant.1 (omega arith)
 
 same-length-2 : tie.Need-shape_of-work-then-last invariant-loop decreases-loop
 same-length-2 c = c.loop-k.invariant.1.same
 
 returns-2 : tie.Need-returns-then-last invariant-loop decreases-loop
 returns-2 c =
-    let s = c in
     let w = c.loop-k in
-    merging_full s.requires.0 s.args.ceilings w.work w.k w.invariant.1 c.next_sum-last.result
-    c.next_sum-last.ensures c.if-last.true s.args.room (omega arith)
+    merging_full c.requires.0 c.args.ceilings w.work w.k w.invariant.1 c.next_sum-last.result
+    c.next_sum-last.ensures c.if-last.true c.args.room (omega arith)
 
 same-length-3 : tie.Need-shape_of-work invariant-loop decreases-loop
 same-length-3 c = c.loop-k.invariant.1.same
 
 returns-3 : tie.Need-returns invariant-loop decreases-loop
 returns-3 c =
-    let s = c in
     let w = c.loop-k in
-    merging_done s.requires.0 s.args.ceilings w.work w.k w.invariant.1 c.next_sum-last.result
-    c.next_sum-last.ensures c.if-last.false s.args.room w.invariant.0
+    merging_done c.requires.0 c.args.ceilings w.work w.k w.invariant.1 c.next_sum-last.result
+    c.next_sum-last.ensures c.if-last.false c.args.room w.invariant.0
 
 pub merge_points_spec : {M : Type 1} → statement M
 merge_points_spec =

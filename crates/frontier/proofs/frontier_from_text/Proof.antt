@@ -11,7 +11,8 @@ returns c =
     let done : tie.After-problem_from_text-converted = lent.before.before in
     let a = done.args in
     let o = from_text_outcome a.text.now a.problem.now in
-    convert_export {o = o} done.problem_from_text-converted.result done.problem_from_text-converted.ensures _ _ _ c.tell.ensures
+    convert_export {o = o} done.problem_from_text-converted.result done.problem_from_text-converted.ensures _ _ _
+    c.tell.ensures
 
 pub frontier_from_text_spec : {M : Type 1} → statement M
 frontier_from_text_spec =

@@ -11,7 +11,8 @@ returns c =
     let done : tie.After-problem_to_text-converted = lent.before.before in
     let a = done.args in
     let o = to_text_outcome a.problem.now a.text.now in
-    convert_export {o = o} done.problem_to_text-converted.result done.problem_to_text-converted.ensures _ _ _ c.tell.ensures
+    convert_export {o = o} done.problem_to_text-converted.result done.problem_to_text-converted.ensures _ _ _
+    c.tell.ensures
 
 pub frontier_to_text_spec : {M : Type 1} → statement M
 frontier_to_text_spec =

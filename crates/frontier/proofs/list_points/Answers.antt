@@ -1,4 +1,4 @@
--- `list_points` meets its contract: what was listed in work memory is copied out as records, and work memory is settled.
+-- `list_points` meets its contract: what was listed is copied out as records, and work memory is settled.
 use Rattle.std.proofs.Common.{sym, subst}
 use Rattle.answers.specs.declared.Answer.{Answer}
 use Rattle.model.specs.Calls.{list_outcome}

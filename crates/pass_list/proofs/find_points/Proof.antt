@@ -35,9 +35,8 @@ ended c = c.before.before
 
 loop-holds : tie.Need-loop-k-init invariant-loop decreases-loop
 loop-holds c =
-    let s = c in
-    let a = s.args in
-    (omega arith, passing_start a.task a.sizes.now a.s.now a.work.now s.requires.0.grouped)
+    let a = c.args in
+    (omega arith, passing_start a.task a.sizes.now a.s.now a.work.now c.requires.0.grouped)
 
 next-point-requires : tie.Need-next_point-best-requires invariant-loop decreases-loop
 next-point-requires c κs =

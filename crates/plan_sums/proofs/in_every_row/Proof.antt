@@ -26,4 +26,4 @@ in_every_row_spec =
     (λ c. search rules)  -- overflow_add-i
     (λ c. search rules)  -- loop-i-smaller
     (λ c. search rules)  -- loop-i-preserved
-    (λ c. search rules))  -- returns  -- returns
+    (λ c. search rules))  -- returns

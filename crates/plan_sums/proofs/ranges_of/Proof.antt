@@ -46,4 +46,4 @@ ranges_of_spec =
     (λ c. search rules)  -- overflow_add-j
     (λ c. search rules)  -- loop-j-smaller
     (λ c. (search rules, search rules, search rules, search rules))  -- loop-j-preserved
-    (λ c. search rules))  -- returns  -- returns
+    (λ c. search rules))  -- returns

@@ -27,4 +27,4 @@ shares_for_spec =
     (λ c. search rules)  -- overflow_add-i
     (λ c. search rules)  -- loop-i-smaller
     (λ c. search rules)  -- loop-i-preserved
-    (λ c. search rules))  -- returns  -- returns
+    (λ c. search rules))  -- returns

@@ -26,23 +26,19 @@ loop-holds c =
 put-choice-requires : tie.Need-put_choice-requires invariant-loop decreases-loop
 put-choice-requires c κs =
     let w = c.loop-row in
-    let s = c in
-    let a = s.args in
-    let room = row_room a.n a.k w.row (length a.choices.now) s.requires.3 (omega arith) in
-    (s.requires.2, omega (arith, room, out_length w.invariant.1))
+    let a = c.args in
+    let room = row_room a.n a.k w.row (length a.choices.now) c.requires.3 (omega arith) in
+    (c.requires.2, omega (arith, room, out_length w.invariant.1))
 
 loop-again : tie.Need-loop-row-preserved invariant-loop decreases-loop
 loop-again c =
-    let put = c in
-    let read = put in
-    let w = read.loop-row in
-    let s = read in
-    let a = s.args in
+    let w = c.loop-row in
+    let a = c.args in
     let work = a.work.now in
-    let room = row_room a.n a.k w.row (length a.choices.now) s.requires.3 (omega arith) in
-    let row : take a.n read.row_choice.result ≡ values_in a.n work w.row =
-    rw read.row_choice.ensures (values_front work w.row a.n max_variables s.requires.2) in
-    (omega arith, out_next w.invariant.1 room (values_long work w.row a.n) _ (rw row at put.put_choice.ensures))
+    let room = row_room a.n a.k w.row (length a.choices.now) c.requires.3 (omega arith) in
+    let row : take a.n c.row_choice.result ≡ values_in a.n work w.row =
+    rw c.row_choice.ensures (values_front work w.row a.n max_variables c.requires.2) in
+    (omega arith, out_next w.invariant.1 room (values_long work w.row a.n) _ (rw row at c.put_choice.ensures))
 
 returns : tie.Need-returns invariant-loop decreases-loop
 returns c =

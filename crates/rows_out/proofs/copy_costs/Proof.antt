@@ -28,29 +28,24 @@ loop-holds c =
 
 put-costs-requires : tie.Need-put_costs-requires invariant-loop decreases-loop
 put-costs-requires c κs =
-    let read = c in
-    let w = read.loop-row in
-    let s = read in
-    let a = s.args in
+    let w = c.loop-row in
+    let a = c.args in
     let work = a.work.now in
-    let room = row_room a.p a.k w.row (length a.costs.now) s.requires.3 (omega arith) in
-    let words = row_has a.p a.n work WordCosts 0 a.k s.requires.4 w.row (omega arith) in
-    let front = costs_front work w.row a.p max_objectives s.requires.2 in
+    let room = row_room a.p a.k w.row (length a.costs.now) c.requires.3 (omega arith) in
+    let words = row_has a.p a.n work WordCosts 0 a.k c.requires.4 w.row (omega arith) in
+    let front = costs_front work w.row a.p max_objectives c.requires.2 in
     let here = rw zero-add at words in
-    (s.requires.2, omega (arith, room, out_length w.invariant.1), rw (read.row_costs.ensures, front) here)
+    (c.requires.2, omega (arith, room, out_length w.invariant.1), rw (c.row_costs.ensures, front) here)
 
 loop-again : tie.Need-loop-row-preserved invariant-loop decreases-loop
 loop-again c =
-    let put = c in
-    let read = put in
-    let w = read.loop-row in
-    let s = read in
-    let a = s.args in
+    let w = c.loop-row in
+    let a = c.args in
     let work = a.work.now in
-    let room = row_room a.p a.k w.row (length a.costs.now) s.requires.3 (omega arith) in
-    let row : take a.p read.row_costs.result ≡ costs_in a.p work w.row =
-    rw read.row_costs.ensures (costs_front work w.row a.p max_objectives s.requires.2) in
-    (omega arith, out_next w.invariant.1 room (costs_long work w.row a.p) _ (rw row at put.put_costs.ensures))
+    let room = row_room a.p a.k w.row (length a.costs.now) c.requires.3 (omega arith) in
+    let row : take a.p c.row_costs.result ≡ costs_in a.p work w.row =
+    rw c.row_costs.ensures (costs_front work w.row a.p max_objectives c.requires.2) in
+    (omega arith, out_next w.invariant.1 room (costs_long work w.row a.p) _ (rw row at c.put_costs.ensures))
 
 returns : tie.Need-returns invariant-loop decreases-loop
 returns c =

@@ -12,31 +12,26 @@ use Rattle.rows_out.proofs.point_at.Tie as tie
 
 put-costs-requires : tie.Need-put_costs-requires
 put-costs-requires c κs =
-    let read = c in
-    let s = read in
-    let front = costs_front s.args.work.now s.args.row s.args.p max_objectives s.requires.3 in
-    (s.requires.3, omega arith, rw (read.row_costs.ensures, front) s.requires.4)
+    let front = costs_front c.args.work.now c.args.row c.args.p max_objectives c.requires.3 in
+    (c.requires.3, omega arith, rw (c.row_costs.ensures, front) c.requires.4)
 
 returns : tie.Need-returns
 returns c =
-    let values = c in
-    let costs-put = values in
-    let costs = costs-put in
-    let s = costs in
-    let a = s.args in
+    let costs = c in
+    let a = costs.args in
     let work = a.work.now in
     let row-costs : take a.p costs.row_costs.result ≡ costs_in a.p work a.row =
-    rw costs.row_costs.ensures (costs_front work a.row a.p max_objectives s.requires.3) in
-    let row-values : take a.n values.row_choice.result ≡ values_in a.n work a.row =
-    rw values.row_choice.ensures (values_front work a.row a.n max_variables s.requires.2) in
+    rw costs.row_costs.ensures (costs_front work a.row a.p max_objectives costs.requires.3) in
+    let row-values : take a.n c.row_choice.result ≡ values_in a.n work a.row =
+    rw c.row_choice.ensures (values_front work a.row a.n max_variables costs.requires.2) in
     let four = costs_long work a.row max_objectives in
     let all = values_long work a.row max_variables in
     let padded-costs =
-    front_over_zeros max_objectives a.p costs.row_costs.result s.requires.3
-    (rw costs.row_costs.ensures (omega (arith, four))) _ costs-put.put_costs.ensures in
+    front_over_zeros max_objectives a.p costs.row_costs.result costs.requires.3
+    (rw costs.row_costs.ensures (omega (arith, four))) _ c.put_costs.ensures in
     let padded-choice =
-    front_over_zeros max_variables a.n values.row_choice.result s.requires.2
-    (rw values.row_choice.ensures (omega (arith, all))) _ c.put_choice.ensures in
+    front_over_zeros max_variables a.n c.row_choice.result costs.requires.2
+    (rw c.row_choice.ensures (omega (arith, all))) _ c.put_choice.ensures in
     let costs_are = rw row-costs at padded-costs in
     let choice-is = rw row-values at padded-choice in
     λ i. record { costs = costs_are i; choice = choice-is i }

@@ -28,10 +28,9 @@ loop-holds c =
 
 cast-costs : tie.Need-overflow_cast-costs invariant-loop decreases-loop
 cast-costs c =
-    let s = c in
     omega (
       arith,
-      front_each Word 0 s.args.count s.args.row (omega (arith, s.requires.0, long_row s.before.before)) s.requires.2
+      front_each Word 0 c.args.count c.args.row (omega (arith, c.requires.0, long_row c.before.before)) c.requires.2
           c.loop-i.i (omega arith),
     )
 

@@ -15,8 +15,7 @@ divided_is a (suc b) h = refl
 
 returns : tie.Need-returns
 returns c =
-    let s = c in
-    rw (divided_is s.args.costs s.args.p s.requires.0, divided_is s.args.choices s.args.n s.requires.1)
+    rw (divided_is c.args.costs c.args.p c.requires.0, divided_is c.args.choices c.args.n c.requires.1)
     (c.lesser-2.ensures ∙ ap (min _) c.lesser.ensures)
 
 pub room_of_spec : {M : Type 1} → statement M

@@ -39,8 +39,7 @@ returns-2 c =
 
 check-functions-requires : tie.Need-check_functions-requires
 check-functions-requires c κs =
-    let front = c in
-    let light = front.before.before.before in
+    let light = c.before.before.before in
     let sum = light.before in
     let sized = sum.before.before.before in
     let bare = sized.before.before in
@@ -55,8 +54,8 @@ check-functions-requires c κs =
       light.if-finding-ge2.false,
       plain_limits says start.requires.1 short index _ same sized.check_sizes-sizes.result
           sized.check_sizes-sizes.ensures
-          sum.and_then-finding.result sum.and_then-finding.ensures light.if-finding-ge2.false front.front_bytes.result
-          front.front_bytes.ensures,
+          sum.and_then-finding.result sum.and_then-finding.ensures light.if-finding-ge2.false c.front_bytes.result
+          c.front_bytes.ensures,
     )
 
 returns-3 : tie.Need-returns
