@@ -1,6 +1,6 @@
 -- `branch_search::explore` meets its contract. The invariant: between passes there is an archive; after a pass it is
 -- the list, or more than that, or the next pass follows, or the search is given up and the archive stays.
-use Rattle.std.proofs.Common.{ℕ, ◌-◌, ◌≤◌, List, length, sym, refl, ◌∙◌, arith, rules}
+use Rattle.std.proofs.Common.{◌≡◌, ℕ, ◌-◌, ◌≤◌, List, length, sym, refl, ◌∙◌, arith, rules}
 use Rattle.model.specs.Core.{core_frontier}
 use Rattle.groups.specs.Sources.{source_problem}
 use Rattle.groups.proofs.Tasks.{ceilings_long}
@@ -40,26 +40,6 @@ Looping = tie.At-loop-pass invariant-loop decreases-loop
 abbrev Ran : Type 0
 Ran = tie.After-run_pass-t invariant-loop decreases-loop
 
--- and what the type of its memory says
-abbrev Left : Type 0
-Left = tie.After-slice_known-in-loop-pass-1 invariant-loop decreases-loop
-
--- which was not given up
-abbrev Whole : Type 0
-Whole = tie.Else-t-eq0 invariant-loop decreases-loop
-
--- left no more points than there is room for
-abbrev Held : Type 0
-Held = tie.Else-t-task invariant-loop decreases-loop
-
--- and left nothing out
-abbrev Ended : Type 0
-Ended = tie.Then-t invariant-loop decreases-loop
-
--- the list is in order
-abbrev Ordered : Type 0
-Ordered = tie.After-sort_points invariant-loop decreases-loop
-
 -- ## the way back from each to an earlier one
 
 abbrev start : Known → Begun
@@ -70,24 +50,6 @@ known c = c.before
 
 abbrev looping : Ran → Looping
 looping c = c.before.before.before
-
-abbrev ran : Left → Ran
-ran c = c.before.before
-
-abbrev left : Whole → Left
-left c = c.before.before
-
-abbrev whole : Held → Whole
-whole c = c.before.before.before
-
-abbrev held : Ended → Held
-held c = c.before.before
-
-abbrev ended : Ordered → Ended
-ended c = c.before.before
-
-abbrev passed : Held → Ran
-passed c = ran (left (whole c))
 
 -- ## what is known after a pass
 
@@ -136,10 +98,6 @@ module _ (c : Ran) where
   fewer : c.run_pass-t.result.left ≤ begun.args.from.budget
   fewer = omega (arith, c.run_pass-t.ensures.fewer, (looping c).loop-pass.invariant.3)
 
--- it was not given up
-some_left : (c : Whole) → 1 ≤ (ran (left c)).run_pass-t.result.left
-some_left c = omega (arith, c.if-t-eq0.false)
-
 loop-holds : tie.Need-loop-pass-init invariant-loop decreases-loop
 loop-holds c =
     let b = start c in
@@ -157,63 +115,31 @@ run-pass-requires c κs =
           w.loop-pass.points w.loop-pass.invariant.2,
     )
 
-same_length : tie.Need-shape_of-work-then-t-eq0 invariant-loop decreases-loop
+same_length : tie.Need-shape_of-work-then-t-task invariant-loop decreases-loop
 same_length c =
-    let p = ran c.before.before.before in
-    p.run_pass-t.ensures.still.long ∙ (kept p).long
-
-returns : tie.Need-returns-then-t-eq0 invariant-loop decreases-loop
-returns c =
-    let p = ran c.before.before.before in
-    let a = (begun p).args in
-    let still = still_trans (kept p) p.run_pass-t.ensures.still in
-    rw c.given_up.ensures
-    (undecided a.task (length (ds p)) _ _ a.from.budget a.work.now (after_pass p) _ _ still (next p)
-    (fewer p))
-
-same-length-2 : tie.Need-shape_of-work-then-t-task invariant-loop decreases-loop
-same-length-2 c =
-    let p = ran (left c.before.before.before) in
+    let p : Ran = c.before.before.before.before.before.before.before in
     p.run_pass-t.ensures.still.long ∙ (kept p).long
 
 returns-2 : tie.Need-returns-then-t-task invariant-loop decreases-loop
 returns-2 c =
-    let w : Whole = c.before.before.before in
-    let p = ran (left w) in
+    let p : Ran = c.before.before.before.before.before.before.before in
+    let some : 1 ≤ p.run_pass-t.result.left = omega arith in
     let weights = weights_long (begun p).args.d _ (begun p).well_formed.1.1.1.1.0 in
-    let full = passed_full (ready p) (four p) p.run_pass-t.ensures (some_left w) weights c.if-t-task.true in
+    let full = passed_full (ready p) (four p) p.run_pass-t.ensures some weights c.if-t-task.true in
     (from_start p (after_pass p) _ (full _), ended_left _ _ _ _ _ refl (fewer p))
 
 sort-points-requires : tie.Need-sort_points-requires invariant-loop decreases-loop
 sort-points-requires c κs =
-    let p = passed (held c.before) in
+    let p : Ran = c.before.before.before.before.before.before.before.before.before.before in
     let r = p.run_pass-t.ensures in (
       omega (arith, (ready p).long, r.still.long),
       omega (arith, r.running.few, (ready p).room_small),
       (ready p).planned.sensible.few,
     )
 
-same-length-3 : tie.Need-shape_of-work-then-t invariant-loop decreases-loop
-same-length-3 c =
-    let sorted : Ordered = c.before.before in
-    let p = passed (held (ended sorted)) in
-    sorted.sort_points.ensures.0.long ∙ p.run_pass-t.ensures.still.long ∙ (kept p).long
-
-returns-3 : tie.Need-returns-then-t invariant-loop decreases-loop
-returns-3 c =
-    let sorted : Ordered = c.before.before in
-    let e = ended sorted in
-    let few = held e in
-    let p = passed few in
-    let order = sorted.sort_points.ensures in
-    let some = some_left (whole few) in
-    let listed = passed_list (ready p) (four p) p.run_pass-t.ensures some few.if-t-task.false e.if-t.true in
-    let list = listed _ order.0 (order.1 (length (ds p)) (ready p).planned.variables) in
-    (from_start p _ _ (list _), ended_left _ _ _ _ _ refl (fewer p))
-
 loop-again : tie.Need-loop-pass-preserved invariant-loop decreases-loop
 loop-again c =
-    let p = passed c.before.before in
+    let p : Ran = c.before.before.before.before.before.before.before.before.before in
     (omega arith, still_trans (kept p) p.run_pass-t.ensures.still, next p, fewer p)
 
 returns-4 : tie.Need-returns invariant-loop decreases-loop
@@ -234,13 +160,30 @@ explore_spec =
     run-pass-requires
     (λ c. search rules)  -- overflow_add-pass
     (λ c κs. search rules)  -- given_up-requires
+    (λ c.
+    let p : Ran = c.before.before.before.before.before in
+    p.run_pass-t.ensures.still.long ∙ (kept p).long)  -- the memory of a pass that was given up
+    (λ c.
+    let p : Ran = c.before.before.before.before.before in
+    let a = (begun p).args in
+    let still = still_trans (kept p) p.run_pass-t.ensures.still in
+    rw c.given_up.ensures
+    (undecided a.task (length (ds p)) _ _ a.from.budget a.work.now (after_pass p) _ _ still (next p)
+    (fewer p)))  -- and its answer
     same_length
-    returns
-    same-length-2
     returns-2
     sort-points-requires
-    same-length-3
-    returns-3
+    (λ c.
+    let p : Ran = c.before.before.before.before.before.before.before.before.before.before.before.before.before in
+    c.sort_points.ensures.0.long ∙ p.run_pass-t.ensures.still.long ∙ (kept p).long)  -- the memory of the last pass
+    (λ c.
+    let p : Ran = c.before.before.before.before.before.before.before.before.before.before.before.before.before in
+    let order = c.sort_points.ensures in
+    let some : 1 ≤ p.run_pass-t.result.left = omega arith in
+    let last : p.run_pass-t.result.limit ≡ 18446744073709551615 = omega arith in
+    let listed = passed_list (ready p) (four p) p.run_pass-t.ensures some c.if-t-task.false last in
+    let list = listed _ order.0 (order.1 (length (ds p)) (ready p).planned.variables) in
+    (from_start p _ _ (list _), ended_left _ _ _ _ _ refl (fewer p)))  -- and its answer
     (λ c. search rules)  -- loop-pass-smaller
     loop-again
     (λ c κs. search rules)  -- given_up-requires-2

@@ -82,7 +82,7 @@ module _ (c : tie.Else-lead_of-run) where
   begun = entry tested
 
   allowed : under (take (p begun) (acc begun)) (take (p begun) (ceilings begun)) ≡ true
-  allowed = met tested true c.if-not-is_under.false
+  allowed = met tested true (search rules)
 
   early : get_or (acc begun) (lead_at begun.args.aim.d) 0 < begun.args.run.limit
   early = omega (arith, c.lead_of.ensures, c.if-lead_of-run.false)
@@ -111,11 +111,6 @@ module _ (c : tie.After-take_point-t) where
 
   memory : list_end ≤ length after
   memory = omega (arith, start.requires.ready.long, c.take_point-t.ensures.frame.long)
-
-returns : tie.Need-returns-then-not-is_under
-returns c =
-    let s = entry c.before in
-    opened_same s.requires (λ some. over_covers s.requires (wide s) (met c.before false c.if-not-is_under.true))
 
 returns-2 : tie.Need-returns-then-lead_of-run
 returns-2 c =
@@ -210,7 +205,9 @@ take_leaf_spec =
     (tie.spec
     (λ c κs. search rules)  -- front_of-costs-requires
     (λ c κs. search rules)  -- is_under-requires
-    returns
+    (λ c.
+    let s = entry c.before in
+    opened_same s.requires (λ some. over_covers s.requires (wide s) (met c.before false (search rules))))  -- over one
     (λ c κs. search rules)  -- lead_of-requires
     returns-2
     (λ c κs. search rules)  -- stop-requires
