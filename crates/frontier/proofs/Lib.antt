@@ -11,5 +11,3 @@ pub mod TextBack
 pub mod EqualForms
 pub mod CachedRuns
 pub mod BatchTurns
-
--- walks by hand
