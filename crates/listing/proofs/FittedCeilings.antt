@@ -25,7 +25,7 @@ fitted_short cs ms fs fit short =
 under_fitted : (xs cs fs : List ℕ) → length xs ≡ length cs → length fs ≡ length cs
     →
     ((j : ℕ) → j < length cs
-        → (get_or fs j 0 ≤ get_or cs j 0) × (get_or xs j 0 < get_or cs j 0 → get_or xs j 0 < get_or fs j 0))
+    → (get_or fs j 0 ≤ get_or cs j 0) × (get_or xs j 0 < get_or cs j 0 → get_or xs j 0 < get_or fs j 0))
     → under xs fs ≡ under xs cs
 unfolding under
 under_fitted [] cs fs e d h = refl

@@ -64,7 +64,7 @@ module _ {r : ℕ} {ds s work : List ℕ} (p : Plannable r ds s work) where
   -- the places are copied
   pub copy_asked :
       (source_at + r ≤ length work) × (list_end + r ≤ length work)
-          × ((source_at + r ≤ list_end) ⊎ (list_end + r ≤ source_at))
+      × ((source_at + r ≤ list_end) ⊎ (list_end + r ≤ source_at))
   copy_asked = (omega (arith, p.few, p.long), fits, inl (omega (arith, p.few)))
 
   module _ (copied : List ℕ) (is : copied ≡ over work list_end (source_in work r) (list_end + r)) where

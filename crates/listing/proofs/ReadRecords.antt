@@ -83,7 +83,7 @@ module _ (s : List ℕ) (g : DG.Reading) (a : AcceptedReading s g) where
       let weighs = subst Weighable (sym same_problem) (weighable (problem_of s) rules) in
       subst (λ (q : Problem). FoundFor q room w w1 f) same_problem
       (subst (λ (fs : List Point). FoundSays p (length sizes_of) fs room w w1 f) (core_frontier_lem searched weighs)
-          says)
+      says)
 
   -- a half's is that of the core, under ceilings of its own
   module _ (side : ℕ) (ss ceilings : List ℕ) where

@@ -57,7 +57,7 @@ since :
 since c =
     let w = looping c in
     turned_since (begun w).requires w.loop-turn.invariant.1 _ c.search_turn-explored.result
-        c.search_turn-explored.ensures
+    c.search_turn-explored.ensures
 
 -- there was a turn to take
 below : (c : Turning) → (looping c).loop-turn.turn + 1 ≤ 5
