@@ -44,10 +44,8 @@ fn count_nonzero(s: &[u8], at: usize, sizes: &[u8]) -> u32
 {
     let entries = costs::entries_of(s, at, sizes);
     let mut count: u32 = 0;
-    let mut i: usize = 0;
-    while i < entries {
+    for i in 0..entries {
         count += tuple_of(costs::number_at(s, at, i, sizes));
-        i += 1;
     }
     count
 }
@@ -60,9 +58,7 @@ fn values_at(s: &[u8], at: usize, i: usize, sizes: &[u8]) -> [u8; 3]
 {
     let mut values = [0u8; 3];
     let mut left = i;
-    let mut k = problem::arity_at(s, at);
-    while k > 0 {
-        k -= 1;
+    for k in (0..problem::arity_at(s, at)).rev() {
         let v = problem::scope_at(s, at, k);
         let d = sizes[v] as usize;
         values[k] = (left % d) as u8;
@@ -105,10 +101,8 @@ fn put_tuples(s: &[u8], at: usize, sizes: &[u8], bound: u32, to: usize, out: &mu
 {
     let entries = costs::entries_of(s, at, sizes);
     let mut next = to;
-    let mut k: usize = 0;
-    while k < entries {
+    for k in 0..entries {
         next = put_entry(s, at, k, sizes, bound, next, out);
-        k += 1;
     }
     next
 }
@@ -161,11 +155,9 @@ fn put_functions(
 {
     let mut here = at;
     let mut next = to;
-    let mut left = r;
-    while left > 0 {
+    for _ in 0..r {
         next = put_function(s, here, sizes, bound, next, out);
         here = problem::place_after(s, here, sizes);
-        left -= 1;
     }
     next
 }
@@ -175,12 +167,8 @@ fn largest_of(sizes: &[u8]) -> u8
     ensures { result ≡ largest_of sizes.now }
 {
     let mut largest: u8 = 0;
-    let mut i = sizes.len();
-    while i > 0 {
-        i -= 1;
-        if largest < sizes[i] {
-            largest = sizes[i];
-        }
+    for size in sizes {
+        largest = largest.max(*size);
     }
     largest
 }
