@@ -131,12 +131,10 @@ fn read_domains(s: &[u8], at: usize, count: usize) -> Domains
 {
     let mut sizes = [0u8; 24];
     let mut end = at;
-    let mut i: usize = 0;
-    while i < count {
+    for i in 0..count {
         let size = text_words::read_number(s, end);
         sizes[i] = size.value as u8;
         end = size.end;
-        i += 1;
     }
     Domains { count, sizes, end }
 }
@@ -148,11 +146,9 @@ fn put_domains(d: Domains, at: usize, out: &mut [u8]) -> usize
     let count = d.count;
     let sizes = d.sizes;
     let mut next = at;
-    let mut i: usize = 0;
-    while i < count {
+    for i in 0..count {
         let size = put_pair(b'D', b'O', next, out);
         next = text_lines::put_byte(sizes[i], size, out);
-        i += 1;
     }
     next
 }
@@ -166,8 +162,7 @@ fn read_scope(s: &[u8], at: usize, arity: usize, d: Domains) -> Scope
     let mut sizes = [0u8; 3];
     let mut size: usize = 1;
     let mut end = at;
-    let mut i: usize = 0;
-    while i < arity {
+    for i in 0..arity {
         let read = text_words::read_number(s, end);
         let variable = read.value as usize;
         let domain = domains[variable];
@@ -175,7 +170,6 @@ fn read_scope(s: &[u8], at: usize, arity: usize, d: Domains) -> Scope
         sizes[i] = domain;
         size = size * (domain as usize);
         end = read.end;
-        i += 1;
     }
     Scope {
         arity,
@@ -211,10 +205,8 @@ fn put_table_head(scope: Scope, at: usize, out: &mut [u8]) -> usize
     let variables = scope.variables;
     let mark = put_pair(b'C', b'F', at, out);
     let mut next = put_pair(0, arity as u8, mark, out);
-    let mut i: usize = 0;
-    while i < arity {
+    for i in 0..arity {
         next = text_lines::put_byte(variables[i], next, out);
-        i += 1;
     }
     next
 }
@@ -225,10 +217,8 @@ fn fill_costs(cost: u32, size: usize, at: usize, out: &mut [u8]) -> usize
     ensures { Written at (word_bytes (replicate size cost)) out.old out.new result }
 {
     let mut next = at;
-    let mut i: usize = 0;
-    while i < size {
+    for _ in 0..size {
         next = put_four(cost, next, out);
-        i += 1;
     }
     next
 }
@@ -253,10 +243,8 @@ fn put_tuples(s: &[u8], f: Function, to: usize, out: &mut [u8]) -> usize
     let scope = f.scope;
     let count = f.count;
     let mut next = f.end;
-    let mut k: u64 = 0;
-    while k < count {
+    for _ in 0..count {
         next = put_tuple(s, next, scope, to, out);
-        k += 1;
     }
     next
 }
@@ -284,10 +272,8 @@ fn put_functions(s: &[u8], at: usize, count: u64, d: Domains, to: usize, out: &m
         out.old out.new result }
 {
     let mut next = Next { at, to };
-    let mut k: u64 = 0;
-    while k < count {
+    for _ in 0..count {
         next = put_function(s, next.at, d, next.to, out);
-        k += 1;
     }
     next.to
 }
