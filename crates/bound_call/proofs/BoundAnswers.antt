@@ -5,9 +5,8 @@ use mathlib.Core.List.{List, [], ◌∷◌}
 use Prim.Native.Nat.{ℕ, ◌+◌, ◌<◌}
 use native.Mathlib.Omega.{arith}
 use lib.Dec.{eqb}
-use borrow.Author.Tests.{ne_eqb}
 use Rattle.model.specs.Limits.{max_objectives}
-use Rattle.model.specs.Refusals.{bad_prefix}
+use Rattle.model.specs.Refusals.{verdict}
 use Rattle.model.specs.Problems.{Table}
 use Rattle.model.specs.Reading.{head_objectives, head_tables, domains_of, tables_start, tables_at, verdict_of}
 use Rattle.model.specs.Reading.{problem_of}
@@ -17,30 +16,28 @@ use Rattle.model.specs.Calls.{padded, bound_verdict, bound_outcome}
 use Rattle.model.proofs.Elements.{all_map}
 use Rattle.model.proofs.Totals.{totals_length, totals_padded}
 use Rattle.model.proofs.Reading.{accepted_place, accepted_parts, accepted_owners}
-use Rattle.bound_call.specs.declared.Least as DL
+use Rattle.model.specs.Reasons.{number_of}
+use Rattle.model.specs.declared.Reason.TheVariants.{Prefix}
+use Rattle.model.specs.declared.Refusal as DR
+use Rattle.model.proofs.Reasons.{number_refuses}
+use Rattle.std.specs.Prelude.{Ok, Err}
 use Rattle.bound_call.specs.Says.{BoundSays}
 
-abbrev pub answer : ℕ → ℕ → List ℕ → DL.Least
-answer number place least = record { number = number; place = place; least = least }
-
-abbrev pub zeros : List ℕ
-zeros = 0 ∷ 0 ∷ 0 ∷ 0 ∷ []
-
--- number and place are the problem's
-pub refused_answer : (s prefix : List ℕ) (n at : ℕ) → n ≡ (verdict_of s).number → at ≡ (verdict_of s).place
-    → (n ≡ 0 → ⊥)
-    → BoundSays s prefix (answer n at zeros)
+-- the verdict is the problem's
+pub refused_answer : (s prefix : List ℕ) (r : DR.Refusal) → verdict (number_of r.reason) r.place ≡ verdict_of s
+    → BoundSays s prefix (Err r)
 unfolding bound_outcome bound_verdict padded
-refused_answer s prefix n at e f h =
-    let refuses : eqb (verdict_of s).number 0 ≡ false = ne_eqb (verdict_of s).number 0 (λ z. h (e ∙ z)) in
-    record { number = rw refuses e; place = rw refuses f; least = rw (refuses, refuses) refl }
+refused_answer s prefix r e =
+    let refuses : eqb (verdict_of s).number 0 ≡ false = rw (← e) (number_refuses r.reason) in
+    record { verdict = rw refuses e; least = rw (refuses, refuses) refl }
 
 module _ (s : List ℕ) (e : (verdict_of s).number ≡ 0) (prefix : List ℕ) where
-  pub prefix_answer : prefix_ok (domains_of s) prefix ≡ false → BoundSays s prefix (answer bad_prefix 0 zeros)
+  pub prefix_answer : (r : DR.Refusal) → r.reason ≡ Prefix → r.place ≡ 0 → prefix_ok (domains_of s) prefix ≡ false
+      → BoundSays s prefix (Err r)
   unfolding bound_outcome bound_verdict padded problem_of
-  prefix_answer h =
+  prefix_answer r why here h =
       let v = accepted_place s e in
-      record { number = rw (v, h) refl; place = rw (v, h) refl; least = rw (v, h) refl }
+      record { verdict = rw (v, h, why, here) refl; least = rw (v, h) refl }
 
   -- the objectives past p are 0
   all_four :
@@ -61,8 +58,8 @@ module _ (s : List ℕ) (e : (verdict_of s).number ≡ 0) (prefix : List ℕ) wh
       → least
       ≡ totals_from max_objectives 0 (least_of (domains_of s) prefix)
       (tables_at (head_tables s) (domains_of s) s (tables_start s))
-      → BoundSays s prefix (answer 0 0 least)
+      → BoundSays s prefix (Ok least)
   unfolding bound_outcome bound_verdict problem_of
   bound_answer least h b =
       let v = accepted_place s e in
-      record { number = rw (v, h) refl; place = rw (v, h) refl; least = rw (v, h) (b ∙ all_four) }
+      record { verdict = rw (v, h) refl; least = rw (v, h) (b ∙ all_four) }

@@ -42,3 +42,8 @@ told (Err r) = verdict (number_of r.reason) r.place
 abbrev pub number_in : {A : Type 0} → Result A Reason → ℕ
 number_in (Ok a) = 0
 number_in (Err r) = number_of r
+
+-- what a result holds, and `none` where it refuses
+abbrev pub value_or : {A : Type 0} → A → Result A Refusal → A
+value_or none (Ok a) = a
+value_or none (Err r) = none

@@ -2,8 +2,8 @@
 // and here the kinds with their limits.
 #![tactic(auto)]
 
-ghost use Rattle.std.specs.Prelude.{◌≡◌, not, leb};
-ghost use Rattle.model.specs.Limits.{max_bytes, max_variables, max_objectives, max_tables, max_domain, max_arity};
+ghost use Rattle.std.specs.Prelude.{◌≡◌, ◌<◌, not, leb};
+ghost use Rattle.model.specs.Limits.{max_bytes, max_variables, max_objectives, max_tables, max_domain, max_arity, word_end};
 ghost use Rattle.model.specs.Reading.{outside};
 ghost use Rattle.model.specs.Reasons.{number_of};
 
@@ -58,6 +58,17 @@ impl Reason {
 pub struct Refusal {
     pub reason: Reason,
     pub place: usize,
+}
+
+impl Refusal {
+    // Its number, as C is told it; the place goes through a reference. No call has a place above 60,000.
+    pub fn tell(self, place: &mut u32) -> u8
+        ensures number { result ≡ number_of self.reason }
+        ensures place { self.place < word_end → place.new ≡ self.place }
+    {
+        *place = self.place.min(4294967295) as u32;
+        self.reason.number()
+    }
 }
 
 // Whether x is 1 to the limit.
