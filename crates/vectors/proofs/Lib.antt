@@ -3,6 +3,5 @@ pub mod Fronts
 pub mod Dominance
 pub mod Comparisons
 pub mod Walking
-pub mod Comparing
 pub mod Fours
 pub mod ListOrder
