@@ -60,7 +60,3 @@ touches s v at = has_variable v (table_scope (drop at s))
 pub group_keeps : (s : List ℕ) (v : ℕ) → Keeps (touches s v) (group_of s v)
 unfolding group_of
 group_keeps s v = record { none = refl; next = λ x xs. refl }
-
--- a copy keeps all
-pub copy_keeps : Keeps (λ x. true) (λ xs. xs)
-copy_keeps = record { none = refl; next = λ x xs. refl }

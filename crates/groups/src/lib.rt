@@ -31,14 +31,12 @@ pub fn add_group(s: &[u8], sizes: &[u8], r: usize, v: usize, from: usize, work: 
         ++ drop result work.old) }
 {
     let mut end = from;
-    let mut i: usize = 0;
-    while i < r {
+    for i in 0..r {
         let at = work[layout::RECORDS_AT + i];
         if problem::has_variable(s, at as usize, v) {
             work[end] = at;
             end += 1;
         }
-        i += 1;
     }
     end
 }
@@ -52,11 +50,9 @@ pub fn group_records(s: &[u8], sizes: &[u8], r: usize, work: &mut [u32])
 {
     let n = sizes.len();
     let mut end: usize = layout::GROUPS_AT;
-    let mut v: usize = 0;
-    while v < n {
+    for v in 0..n {
         work[v] = end as u32;
         end = add_group(s, sizes, r, v, end, work);
-        v += 1;
     }
     work[n] = end as u32;
 }
@@ -78,12 +74,10 @@ pub fn bounds_over(
         (tables_over sizes.now s.now (take (to - from) (drop from work.now))) }
 {
     let mut sums = [0u64; 4];
-    let mut i = from;
-    while i < to {
+    for i in from..to {
         let at = work[i] as usize;
         let o = problem::objective_at(s, at);
         sums[o] = sums[o] + costs::least_at(s, at, sizes, prefix);
-        i += 1;
     }
     sums
 }
@@ -116,9 +110,5 @@ pub fn copy_numbers(from: usize, to: usize, count: usize, work: &mut [u32])
         ≡ take to work.old ++ take count (drop from work.old)
         ++ drop (to + count) work.old }
 {
-    let mut i: usize = 0;
-    while i < count {
-        work[to + i] = work[from + i];
-        i += 1;
-    }
+    work.copy_within(from..from + count, to);
 }

@@ -1,11 +1,10 @@
 -- The laws of the four answers, for any number of costs.
-use mathlib.Core.Path.{◌≡◌, refl, sym, ap, ◌∙◌, subst}
+use mathlib.Core.Path.{◌≡◌, refl, sym, ◌∙◌, subst}
 use mathlib.Core.Bool.{Bool, true, false}
 use mathlib.Core.List.{List}
 use Prim.Native.Nat.{ℕ, ◌≤◌}
 use lib.ListN.{length, take}
 use lib.Seq.{length-take-le, take_at}
-use borrow.Author.Tests.{not-true}
 use Rattle.model.specs.Vectors.{at_most, same, beats}
 use Rattle.model.proofs.Bits.{true_false, not_true_false, and_both}
 use Rattle.model.proofs.Vectors.{AtMost, same_true, same_eq, beats_true, at_most_true, at_most_test, at_most_refl}

@@ -1,8 +1,7 @@
 -- The laws that the functions' proofs share.
 pub mod Fronts
 pub mod Dominance
-pub mod Matching
 pub mod Comparisons
 pub mod Walking
-pub mod Comparing
 pub mod Fours
+pub mod ListOrder

@@ -14,12 +14,10 @@ pub fn is_under(a: [u64; 4], ceilings: [u64; 4], p: usize) -> bool
     requires { p ≤ max_objectives }
     ensures { result ≡ front_under p a ceilings }
 {
-    let mut i: usize = 0;
-    while i < p {
+    for i in 0..p {
         if a[i] >= ceilings[i] {
             return false;
         }
-        i += 1;
     }
     true
 }
@@ -30,14 +28,7 @@ pub fn is_at_most(a: &[u64], b: &[u64], p: usize) -> bool
     requires { (p ≤ length a.now) × (p ≤ length b.now) }
     ensures { result ≡ front_at_most p a.now b.now }
 {
-    let mut i: usize = 0;
-    while i < p {
-        if a[i] > b[i] {
-            return false;
-        }
-        i += 1;
-    }
-    true
+    is_rest_at_most(a, b, 0, p)
 }
 
 // What one vector is to another.
@@ -54,12 +45,10 @@ fn is_rest_at_most(a: &[u64], b: &[u64], i: usize, p: usize) -> bool
     requires { (i ≤ p) × (p ≤ length a.now) × (p ≤ length b.now) }
     ensures { result ≡ at_most (drop i (take p a.now)) (drop i (take p b.now)) }
 {
-    let mut j = i;
-    while j < p {
+    for j in i..p {
         if a[j] > b[j] {
             return false;
         }
-        j += 1;
     }
     true
 }
@@ -71,8 +60,7 @@ pub fn compare(a: &[u64], b: &[u64], p: usize) -> Comparison
     ensures { FrontSays p result a.now b.now }
 {
     let mut less = false;
-    let mut i: usize = 0;
-    while i < p {
+    for i in 0..p {
         if b[i] < a[i] {
             if less {
                 return Comparison::Neither;
@@ -85,7 +73,6 @@ pub fn compare(a: &[u64], b: &[u64], p: usize) -> Comparison
         if b[i] > a[i] {
             less = true;
         }
-        i += 1;
     }
     if less {
         return Comparison::Beats;
@@ -94,21 +81,13 @@ pub fn compare(a: &[u64], b: &[u64], p: usize) -> Comparison
 }
 
 // Whether `a` comes before `b` in list order, by the first `p` costs.
+#[tactic(auto, using(crate::proofs::ListOrder::front_before))]
 pub fn is_earlier(a: [u64; 4], b: [u64; 4], p: usize) -> bool
     requires { p ≤ max_objectives }
     ensures { result ≡ front_earlier p a b }
 {
-    let mut i: usize = 0;
-    while i < p {
-        if a[i] < b[i] {
-            return true;
-        }
-        if b[i] < a[i] {
-            return false;
-        }
-        i += 1;
-    }
-    false
+    // `cmp`, since `<` of slices is slower.
+    a[..p].cmp(&b[..p]).is_lt()
 }
 
 // The sum of two vectors in all four objectives; numbers of half the range cannot wrap.
@@ -116,6 +95,7 @@ pub fn sum(a: [u64; 4], b: [u64; 4]) -> [u64; 4]
     requires { All Half a × All Half b }
     ensures { result ≡ added a b }
 {
+    // As a chain of `zip` and `map` into an array it would be no plainer than the four sums.
     [a[0] + b[0], a[1] + b[1], a[2] + b[2], a[3] + b[3]]
 }
 
@@ -124,6 +104,7 @@ pub fn numbers_at(work: &[u32], at: usize) -> [u64; 4]
     requires { at + 4 ≤ length work.now }
     ensures { result ≡ take max_objectives (drop at work.now) }
 {
+    // No `map` or `from_fn`: a closure that reads memory is no plainer than its four numbers.
     [
         work[at] as u64,
         work[at + 1] as u64,
