@@ -6,6 +6,8 @@ use Rattle.text_words.specs.Texts.{is_space, is_digit, words_of, all_digits, val
 use Rattle.text_words.specs.Texts.{Term, number, negative, other, term_of, value_of}
 use Rattle.text_words.specs.declared.Word as DW
 use Rattle.text_words.specs.declared.Digits as DD
+use Rattle.text_words.specs.declared.Kind.{Kind}
+use Rattle.text_words.specs.declared.Kind.TheVariants.{Natural, Negative, Other}
 use Rattle.text_words.specs.declared.Number as DN
 
 -- the words from a place on, and the bytes from one place to another
@@ -29,10 +31,10 @@ abbrev pub cap_end : ℕ
 cap_end = 18446744073709551610
 
 -- what a word is, as a number
-unfoldable pub kind_of : Term → ℕ
-kind_of (number x) = 0
-kind_of negative = 1
-kind_of other = 2
+unfoldable pub kind_of : Term → Kind
+kind_of (number x) = Natural
+kind_of negative = Negative
+kind_of other = Other
 
 -- how many bytes of sign come first
 unfoldable pub sign_width : List ℕ → ℕ
@@ -87,19 +89,19 @@ pub record DigitsAt (s : List ℕ) (r : DN.Number) : Type 0 where
   pub value : r.value ≡ min (value_from 0 (numeral s r)) cap_end
 
 -- a word up to e that is no number
-abbrev pub no_digits : ℕ → ℕ → DN.Number
+abbrev pub no_digits : Kind → ℕ → DN.Number
 no_digits k e = record { kind = k; value = 0; from = e; end = e }
 
 -- the first word from a place on as a number; where it is one, its digits
 pub record NumberSays (s : List ℕ) (at : ℕ) (r : DN.Number) : Type 0 where
   pub kind : r.kind ≡ kind_of (term_at s at)
   pub value : r.value ≡ min (value_of (term_at s at)) cap_end
-  pub digits : r.kind ≡ 0 → DigitsAt s r
-  pub exact : r.kind ≡ 0 → value_from 0 (numeral s r) ≡ value_of (term_at s at)
+  pub digits : r.kind ≡ Natural → DigitsAt s r
+  pub exact : r.kind ≡ Natural → value_from 0 (numeral s r) ≡ value_of (term_at s at)
   pub after : at ≤ r.end
   pub within : r.end ≤ length s
   pub rest : words_at s r.end ≡ drop 1 (words_at s at)
-  pub some : r.kind < 2 → at < r.end
+  pub some : (r.kind ≡ Other → ⊥) → at < r.end
   pub missing : words_at s at ≡ [] → r.end ≡ length s
 
 -- zeros in front of digits are skipped to r

@@ -25,10 +25,18 @@ pub struct Digits {
     pub end: usize,
 }
 
-// A word that ends at `end`: a number (kind 0) whose digits start at `from`, a negative number (1) or neither (2).
+// What a word is, as a number.
+#[derive(Clone, Copy, PartialEq, Eq)]
+pub enum Kind {
+    Natural,
+    Negative,
+    Other,
+}
+
+// A word that ends at `end`; where it is a natural number, its digits start at `from`.
 #[derive(Clone, Copy)]
 pub struct Number {
-    pub kind: u8,
+    pub kind: Kind,
     pub value: u64,
     pub from: usize,
     pub end: usize,
@@ -154,7 +162,7 @@ fn behind_sign(s: &[u8], at: usize) -> usize
 }
 
 // A word up to `end` that is no number.
-fn no_digits(kind: u8, end: usize) -> Number
+fn no_digits(kind: Kind, end: usize) -> Number
     ensures { result ≡ no_digits kind end }
 {
     Number {
@@ -176,18 +184,18 @@ pub fn read_number(s: &[u8], at: usize) -> Number
     let value = run.value;
     let end = run.end;
     if end == from {
-        return no_digits(2, word_end(s, end));
+        return no_digits(Kind::Other, word_end(s, end));
     }
     if !ends_word(s, end) {
-        return no_digits(2, word_end(s, end));
+        return no_digits(Kind::Other, word_end(s, end));
     }
     if s[start] == b'-' {
         if value != 0 {
-            return no_digits(1, end);
+            return no_digits(Kind::Negative, end);
         }
     }
     Number {
-        kind: 0,
+        kind: Kind::Natural,
         value,
         from,
         end,
