@@ -2,7 +2,7 @@
 use mathlib.Core.Path.{◌≡◌, refl, sym, ap, ◌∙◌}
 use mathlib.Core.Logic.{⊎_elim}
 use mathlib.Core.Bool.{true}
-use mathlib.Core.List.{List, [], ◌∷◌, ◌++◌}
+use mathlib.Core.List.{List, ◌++◌}
 use Prim.Native.Nat.{ℕ, ◌+◌, ◌≤◌, ◌<◌, min}
 use native.Mathlib.Omega.{arith}
 use native.Mathlib.Nat.{eq-or-lt_of_le}
@@ -10,10 +10,9 @@ use lib.ListN.{length, get_or, drop}
 use Rattle.text_words.specs.Texts.{value_from, Term, number, negative, other}
 use Rattle.text_words.specs.Texts.{unsigned, negated, term_of, value_of}
 use Rattle.text_words.specs.Reads.{part, is_solid, is_break, cap_end, kind_of, sign_width, no_digits}
-use Rattle.text_words.specs.Reads.{words_at, word_at, term_at, Skipped, WordEnds, RunSays, NumberSays}
+use Rattle.text_words.specs.Reads.{term_at, Skipped, WordEnds, RunSays, NumberSays}
 use Rattle.text_words.specs.declared.Kind.TheVariants.{Natural, Negative, Other}
 use Rattle.text_words.specs.declared.Digits as DD
-use Rattle.text_words.specs.declared.Number as DN
 use Rattle.text_words.proofs.Words.{solid_append, digits_solid}
 use Rattle.text_words.proofs.Parts.{part_none, part_empty, part_cons, part_cut, part_length}
 use Rattle.text_words.proofs.Places.{solid_more}

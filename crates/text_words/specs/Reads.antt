@@ -17,6 +17,13 @@ words_at s at = words_of (drop at s)
 abbrev pub part : List ℕ → ℕ → ℕ → List ℕ
 part s from end = take (end - from) (drop from s)
 
+-- a byte that is no white space; a zero
+abbrev pub is_visible : ℕ → Bool
+is_visible b = not (is_space b)
+
+abbrev pub is_zero : ℕ → Bool
+is_zero b = eqb b 48
+
 -- bytes without white space; white space, or the end, comes first
 unfoldable pub is_solid : List ℕ → Bool
 is_solid [] = true

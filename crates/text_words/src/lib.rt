@@ -2,8 +2,9 @@
 #![tactic(auto)]
 
 ghost use Rattle.std.specs.Prelude.{◌≡◌, true, ◌+◌, ◌-◌, ◌*◌, ◌≤◌, min, ltb, length, drop};
+ghost use Rattle.std.specs.List.{prefix_len};
 ghost use Rattle.text_words.specs.Texts.{is_space, is_digit, all_digits, value_from};
-ghost use Rattle.text_words.specs.Reads.{part, is_break, cap_end, sign_width, Skipped, WordEnds, WordSays};
+ghost use Rattle.text_words.specs.Reads.{part, is_visible, is_zero, is_break, cap_end, sign_width, Skipped, WordEnds, WordSays};
 ghost use Rattle.text_words.specs.Reads.{RunSays, numeral, DigitsAt, no_digits, NumberSays, ZerosSkipped};
 
 // Values are told up to this one; a value below a tenth of it takes one more digit.
@@ -63,19 +64,33 @@ pub fn is_digit(b: u8) -> bool
     b <= b'9'
 }
 
+// How many bytes of white space come first.
+fn spaces(s: &[u8]) -> usize
+    ensures { (result ≡ prefix_len is_space s.now) × (result ≤ length s.now) }
+{
+    s.iter().take_while(|b| is_space(**b)).count()
+}
+
+// How many bytes come before the first white space, or the end.
+fn solids(s: &[u8]) -> usize
+    ensures { (result ≡ prefix_len is_visible s.now) × (result ≤ length s.now) }
+{
+    s.iter().take_while(|b| !is_space(**b)).count()
+}
+
+// How many zeros come first.
+fn zeros(s: &[u8]) -> usize
+    ensures { (result ≡ prefix_len is_zero s.now) × (result ≤ length s.now) }
+{
+    s.iter().take_while(|b| **b == b'0').count()
+}
+
 // The first place from `at` on that has no white space.
 pub fn skip_space(s: &[u8], at: usize) -> usize
     requires { at ≤ length s.now }
     ensures { Skipped s.now at result }
 {
-    let mut i = at;
-    while i < s.len() {
-        if !is_space(s[i]) {
-            return i;
-        }
-        i += 1;
-    }
-    i
+    at + spaces(&s[at..])
 }
 
 // The first place from `at` on that has white space, or the end.
@@ -83,14 +98,7 @@ pub fn word_end(s: &[u8], at: usize) -> usize
     requires { at ≤ length s.now }
     ensures { WordEnds s.now at result }
 {
-    let mut i = at;
-    while i < s.len() {
-        if is_space(s[i]) {
-            return i;
-        }
-        i += 1;
-    }
-    i
+    at + solids(&s[at..])
 }
 
 // Whether a word that is read up to `at` ends there.
@@ -131,16 +139,17 @@ pub fn read_digits(s: &[u8], at: usize) -> Digits
     ensures { RunSays s.now at result }
 {
     let mut value: u64 = 0;
-    let mut i = at;
-    while i < s.len() {
+    for i in at..s.len() {
         let b = s[i];
         if !is_digit(b) {
             return Digits { value, end: i };
         }
         value = with_digit(value, b);
-        i += 1;
     }
-    Digits { value, end: i }
+    Digits {
+        value,
+        end: s.len(),
+    }
 }
 
 // The place behind the sign at `at`, or `at` where there is none.
@@ -207,14 +216,7 @@ pub fn skip_zeros(s: &[u8], from: usize, end: usize) -> usize
     requires { (from ≤ end) × (end ≤ length s.now) × (all_digits (part s.now from end) ≡ true) }
     ensures { ZerosSkipped s.now from end result }
 {
-    let mut i = from;
-    while i < end {
-        if s[i] != b'0' {
-            return i;
-        }
-        i += 1;
-    }
-    i
+    from + zeros(&s[from..end])
 }
 
 // Whether the number of `n` digits at `a` is less than that of as many at `b`.
@@ -224,14 +226,12 @@ fn front_less(s: &[u8], a: usize, b: usize, n: usize) -> bool
     ensures { result ≡ ltb (value_from 0 (part s.now a (a + n)))
         (value_from 0 (part s.now b (b + n))) }
 {
-    let mut i: usize = 0;
-    while i < n {
+    for i in 0..n {
         let x = s[a + i];
         let y = s[b + i];
         if x != y {
             return x < y;
         }
-        i += 1;
     }
     false
 }
