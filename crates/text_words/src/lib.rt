@@ -46,22 +46,14 @@ pub struct Number {
 pub fn is_space(b: u8) -> bool
     ensures { result ≡ is_space b }
 {
-    if b < 9 {
-        return false;
-    }
-    if b <= 13 {
-        return true;
-    }
-    b == b' '
+    // std's test has no vertical tab
+    matches!(b, 9..=13 | b' ')
 }
 
 pub fn is_digit(b: u8) -> bool
     ensures { result ≡ is_digit b }
 {
-    if b < b'0' {
-        return false;
-    }
-    b <= b'9'
+    b.is_ascii_digit()
 }
 
 // How many bytes of white space come first.
