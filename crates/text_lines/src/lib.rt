@@ -24,10 +24,8 @@ fn put_digits(x: u32, at: usize, end: usize, out: &mut [u8])
     requires { (end ≡ at + length (decimal x)) × (end ≤ length out.old) }
     ensures { out.new ≡ take at out.old ++ (decimal x ++ drop end out.old) }
 {
-    let mut k = end;
     let mut left = x;
-    while k > at {
-        k -= 1;
+    for k in (at..end).rev() {
         out[k] = (48 + left % 10) as u8;
         left = left / 10;
     }
@@ -65,10 +63,8 @@ pub fn put_spaced(numbers: &[u8], at: usize, out: &mut [u8]) -> usize
     ensures { Written at (spaced numbers.now) out.old out.new result }
 {
     let mut next = at;
-    let mut i: usize = 0;
-    while i < numbers.len() {
-        next = put_number(numbers[i] as u32, b' ', next, out);
-        i += 1;
+    for n in numbers {
+        next = put_number(u32::from(*n), b' ', next, out);
     }
     next
 }

@@ -22,12 +22,10 @@ pub fn tuple_index(s: &[u8], at: usize, arity: usize, sizes: [u8; 3]) -> Entry
 {
     let mut index: usize = 0;
     let mut end = at;
-    let mut i: usize = 0;
-    while i < arity {
+    for i in 0..arity {
         let read = text_words::read_number(s, end);
         index = index * (sizes[i] as usize) + read.value as usize;
         end = read.end;
-        i += 1;
     }
     Entry { index, end }
 }
@@ -41,8 +39,7 @@ pub fn tuples_repeat(s: &[u8], at: usize, count: u64, arity: usize, sizes: [u8; 
 {
     let mut met = [false; 512];
     let mut next = at;
-    let mut k: u64 = 0;
-    while k < count {
+    for _k in 0..count {
         let entry = tuple_index(s, next, arity, sizes);
         let index = entry.index;
         if met[index] {
@@ -51,7 +48,6 @@ pub fn tuples_repeat(s: &[u8], at: usize, count: u64, arity: usize, sizes: [u8; 
         met[index] = true;
         let cost = text_words::read_number(s, entry.end);
         next = cost.end;
-        k += 1;
     }
     false
 }

@@ -9,3 +9,4 @@ pub mod Signs
 pub mod FirstWord
 pub mod Readings
 pub mod Widths
+pub mod Prefixes

@@ -7,17 +7,13 @@ use native.Mathlib.Omega.{arith}
 use lib.Dec.{ltb}
 use lib.ListN.{length, get_or, drop, drop_of_length-le}
 use Rattle.model.proofs.Bits.{and_both}
-use Rattle.text_words.specs.Texts.{is_space, is_digit, words_of, all_digits, value_from}
-use Rattle.text_words.specs.Reads.{words_at, part, is_solid, is_break}
-use Rattle.text_words.proofs.Words.{space_front, solid_cons, solid_append}
+use Rattle.text_words.specs.Texts.{is_space, is_digit, all_digits, value_from}
+use Rattle.text_words.specs.Reads.{part, is_solid, is_break}
+use Rattle.text_words.proofs.Words.{solid_cons, solid_append}
 use Rattle.text_words.proofs.Values.{digits_rest, digits_append, value_append, front_same, front_differs}
 use Rattle.text_words.proofs.Parts.{rest_cons, part_cons, part_more, part_length}
 
 module _ (s : List ℕ) where
-  -- white space at a place is skipped
-  pub words_later : (i : ℕ) → i < length s → is_space (get_or s i 0) ≡ true → words_at s (i + 1) ≡ words_at s i
-  words_later i h e = sym (ap words_of (rest_cons s i h) ∙ space_front (get_or s i 0) (drop (i + 1) s) e)
-
   pub break_here : (i : ℕ) → i < length s → is_break (drop i s) ≡ is_space (get_or s i 0)
   unfolding is_break
   break_here i h = ap is_break (rest_cons s i h)
@@ -49,10 +45,6 @@ module _ (s : List ℕ) where
   module _ (i e : ℕ) (h : i < e) (g : e ≤ length s) where
     pub digits_later : all_digits (part s i e) ≡ true → all_digits (part s (i + 1) e) ≡ true
     digits_later d = digits_rest (get_or s i 0) (part s (i + 1) e) (rw (part_cons s i e h g) at d)
-
-    pub value_later : get_or s i 0 ≡ 48 → value_from 0 (part s (i + 1) e) ≡ value_from 0 (part s i e)
-    unfolding value_from
-    value_later z = sym (ap (value_from 0) (part_cons s i e h g) ∙ rw z)
 
   -- the digits from a to e and from b to f are as many, and are compared from the front
   module _ (a e b f : ℕ) (in-a : a < e) (in_b : b < f) (g : e ≤ length s) (h : f ≤ length s)

@@ -2,7 +2,7 @@
 use mathlib.Core.Path.{◌≡◌, refl, sym, ap, ◌∙◌}
 use mathlib.Core.Logic.{⊎_elim}
 use mathlib.Core.Bool.{true}
-use mathlib.Core.List.{List, [], ◌∷◌, ◌++◌}
+use mathlib.Core.List.{List, ◌++◌}
 use Prim.Native.Nat.{ℕ, ◌+◌, ◌≤◌, ◌<◌, min}
 use native.Mathlib.Omega.{arith}
 use native.Mathlib.Nat.{eq-or-lt_of_le}
@@ -10,9 +10,9 @@ use lib.ListN.{length, get_or, drop}
 use Rattle.text_words.specs.Texts.{value_from, Term, number, negative, other}
 use Rattle.text_words.specs.Texts.{unsigned, negated, term_of, value_of}
 use Rattle.text_words.specs.Reads.{part, is_solid, is_break, cap_end, kind_of, sign_width, no_digits}
-use Rattle.text_words.specs.Reads.{words_at, word_at, term_at, Skipped, WordEnds, RunSays, NumberSays}
+use Rattle.text_words.specs.Reads.{term_at, Skipped, WordEnds, RunSays, NumberSays}
+use Rattle.text_words.specs.declared.Kind.TheVariants.{Natural, Negative, Other}
 use Rattle.text_words.specs.declared.Digits as DD
-use Rattle.text_words.specs.declared.Number as DN
 use Rattle.text_words.proofs.Words.{solid_append, digits_solid}
 use Rattle.text_words.proofs.Parts.{part_none, part_empty, part_cons, part_cut, part_length}
 use Rattle.text_words.proofs.Places.{solid_more}
@@ -83,18 +83,18 @@ module _ {s : List ℕ} {at start from : ℕ} {run : DD.Digits} (begun : Begun s
         (λ (h : start < e). word_other s start e h ends.within from begun.sign behind_other)
         (eq-or-lt_of_le (whole e ends).after)
 
-    pub other_says : NumberSays s at (no_digits 2 e)
+    pub other_says : NumberSays s at (no_digits Other e)
     unfolding kind_of value_of
     other_says =
         record {
           kind = sym (ap kind_of term_other);
           value = sym (ap (λ (t : Term). min (value_of t) cap_end) term_other);
-          digits = λ h. absurd (omega arith);
-          exact = λ h. absurd (omega arith);
+          digits = λ h. absurd (cc);
+          exact = λ h. absurd (cc);
           after = omega (arith, begun.skipped.after, (whole e ends).after);
           within = ends.within;
           rest = words_behind s at start e begun.skipped (whole e ends);
-          some = λ h. absurd (omega arith);
+          some = λ h. absurd (h refl);
           missing = word_missing s at start e begun.skipped (whole e ends);
         }
 
@@ -127,7 +127,7 @@ module _ {s : List ℕ} {at start from : ℕ} {run : DD.Digits} (begun : Begun s
         ∙ ap negated behind_number
 
     number_says : term_at s at ≡ number x
-        → NumberSays s at (record { kind = 0; value = run.value; from = from; end = run.end })
+        → NumberSays s at (record { kind = Natural; value = run.value; from = from; end = run.end })
     unfolding kind_of value_of
     number_says t =
         record {
@@ -149,43 +149,29 @@ module _ {s : List ℕ} {at start from : ℕ} {run : DD.Digits} (begun : Begun s
         }
 
     pub plain_says : (get_or s start 0 ≡ 45 → ⊥)
-        → NumberSays s at (record { kind = 0; value = run.value; from = from; end = run.end })
+        → NumberSays s at (record { kind = Natural; value = run.value; from = from; end = run.end })
     plain_says n = number_says (term_plain n)
 
     pub zero_says : get_or s start 0 ≡ 45 → run.value ≡ 0
-        → NumberSays s at (record { kind = 0; value = run.value; from = from; end = run.end })
+        → NumberSays s at (record { kind = Natural; value = run.value; from = from; end = run.end })
     unfolding negated
     zero_says q e =
         let none : x ≡ 0 = omega (arith, begun.run.value) in
         number_says (term_minus q ∙ rw none)
 
     pub negative_says : get_or s start 0 ≡ 45 → (run.value ≡ 0 → ⊥)
-        → NumberSays s at (no_digits 1 run.end)
+        → NumberSays s at (no_digits Negative run.end)
     unfolding kind_of value_of
     negative_says q n =
         let t : term_at s at ≡ negative = term_minus q ∙ negated_some x (λ e. n (begun.run.value ∙ rw e)) in
         record {
           kind = sym (ap kind_of t);
           value = sym (ap (λ (u : Term). min (value_of u) cap_end) t);
-          digits = λ k. absurd (omega arith);
-          exact = λ k. absurd (omega arith);
+          digits = λ k. absurd (cc);
+          exact = λ k. absurd (cc);
           after = omega (arith, begun.skipped.after);
           within = begun.run.within;
           rest = words_behind s at start run.end begun.skipped ends;
           some = λ _. omega (arith, begun.skipped.after);
           missing = word_missing s at start run.end begun.skipped ends;
         }
-
--- ## what a reading says
-
--- a number or a negative number is a word, and the rest is read from its end on
-pub number_word : (s : List ℕ) (at : ℕ) (r : DN.Number) → NumberSays s at r → r.kind < 2
-    → words_at s at ≡ word_at s at ∷ words_at s r.end
-unfolding kind_of term_of
-number_word s at r says h = go (words_at s at) refl
-  where
-    go : (ws : List (List ℕ)) → words_at s at ≡ ws → words_at s at ≡ word_at s at ∷ words_at s r.end
-    go [] e =
-        let none : r.kind ≡ 2 = says.kind ∙ ap (λ (ws : List (List ℕ)). kind_of (term_of (get_or ws 0 []))) e in
-        absurd (omega arith)
-    go (w ∷ ws) e = rw (says.rest, e)

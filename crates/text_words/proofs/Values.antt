@@ -87,12 +87,6 @@ ltb_same a b c d f g = go (ltb a b) refl
         e ∙ sym (⊎_elim (λ (h : ltb c d ≡ true). absurd (omega (arith, g (ltb-true c d h))))
         (λ (h : ltb c d ≡ false). h) (test (ltb c d)))
 
-pub cap_less : (x y : ℕ) → min x cap_end < cap_end → ltb (min x cap_end) (min y cap_end) ≡ ltb x y
-cap_less x y h = ltb_same (min x cap_end) (min y cap_end) x y (λ k. omega arith) (λ k. omega arith)
-
-pub cap_more : (x y : ℕ) → cap_end ≤ min x cap_end → min y cap_end < cap_end → ltb x y ≡ false
-cap_more x y h k = le-ltb x y (omega arith)
-
 -- ## which is less
 
 pub shorter_less : (v : List ℕ) (b : ℕ) (w : List ℕ) → all_digits v ≡ true → 48 < b → length v ≤ length w

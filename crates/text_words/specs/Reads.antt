@@ -6,6 +6,8 @@ use Rattle.text_words.specs.Texts.{is_space, is_digit, words_of, all_digits, val
 use Rattle.text_words.specs.Texts.{Term, number, negative, other, term_of, value_of}
 use Rattle.text_words.specs.declared.Word as DW
 use Rattle.text_words.specs.declared.Digits as DD
+use Rattle.text_words.specs.declared.Kind.{Kind}
+use Rattle.text_words.specs.declared.Kind.TheVariants.{Natural, Negative, Other}
 use Rattle.text_words.specs.declared.Number as DN
 
 -- the words from a place on, and the bytes from one place to another
@@ -14,6 +16,13 @@ words_at s at = words_of (drop at s)
 
 abbrev pub part : List ℕ → ℕ → ℕ → List ℕ
 part s from end = take (end - from) (drop from s)
+
+-- a byte that is no white space; a zero
+abbrev pub is_visible : ℕ → Bool
+is_visible b = not (is_space b)
+
+abbrev pub is_zero : ℕ → Bool
+is_zero b = eqb b 48
 
 -- bytes without white space; white space, or the end, comes first
 unfoldable pub is_solid : List ℕ → Bool
@@ -29,10 +38,10 @@ abbrev pub cap_end : ℕ
 cap_end = 18446744073709551610
 
 -- what a word is, as a number
-unfoldable pub kind_of : Term → ℕ
-kind_of (number x) = 0
-kind_of negative = 1
-kind_of other = 2
+unfoldable pub kind_of : Term → Kind
+kind_of (number x) = Natural
+kind_of negative = Negative
+kind_of other = Other
 
 -- how many bytes of sign come first
 unfoldable pub sign_width : List ℕ → ℕ
@@ -87,19 +96,19 @@ pub record DigitsAt (s : List ℕ) (r : DN.Number) : Type 0 where
   pub value : r.value ≡ min (value_from 0 (numeral s r)) cap_end
 
 -- a word up to e that is no number
-abbrev pub no_digits : ℕ → ℕ → DN.Number
+abbrev pub no_digits : Kind → ℕ → DN.Number
 no_digits k e = record { kind = k; value = 0; from = e; end = e }
 
 -- the first word from a place on as a number; where it is one, its digits
 pub record NumberSays (s : List ℕ) (at : ℕ) (r : DN.Number) : Type 0 where
   pub kind : r.kind ≡ kind_of (term_at s at)
   pub value : r.value ≡ min (value_of (term_at s at)) cap_end
-  pub digits : r.kind ≡ 0 → DigitsAt s r
-  pub exact : r.kind ≡ 0 → value_from 0 (numeral s r) ≡ value_of (term_at s at)
+  pub digits : r.kind ≡ Natural → DigitsAt s r
+  pub exact : r.kind ≡ Natural → value_from 0 (numeral s r) ≡ value_of (term_at s at)
   pub after : at ≤ r.end
   pub within : r.end ≤ length s
   pub rest : words_at s r.end ≡ drop 1 (words_at s at)
-  pub some : r.kind < 2 → at < r.end
+  pub some : (r.kind ≡ Other → ⊥) → at < r.end
   pub missing : words_at s at ≡ [] → r.end ≡ length s
 
 -- zeros in front of digits are skipped to r

@@ -2,8 +2,9 @@
 #![tactic(auto)]
 
 ghost use Rattle.std.specs.Prelude.{◌≡◌, true, ◌+◌, ◌-◌, ◌*◌, ◌≤◌, min, ltb, length, drop};
+ghost use Rattle.std.specs.List.{prefix_len};
 ghost use Rattle.text_words.specs.Texts.{is_space, is_digit, all_digits, value_from};
-ghost use Rattle.text_words.specs.Reads.{part, is_break, cap_end, sign_width, Skipped, WordEnds, WordSays};
+ghost use Rattle.text_words.specs.Reads.{part, is_visible, is_zero, is_break, cap_end, sign_width, Skipped, WordEnds, WordSays};
 ghost use Rattle.text_words.specs.Reads.{RunSays, numeral, DigitsAt, no_digits, NumberSays, ZerosSkipped};
 
 // Values are told up to this one; a value below a tenth of it takes one more digit.
@@ -25,10 +26,18 @@ pub struct Digits {
     pub end: usize,
 }
 
-// A word that ends at `end`: a number (kind 0) whose digits start at `from`, a negative number (1) or neither (2).
+// What a word is, as a number.
+#[derive(Clone, Copy, PartialEq, Eq)]
+pub enum Kind {
+    Natural,
+    Negative,
+    Other,
+}
+
+// A word that ends at `end`; where it is a natural number, its digits start at `from`.
 #[derive(Clone, Copy)]
 pub struct Number {
-    pub kind: u8,
+    pub kind: Kind,
     pub value: u64,
     pub from: usize,
     pub end: usize,
@@ -37,22 +46,35 @@ pub struct Number {
 pub fn is_space(b: u8) -> bool
     ensures { result ≡ is_space b }
 {
-    if b < 9 {
-        return false;
-    }
-    if b <= 13 {
-        return true;
-    }
-    b == b' '
+    // std's test has no vertical tab
+    matches!(b, 9..=13 | b' ')
 }
 
 pub fn is_digit(b: u8) -> bool
     ensures { result ≡ is_digit b }
 {
-    if b < b'0' {
-        return false;
-    }
-    b <= b'9'
+    b.is_ascii_digit()
+}
+
+// How many bytes of white space come first.
+fn spaces(s: &[u8]) -> usize
+    ensures { (result ≡ prefix_len is_space s.now) × (result ≤ length s.now) }
+{
+    s.iter().take_while(|b| is_space(**b)).count()
+}
+
+// How many bytes come before the first white space, or the end.
+fn solids(s: &[u8]) -> usize
+    ensures { (result ≡ prefix_len is_visible s.now) × (result ≤ length s.now) }
+{
+    s.iter().take_while(|b| !is_space(**b)).count()
+}
+
+// How many zeros come first.
+fn zeros(s: &[u8]) -> usize
+    ensures { (result ≡ prefix_len is_zero s.now) × (result ≤ length s.now) }
+{
+    s.iter().take_while(|b| **b == b'0').count()
 }
 
 // The first place from `at` on that has no white space.
@@ -60,14 +82,7 @@ pub fn skip_space(s: &[u8], at: usize) -> usize
     requires { at ≤ length s.now }
     ensures { Skipped s.now at result }
 {
-    let mut i = at;
-    while i < s.len() {
-        if !is_space(s[i]) {
-            return i;
-        }
-        i += 1;
-    }
-    i
+    at + spaces(&s[at..])
 }
 
 // The first place from `at` on that has white space, or the end.
@@ -75,14 +90,7 @@ pub fn word_end(s: &[u8], at: usize) -> usize
     requires { at ≤ length s.now }
     ensures { WordEnds s.now at result }
 {
-    let mut i = at;
-    while i < s.len() {
-        if is_space(s[i]) {
-            return i;
-        }
-        i += 1;
-    }
-    i
+    at + solids(&s[at..])
 }
 
 // Whether a word that is read up to `at` ends there.
@@ -123,16 +131,17 @@ pub fn read_digits(s: &[u8], at: usize) -> Digits
     ensures { RunSays s.now at result }
 {
     let mut value: u64 = 0;
-    let mut i = at;
-    while i < s.len() {
+    for i in at..s.len() {
         let b = s[i];
         if !is_digit(b) {
             return Digits { value, end: i };
         }
         value = with_digit(value, b);
-        i += 1;
     }
-    Digits { value, end: i }
+    Digits {
+        value,
+        end: s.len(),
+    }
 }
 
 // The place behind the sign at `at`, or `at` where there is none.
@@ -154,7 +163,7 @@ fn behind_sign(s: &[u8], at: usize) -> usize
 }
 
 // A word up to `end` that is no number.
-fn no_digits(kind: u8, end: usize) -> Number
+fn no_digits(kind: Kind, end: usize) -> Number
     ensures { result ≡ no_digits kind end }
 {
     Number {
@@ -176,18 +185,18 @@ pub fn read_number(s: &[u8], at: usize) -> Number
     let value = run.value;
     let end = run.end;
     if end == from {
-        return no_digits(2, word_end(s, end));
+        return no_digits(Kind::Other, word_end(s, end));
     }
     if !ends_word(s, end) {
-        return no_digits(2, word_end(s, end));
+        return no_digits(Kind::Other, word_end(s, end));
     }
     if s[start] == b'-' {
         if value != 0 {
-            return no_digits(1, end);
+            return no_digits(Kind::Negative, end);
         }
     }
     Number {
-        kind: 0,
+        kind: Kind::Natural,
         value,
         from,
         end,
@@ -199,14 +208,7 @@ pub fn skip_zeros(s: &[u8], from: usize, end: usize) -> usize
     requires { (from ≤ end) × (end ≤ length s.now) × (all_digits (part s.now from end) ≡ true) }
     ensures { ZerosSkipped s.now from end result }
 {
-    let mut i = from;
-    while i < end {
-        if s[i] != b'0' {
-            return i;
-        }
-        i += 1;
-    }
-    i
+    from + zeros(&s[from..end])
 }
 
 // Whether the number of `n` digits at `a` is less than that of as many at `b`.
@@ -216,14 +218,12 @@ fn front_less(s: &[u8], a: usize, b: usize, n: usize) -> bool
     ensures { result ≡ ltb (value_from 0 (part s.now a (a + n)))
         (value_from 0 (part s.now b (b + n))) }
 {
-    let mut i: usize = 0;
-    while i < n {
+    for i in 0..n {
         let x = s[a + i];
         let y = s[b + i];
         if x != y {
             return x < y;
         }
-        i += 1;
     }
     false
 }
