@@ -143,7 +143,7 @@ pub fn least_in(s: &[u8], at: usize, runs: Runs, sizes: &[u8]) -> u32
     let stride = runs.stride;
     let mut here = runs.first;
     let mut least = least_row(s, at, here, count, sizes);
-    for i in 1..rows {
+    for _ in 1..rows {
         here += stride;
         least = least.min(least_row(s, at, here, count, sizes));
     }
@@ -180,7 +180,7 @@ pub fn bounds_of(s: &[u8], at: usize, r: u32, sizes: &[u8], prefix: &[u8]) -> [u
 {
     let mut sums = [0u64; 4];
     let mut here = at;
-    for i in 0..r {
+    for _ in 0..r {
         let t = problem::record_at(s, here, sizes);
         let owner = usize::from(t.objective);
         sums[owner] = sums[owner] + unweighed(least_at(s, here, sizes, prefix));

@@ -19,9 +19,9 @@ inside first stride count rows here i entries e h l fit =
 pub least_row-least-requires : goal.least_row-least-requires
 least_row-least-requires c = (c.requires.0, c.requires.1.some, omega (arith, c.requires.1.inside))
 
-pub loop-i-init : goal.loop-i-init
+pub loop-init : goal.loop-init
 unfolding least_to
-loop-i-init c =
+loop-init c =
     let r = c.args.runs in
     (omega (arith, zero-mul r.stride), rw (zero-mul r.stride, add-zero r.first) c.least_row-least.ensures)
 
@@ -30,8 +30,8 @@ overflow_add-here c =
     let r = c.args.runs in
     omega (
       arith,
-      inside r.first r.stride r.count r.rows c.loop-i.here c.loop-i.i _ c.loop-i.invariant.0 c.loop-i.auto.i
-          c.loop-i-test.true c.requires.1.inside,
+      inside r.first r.stride r.count r.rows c.loop.here c.loop.counter _ c.loop.invariant.0 c.loop.auto.counter
+          c.loop-test.true c.requires.1.inside,
       whole_ends c.args.sizes.now c.args.s.now c.args.at c.requires.0,
     )
 
@@ -40,24 +40,24 @@ least_row-requires c =
     let r = c.args.runs in (
       c.requires.0,
       c.requires.1.some,
-      inside r.first r.stride r.count r.rows c.loop-i.here c.loop-i.i _ c.loop-i.invariant.0 c.loop-i.auto.i
-          c.loop-i-test.true c.requires.1.inside,
+      inside r.first r.stride r.count r.rows c.loop.here c.loop.counter _ c.loop.invariant.0 c.loop.auto.counter
+          c.loop-test.true c.requires.1.inside,
     )
 
-pub loop-i-preserved : goal.loop-i-preserved
-loop-i-preserved c =
+pub loop-preserved : goal.loop-preserved
+loop-preserved c =
     let a = c.args in
     let r = a.runs in
-    let i = c.loop-i.i in
+    let i = c.loop.counter in
     let rowed : ℕ → ℕ = λ h. least_to (r.count - 1) (λ b. number_at a.sizes.now a.s.now a.at (h + b)) in
-    let next = moved r.first r.stride c.loop-i.here i c.loop-i.invariant.0 c.loop-i.auto.i in
+    let next = moved r.first r.stride c.loop.here i c.loop.invariant.0 c.loop.auto.counter in
     let same : i + 1 - 1 ≡ i = omega arith in
     let row : c.least_row.result ≡ rowed (r.first + i * r.stride) = c.least_row.ensures ∙ ap rowed next in
     let grown =
-    least_grown i (λ j. rowed (r.first + j * r.stride)) c.loop-i.invariant.1 row c.min-least.ensures in
+    least_grown i (λ j. rowed (r.first + j * r.stride)) c.loop.invariant.1 row c.min-least.ensures in
     (rw same next, grown)
 
 pub returns : goal.returns
 returns c =
-    let all : c.loop-i.i ≡ c.args.runs.rows = omega (arith, c.requires.1.row) in
-    rw all at c.loop-i.invariant.1
+    let all : c.loop.counter ≡ c.args.runs.rows = omega (arith, c.requires.1.row) in
+    rw all at c.loop.invariant.1

@@ -4,9 +4,9 @@ use Rattle.model.specs.Bounds.{least_to}
 use Rattle.costs.specs.Entries.{number_at}
 use Rattle.costs.proofs.least_in.Given as goal
 
-abbrev pub invariant-loop-i : goal.invariant-loop-i
-invariant-loop-i l =
-    (l.here ≡ l.initial.here + (l.i - 1) * l.stride)
+abbrev pub invariant-loop : goal.invariant-loop
+invariant-loop l =
+    (l.here ≡ l.initial.here + (l.counter - 1) * l.stride)
     × (l.least
-    ≡ least_to (l.i - 1)
+    ≡ least_to (l.counter - 1)
     (λ j. least_to (l.count - 1) (λ a. number_at l.sizes l.s l.at (l.initial.here + j * l.stride + a))))
