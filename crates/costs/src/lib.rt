@@ -21,17 +21,14 @@ fn weigh(x: u32) -> u64
     if x == 4294967295 {
         return 1099511627775;
     }
-    x as u64
+    u64::from(x)
 }
 
 // The number that weighs so much: the way back.
 fn unweighed(w: u64) -> u64
     ensures { (result ≡ plain w) × (result ≤ w) }
 {
-    if w > 4294967295 {
-        return 4294967295;
-    }
-    w
+    w.min(4294967295)
 }
 
 // The number that stands as entry `i` in the table of the record at `at`: the one place that knows where tables stand.
@@ -67,23 +64,12 @@ pub fn prefix_ok(sizes: &[u8], prefix: &[u8]) -> bool
     if sizes.len() < prefix.len() {
         return false;
     }
-    let mut i: usize = 0;
-    while i < prefix.len() {
+    for i in 0..prefix.len() {
         if sizes[i] <= prefix[i] {
             return false;
         }
-        i += 1;
     }
     true
-}
-
-fn lesser(a: u32, b: u32) -> u32
-    ensures { result ≡ Prim.Native.Nat.min a b }
-{
-    if a <= b {
-        return a;
-    }
-    b
 }
 
 // The least of `count` numbers in a row, from entry `first` on. It is weighed afterwards, so that a vector has many
@@ -93,10 +79,8 @@ pub fn least_row(s: &[u8], at: usize, first: usize, count: usize, sizes: &[u8]) 
     ensures { result ≡ least_to (count - 1) (λ a. number_at sizes.now s.now at (first + a)) }
 {
     let mut least = number_at(s, at, first, sizes);
-    let mut i: usize = 0;
-    while i < count {
-        least = lesser(least, number_at(s, at, first + i, sizes));
-        i += 1;
+    for i in 0..count {
+        least = least.min(number_at(s, at, first + i, sizes));
     }
     least
 }
@@ -124,18 +108,16 @@ pub fn runs_at(s: &[u8], at: usize, sizes: &[u8], prefix: &[u8]) -> Runs
     let mut count: usize = 1;
     let mut rows: usize = 1;
     let mut stride: usize = 0;
-    let mut k: usize = 0;
-    while k < a {
+    for k in 0..a {
         let v = problem::scope_at(s, at, k);
-        let d = sizes[v] as usize;
-        k += 1;
+        let d = usize::from(sizes[v]);
         first = first * d;
         stride = stride * d;
         if prefix.len() <= v {
             count = count * d;
             continue;
         }
-        first = first + (prefix[v] as usize);
+        first = first + usize::from(prefix[v]);
         if count == 1 {
             continue;
         }
@@ -161,11 +143,9 @@ pub fn least_in(s: &[u8], at: usize, runs: Runs, sizes: &[u8]) -> u32
     let stride = runs.stride;
     let mut here = runs.first;
     let mut least = least_row(s, at, here, count, sizes);
-    let mut i: usize = 1;
-    while i < rows {
+    for _ in 1..rows {
         here += stride;
-        least = lesser(least, least_row(s, at, here, count, sizes));
-        i += 1;
+        least = least.min(least_row(s, at, here, count, sizes));
     }
     least
 }
@@ -200,13 +180,11 @@ pub fn bounds_of(s: &[u8], at: usize, r: u32, sizes: &[u8], prefix: &[u8]) -> [u
 {
     let mut sums = [0u64; 4];
     let mut here = at;
-    let mut left = r;
-    while left > 0 {
+    for _ in 0..r {
         let t = problem::record_at(s, here, sizes);
-        let owner = t.objective as usize;
+        let owner = usize::from(t.objective);
         sums[owner] = sums[owner] + unweighed(least_at(s, here, sizes, prefix));
         here += t.length;
-        left -= 1;
     }
     sums
 }

@@ -1,6 +1,6 @@
 -- Bytes written at a place of a buffer: the buffer's length, what stands before them, at their place and behind them,
 -- and bytes written behind others.
-use mathlib.Core.Path.{◌≡◌, sym, ap, ◌∙◌}
+use mathlib.Core.Path.{◌≡◌, refl, sym, ap, ◌∙◌}
 use mathlib.Core.Logic.{◌⊎◌, inl, inr}
 use mathlib.Core.List.{List, [], ◌∷◌, ◌++◌, append_assoc}
 use Prim.Native.Nat.{ℕ, suc, ◌+◌, ◌≤◌, ◌<◌}
@@ -59,6 +59,11 @@ module _ (at : ℕ) (bytes out : List ℕ) where
 
 pub over_none : (at : ℕ) (out : List ℕ) → over_at at [] out ≡ out
 over_none at out = rw (add-zero at) (take-append-drop at out)
+
+-- a part of a buffer that was lent and now has these bytes
+pub over_part : (at n : ℕ) (bytes part out : List ℕ) → part ≡ bytes → length bytes ≡ n
+    → take at out ++ (part ++ drop n (drop at out)) ≡ over_at at bytes out
+over_part at n bytes part out e long = rw (e, ← long, drop-drop (length bytes) at out) refl
 
 -- one string behind another
 pub over_then : (at m : ℕ) (xs ys out : List ℕ) → m ≡ at + length xs → m + length ys ≤ length out

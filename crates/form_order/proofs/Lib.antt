@@ -5,5 +5,4 @@ pub mod Comparing
 pub mod Bisecting
 pub mod Copying
 pub mod CopiedParts
-pub mod Moving
 pub mod Sorting

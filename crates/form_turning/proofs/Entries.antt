@@ -3,17 +3,14 @@ use mathlib.Core.Path.{◌≡◌, ap, sym, ◌∙◌}
 use mathlib.Core.List.{List, append-nil}
 use Prim.Native.Nat.{ℕ, zero, suc, ◌+◌, ◌*◌, ◌≤◌, ◌<◌}
 use native.Mathlib.Omega.{arith}
-use lib.ListN.{length, get_or, take, drop, set, length-drop}
+use lib.ListN.{length, get_or, take, drop, length-drop}
 use lib.Seq.{take_at, drop-drop}
 use Rattle.model.specs.Basics.{All}
 use Rattle.model.specs.Encoding.{Byte, four_bytes, word_bytes}
 use Rattle.model.specs.Reading.{word4, words_in}
 use Rattle.model.proofs.Elements.{all_drop}
-use Rattle.model.proofs.Lists.{four_read}
 use Rattle.model.proofs.Words.{words_written, length_word_bytes}
-use Rattle.form_canonical.specs.Places.{over_at}
 use Rattle.form_turning.specs.Steps.{entry_bytes}
-use Rattle.form_canonical.proofs.Places.{over_four}
 
 first_bytes : (s : List ℕ) → 4 ≤ length s → All Byte s → four_bytes (word4 s) ≡ take 4 s
 unfolding words_in word_bytes
@@ -32,15 +29,3 @@ entry_bytes_lem (suc n) s (suc i) l bytes h =
     let place : 4 + 4 * i ≡ 4 * suc i = omega arith in
     entry_bytes_lem n (drop 4 s) i (omega (arith, length-drop 4 s)) (all_drop Byte 4 s bytes) (omega arith)
     ∙ rw (drop-drop (4 * i) 4 s, place)
-
--- byte by byte to another place
-pub entry_over : (table : List ℕ) (here to : ℕ) (out : List ℕ) → here + 4 ≤ length table → to + 4 ≤ length out
-    → set (set (set (set out to (get_or table here 0)) (to + 1) (get_or table (here + 1) 0)) (to + 2)
-    (get_or table (here + 2) 0)) (to + 3) (get_or table (here + 3) 0)
-    ≡ over_at to (entry_bytes table here) out
-unfolding entry_bytes
-entry_over table here to out h room =
-    over_four to (get_or table here 0) (get_or table (here + 1) 0) (get_or table (here + 2) 0)
-    (get_or table (here + 3) 0) out
-    room
-    ∙ ap (λ (l : List ℕ). over_at to l out) (four_read 0 table here h)

@@ -1,2 +1,0 @@
--- A product modulo 2^64.
-pub mod Halves
