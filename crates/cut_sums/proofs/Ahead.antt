@@ -14,12 +14,12 @@ use Rattle.model.specs.Merging.{ahead}
 use Rattle.model.proofs.Bits.{true_false, not_true_false}
 use Rattle.model.proofs.Vectors.{Earlier, same_true, same_eq, earlier_true, earlier_test, earlier_irrefl, not_earlier}
 use Rattle.model.proofs.Vectors.{later_false}
-use Rattle.pass_search.specs.declared.Best as DB
-use Rattle.pass_search.specs.contracts.Best.{the_type}
+use Rattle.pass_search.specs.declared.Met as DM
+use Rattle.pass_search.specs.contracts.Met.{the_type}
 
 -- a point that is a parameter has four costs
-pub costs_four : (h : DB.Best) (vs : List Val) → Is (row the_type) h vs → length h.costs ≡ max_objectives
-costs_four h vs good = good.1.1.1.0.1.0.1
+pub costs_four : (h : DM.Met) (vs : List Val) → Is (row the_type) h vs → length h.costs ≡ max_objectives
+costs_four h vs good = good.1.1.0.1.0.1
 
 module _ (x w : Point) where
   pub ahead_costs : earlier x.costs w.costs ≡ true → true ≡ ahead x w

@@ -10,28 +10,13 @@ use Rattle.model.specs.Basics.{pick, keep_if}
 use Rattle.model.specs.Vectors.{added}
 use Rattle.model.specs.Core.{under}
 use Rattle.model.specs.Frontiers.{Point}
-use Rattle.model.specs.Search.{Held, nothing, just, matched}
+use Rattle.model.specs.Search.{Held, matched}
 use Rattle.model.specs.Merging.{sum_of, sums_with, all_sums, nearer, least_left}
 use Rattle.model.proofs.Elements.{all_in}
 use Rattle.rows.specs.Rows.{point_in, list_in}
 use Rattle.rows.proofs.RowParts.{row_has}
-use Rattle.pass_search.specs.States.{held_of}
-use Rattle.pass_search.specs.declared.Best as DB
 use Rattle.layout.specs.Layout.{first_row, second_row}
-use Rattle.cut_sums.specs.Sums.{first_in, second_in, point_of, SmallCosts, Values, Paired, Halved}
-
--- what holds a point has found it
-pub held_some : (p n : ℕ) (h : DB.Best) (x : Point) → held_of p n h ≡ just x → (h.found ≡ true) × (point_of p n h ≡ x)
-held_some p n h x e = go h.found refl
-  where
-    go : (b : Bool) → h.found ≡ b → (h.found ≡ true) × (point_of p n h ≡ x)
-    go true f =
-        let one : just (point_of p n h) ≡ just x = rw f at e in
-        (f, cc)
-    go false f =
-        let none : nothing ≡ just x = rw f at e in
-        let never : ◌≡◌ {A = ℕ} 0 1 = cc in
-        absurd (omega arith)
+use Rattle.cut_sums.specs.Sums.{first_in, second_in, SmallCosts, Values, Paired, Halved}
 
 -- a pass over two lists in a row, and over a sum before others
 module _ (ps : List Point) where

@@ -8,6 +8,7 @@ use mathlib.Core.List.{List, [], ◌∷◌, ◌++◌, Memᴰ as In}
 use Prim.Native.Nat.{ℕ, ◌+◌, ◌≤◌, ◌<◌}
 use native.Mathlib.Omega.{arith}
 use lib.ListN.{length, take}
+use Rattle.std.specs.Prelude.{Option, Some, None}
 use Rattle.model.specs.Limits.{max_objectives, max_points}
 use Rattle.model.specs.Frontiers.{Point, point, best}
 use Rattle.model.specs.Search.{nothing}
@@ -19,7 +20,7 @@ use Rattle.model.proofs.Sorting.{AllSized}
 use Rattle.model.proofs.Merging.{merge_some, merge_none, merge_count}
 use Rattle.rows.specs.Rows.{list_in, RowWritten}
 use Rattle.pass_search.specs.States.{held_of}
-use Rattle.pass_search.specs.declared.Best as DB
+use Rattle.pass_search.specs.declared.Met as DM
 use Rattle.pass_list.specs.Says.{FoundSays}
 use Rattle.pass_list.proofs.Made.{Made, made_done, made_full, made_next}
 use Rattle.layout.specs.Layout.{first_row, second_row}
@@ -62,20 +63,21 @@ module _ {p n a b : ℕ} {was : List ℕ} (halved : Halved p n 0 a b was) (ceili
       }
 
   -- what a pass gives
-  module _ (next : DB.Best) (gives : held_of p n next ≡ least_left ps (sums_in p n ceilings work a b) nothing) where
-    abbrev x : Point
-    x = point_of p n next
-
+  module _ (next : Option DM.Met)
+      (gives : held_of p n next ≡ least_left ps (sums_in p n ceilings work a b) nothing) where
     given : least_left ps sums nothing ≡ held_of p n next
     given = sym (gives ∙ ap (λ l. least_left ps l nothing) (sums_kept p n was work u.behind ceilings a b))
 
     -- no sum is left
-    pub merging_done : next.found ≡ false → (room : ℕ) → k ≤ room
+    pub merging_done : next ≡ None → (room : ℕ) → k ≤ room
         → FoundSays p n (best sums) room was work (record { full = false; count = k })
     merging_done none = made_done u (best sums) (merge_none p n sums sized ps u.found (rw none at given))
 
     -- a sum is found
-    module _ (some : next.found ≡ true) where
+    module _ (met : DM.Met) (some : next ≡ Some met) where
+      abbrev x : Point
+      x = point_of p n met
+
       longer : Prefix (Summed p n ceilings was a b) (ps ++ (x ∷ []))
       longer = merge_some p n sums sized ps u.found x (rw some at given)
 
@@ -87,8 +89,8 @@ module _ {p n a b : ℕ} {was : List ℕ} (halved : Halved p n 0 a b was) (ceili
       wide = (sums_good p n a b was ceilings x (longer.listed.sound x (in_right ps (here refl)))).0.0
 
       pub merging_next : k < max_points → (stored : List ℕ)
-          → RowWritten work k (point (padded max_objectives (take p next.costs)) next.choice) stored
+          → RowWritten work k (point (padded max_objectives (take p met.costs)) met.choice) stored
           → Made (Summed p n ceilings was a b) p n was stored (k + 1)
       merging_next h stored w =
           let few = halved.objectives in
-          made_next u few halved.variables (omega arith) next.costs next.choice stored wide w longer
+          made_next u few halved.variables (omega arith) met.costs met.choice stored wide w longer

@@ -9,7 +9,7 @@ use Rattle.model.specs.Frontiers.{Point, point}
 use Rattle.model.specs.Merging.{all_sums}
 use Rattle.layout.specs.Layout.{first_row, second_row, halves_end}
 use Rattle.rows.specs.Rows.{point_in, list_in}
-use Rattle.pass_search.specs.declared.Best as DB
+use Rattle.pass_search.specs.declared.Met as DM
 
 -- the halves' lists, of a and b points, and their sums under the ceilings
 abbrev pub first_in : ℕ → ℕ → List ℕ → ℕ → List Point
@@ -22,7 +22,7 @@ abbrev pub sums_in : ℕ → ℕ → List ℕ → List ℕ → ℕ → ℕ → L
 sums_in p n ceilings work a b = all_sums (take p ceilings) (first_in p n work a) (second_in p n work b)
 
 -- the point of a sum that is met or held, with p costs and n values
-abbrev pub point_of : ℕ → ℕ → DB.Best → Point
+abbrev pub point_of : ℕ → ℕ → DM.Met → Point
 point_of p n h = point (take p h.costs) (take n h.choice)
 
 -- costs of which two can be added: sums of the core

@@ -2,13 +2,13 @@
 // variables, so merging is adding.
 #![tactic(auto)]
 
-ghost use Rattle.std.specs.Prelude.{◌≡◌, true, [], ◌+◌, ◌<◌, ◌≤◌, length, take};
+ghost use Rattle.std.specs.Prelude.{◌≡◌, [], ◌+◌, ◌<◌, ◌≤◌, length, take};
 ghost use Rattle.model.specs.Basics.{All, keep_if};
 ghost use Rattle.model.specs.Limits.{max_objectives, max_variables, max_points};
 ghost use Rattle.model.specs.Core.{core_sum_end, under};
 ghost use Rattle.model.specs.Vectors.{added};
 ghost use Rattle.model.specs.Frontiers.{best};
-ghost use Rattle.model.specs.Search.{nothing, just};
+ghost use Rattle.model.specs.Search.{nothing};
 ghost use Rattle.model.specs.Merging.{ahead, sum_of, sums_with, least_left};
 ghost use Rattle.layout.specs.Layout.{list_end, row_width};
 ghost use Rattle.rows.specs.Rows.{row_at, point_in, list_in};
@@ -22,10 +22,8 @@ fn choice_sum(x: [u8; 24], y: [u8; 24], n: usize) -> [u8; 24]
     ensures { take n result ≡ added (take n x) (take n y) }
 {
     let mut sum = [0u8; 24];
-    let mut i: usize = 0;
-    while i < n {
+    for i in 0..n {
         sum[i] = x[i] + y[i];
-        i += 1;
     }
     sum
 }
@@ -37,34 +35,27 @@ fn costs_sum(x: [u64; 4], y: [u64; 4], p: usize) -> [u64; 4]
     ensures { take p result ≡ added (take p x) (take p y) }
 {
     let mut sum = [0u64; 4];
-    let mut i: usize = 0;
-    while i < p {
+    for i in 0..p {
         sum[i] = x[i] + y[i];
-        i += 1;
     }
     sum
 }
 
 // The sum of the points in rows `i` and `j`.
-fn sum_of(work: &[u32], i: usize, j: usize, p: usize, n: usize) -> pass_search::Best
+fn sum_of(work: &[u32], i: usize, j: usize, p: usize, n: usize) -> pass_search::Met
     requires { (p ≤ max_objectives) × (n ≤ max_variables) × (row_at i + row_width ≤ length work.now)
         × (row_at j + row_width ≤ length work.now)
         × SmallCosts (point_in p n work.now i) × SmallCosts (point_in p n work.now j)
         × Values (added (point_in p n work.now i).choice (point_in p n work.now j).choice) }
-    ensures { held_of p n result
-        ≡ just (sum_of (point_in p n work.now i) (point_in p n work.now j)) }
+    ensures { point_of p n result ≡ sum_of (point_in p n work.now i) (point_in p n work.now j) }
 {
     let costs = costs_sum(rows::row_costs(i, work), rows::row_costs(j, work), p);
     let choice = choice_sum(rows::row_choice(i, work), rows::row_choice(j, work), n);
-    pass_search::Best {
-        found: true,
-        costs,
-        choice,
-    }
+    pass_search::Met { costs, choice }
 }
 
 // Whether a sum comes before the point held: by its costs, and at equal costs by its choice.
-fn is_ahead(sum: pass_search::Best, held: pass_search::Best, p: usize, n: usize) -> bool
+fn is_ahead(sum: pass_search::Met, held: pass_search::Met, p: usize, n: usize) -> bool
     requires { (p ≤ max_objectives) × (n ≤ max_variables) }
     ensures { result ≡ ahead (point_of p n sum) (point_of p n held) }
 {
@@ -84,16 +75,15 @@ fn is_ahead(sum: pass_search::Best, held: pass_search::Best, p: usize, n: usize)
 // What is held once a sum is met: the nearer of the two,
 // if the sum is under the ceilings and the `k` listed points do not match it.
 fn take_sum(
-    held: pass_search::Best,
-    sum: pass_search::Best,
+    held: Option<pass_search::Met>,
+    sum: pass_search::Met,
     n: usize,
     work: &[u32],
     k: usize,
     p: usize,
     ceilings: [u64; 4],
-) -> pass_search::Best
-    requires { (list_end ≤ length work.now) × (k ≤ max_points) × (p ≤ max_objectives) × (n ≤ max_variables)
-        × (sum.found ≡ true) }
+) -> Option<pass_search::Met>
+    requires { (list_end ≤ length work.now) × (k ≤ max_points) × (p ≤ max_objectives) × (n ≤ max_variables) }
     ensures { held_of p n result
         ≡ least_left (list_in p n work.now 0 k)
         (keep_if (under (take p sum.costs) (take p ceilings)) (point_of p n sum) [])
@@ -106,17 +96,17 @@ fn take_sum(
     if pass_search::is_matched(costs, n, work, k, p) {
         return held;
     }
-    if held.found {
-        if !is_ahead(sum, held, p, n) {
+    if let Some(least) = held {
+        if !is_ahead(sum, least, p, n) {
             return held;
         }
     }
-    sum
+    Some(sum)
 }
 
 // Meets the sums of the point in row `i` with all `b` points of the second half.
 fn meet_row(
-    held: pass_search::Best,
+    held: Option<pass_search::Met>,
     i: usize,
     b: usize,
     n: usize,
@@ -124,7 +114,7 @@ fn meet_row(
     k: usize,
     p: usize,
     ceilings: [u64; 4],
-) -> pass_search::Best
+) -> Option<pass_search::Met>
     requires { Paired p n k i b work.now }
     ensures { held_of p n result
         ≡ least_left (list_in p n work.now 0 k)
@@ -132,11 +122,9 @@ fn meet_row(
         (held_of p n held) }
 {
     let mut best = held;
-    let mut j: usize = 0;
-    while j < b {
+    for j in 0..b {
         let sum = sum_of(work, i, layout::SECOND_ROW + j, p, n);
         best = take_sum(best, sum, n, work, k, p, ceilings);
-        j += 1;
     }
     best
 }
@@ -150,20 +138,14 @@ pub fn next_sum(
     k: usize,
     p: usize,
     ceilings: [u64; 4],
-) -> pass_search::Best
+) -> Option<pass_search::Met>
     requires { Halved p n k a b work.now }
     ensures { held_of p n result
         ≡ least_left (list_in p n work.now 0 k) (sums_in p n ceilings work.now a b) nothing }
 {
-    let mut best = pass_search::Best {
-        found: false,
-        costs: [0u64; 4],
-        choice: [0u8; 24],
-    };
-    let mut i: usize = 0;
-    while i < a {
+    let mut best = None;
+    for i in 0..a {
         best = meet_row(best, layout::FIRST_ROW + i, b, n, work, k, p, ceilings);
-        i += 1;
     }
     best
 }
@@ -182,29 +164,25 @@ pub fn merge_points(
     ensures { FoundSays p n (best (sums_in p n ceilings work.old a b)) room
         work.old work.new result }
 {
-    let mut k: usize = 0;
-    while k < room {
-        let next = next_sum(a, b, n, work, k, p, ceilings);
-        if !next.found {
+    for k in 0..room {
+        let Some(met) = next_sum(a, b, n, work, k, p, ceilings) else {
             return pass_list::Found {
                 full: false,
                 count: k,
             };
-        }
-        let costs = next.costs;
-        let choice = next.choice;
+        };
+        let costs = met.costs;
+        let choice = met.choice;
         rows::store_point(costs, choice, p, k, work);
-        k += 1;
     }
-    let last = next_sum(a, b, n, work, k, p, ceilings);
-    if last.found {
-        return pass_list::Found {
+    match next_sum(a, b, n, work, room, p, ceilings) {
+        Some(_) => pass_list::Found {
             full: true,
             count: 0,
-        };
-    }
-    pass_list::Found {
-        full: false,
-        count: k,
+        },
+        None => pass_list::Found {
+            full: false,
+            count: room,
+        },
     }
 }

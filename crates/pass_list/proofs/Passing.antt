@@ -2,6 +2,7 @@
 -- groups, the gains and what stands behind the list are as before.
 use mathlib.Core.Path.{◌≡◌, refl, sym, ap, ◌∙◌, subst}
 use mathlib.Core.Bool.{true, false}
+use Rattle.std.specs.Prelude.{Option, Some, None}
 use mathlib.Core.List.Memᴰ.{append_right as in_right}
 use mathlib.Core.List.Memᴰ.{head as here}
 use mathlib.Core.List.{List, [], ◌∷◌, ◌++◌}
@@ -24,7 +25,7 @@ use Rattle.groups.specs.declared.Task as DT
 use Rattle.rows.specs.Rows.{RowWritten}
 use Rattle.pass_search.specs.States.{held_of, problem_in, listed_in, gains_in, rule_of, Setting, Stands}
 use Rattle.pass_search.specs.declared.Partial as DP
-use Rattle.pass_search.specs.declared.Best as DB
+use Rattle.pass_search.specs.declared.Met as DM
 use Rattle.pass_list.specs.Says.{CoreFound}
 use Rattle.pass_list.proofs.Made.{Made, made_start, made_done, made_full, made_next}
 use Rattle.pass_list.proofs.Kept.{kept_places_lem, kept_gains, kept_grouped}
@@ -90,12 +91,9 @@ module _ {task : DT.Task} {ds s was : List ℕ} (setting : Setting task 0 ds s w
       }
 
   -- what a pass gives
-  module _ (best : DB.Best)
+  module _ (best : Option DM.Met)
       (gives : held_of p (length ds) best
       ≡ pass (problem_in task ds s work) (rule_of (problem_in task ds s work) work) ps) where
-    abbrev x : Point
-    x = point (take p best.costs) (take (length ds) best.choice)
-
     after : After q ps [] (held_of p (length ds) best)
     after =
         let e : held_of p (length ds) best ≡ pass q (rule_of q work) ps =
@@ -104,7 +102,7 @@ module _ {task : DT.Task} {ds s was : List ℕ} (setting : Setting task 0 ds s w
         (pass_holds q (rule_of q work) (gains_sound q (gains_in p work) passing_gains) ps u.made.found)
 
     -- no point is left
-    module _ (none : best.found ≡ false) where
+    module _ (none : best ≡ None) where
       listed : ps ≡ core_frontier q
       listed = pass_none q ps u.made.found (rw none at after)
 
@@ -112,7 +110,10 @@ module _ {task : DT.Task} {ds s was : List ℕ} (setting : Setting task 0 ds s w
       says_done = made_done u.made (core_frontier q) listed
 
     -- a point is found
-    module _ (some : best.found ≡ true) where
+    module _ (met : DM.Met) (some : best ≡ Some met) where
+      abbrev x : Point
+      x = point (take p met.costs) (take (length ds) met.choice)
+
       longer : Prefix (CoreReached q) (ps ++ (x ∷ []))
       longer = pass_some q ps x u.made.found (rw some at after)
 
@@ -122,11 +123,11 @@ module _ {task : DT.Task} {ds s was : List ℕ} (setting : Setting task 0 ds s w
       reached : CoreReached q x
       reached = longer.listed.sound x (in_right ps (here refl))
 
-      pub costs_wide : length (take p best.costs) ≡ p
+      pub costs_wide : length (take p met.costs) ≡ p
       costs_wide = reached_width q x reached
 
       pub passing_next : k < max_points → (stored : List ℕ)
-          → RowWritten work k (point (padded max_objectives (take p best.costs)) best.choice) stored
+          → RowWritten work k (point (padded max_objectives (take p met.costs)) met.choice) stored
           → Passing task ds s was stored (k + 1)
       passing_next h stored w =
           let few = setting.objectives in
@@ -134,7 +135,7 @@ module _ {task : DT.Task} {ds s was : List ℕ} (setting : Setting task 0 ds s w
           let count : k ≤ max_points = omega arith in
           let f = w.frame in
           record {
-            made = made_next u.made few values count best.costs best.choice stored costs_wide w longer;
+            made = made_next u.made few values count met.costs met.choice stored costs_wide w longer;
             grouped = kept_grouped ds s work r u.grouped f;
             places = kept_places_lem ds s work r u.grouped f ∙ u.places;
             gains = λ w j small i. kept_gains ds s work r u.grouped f w j small i ∙ u.gains w j small i;

@@ -30,6 +30,12 @@ pub record Gained (task : DT.Task) (ds s was work : List ℕ) : Type 0 where
   pub none : gains_in max_objectives work (length ds) ≡ replicate max_objectives 0
   pub left : Left was work
 
+pub gained_here : {task : DT.Task} {ds s was work : List ℕ} → Source task ds s was
+    → Gains (source_problem task ds s was) (gains_in task.objectives work)
+    × (gains_in max_objectives work (length ds) ≡ replicate max_objectives 0) × Left was work
+    → Gained task ds s was work
+gained_here source (known, none, left) = record { source = source; known = known; none = none; left = left }
+
 module _ {task : DT.Task} {ds s was gained : List ℕ} (u : Gained task ds s was gained) where
   abbrev p : ℕ
   p = task.objectives

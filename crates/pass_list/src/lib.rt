@@ -31,30 +31,26 @@ pub fn find_points(
 {
     let p = task.objectives;
     let room = task.room;
-    let mut k: usize = 0;
-    while k < room {
-        let best = pass_search::next_point(root, s, sizes, work, task, k);
-        if !best.found {
+    for k in 0..room {
+        let Some(met) = pass_search::next_point(root, s, sizes, work, task, k) else {
             return Found {
                 full: false,
                 count: k,
             };
-        }
-        let costs = best.costs;
-        let choice = best.choice;
+        };
+        let costs = met.costs;
+        let choice = met.choice;
         rows::store_point(costs, choice, p, k, work);
-        k += 1;
     }
-    let last = pass_search::next_point(root, s, sizes, work, task, k);
-    if last.found {
-        return Found {
+    match pass_search::next_point(root, s, sizes, work, task, room) {
+        Some(_) => Found {
             full: true,
             count: 0,
-        };
-    }
-    Found {
-        full: false,
-        count: k,
+        },
+        None => Found {
+            full: false,
+            count: room,
+        },
     }
 }
 

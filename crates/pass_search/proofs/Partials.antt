@@ -7,7 +7,8 @@ use native.Mathlib.Omega.{arith}
 use native.Mathlib.Numerals.{add-one}
 use lib.ListN.{length, get_or, take, set, length-set}
 use lib.Seq.{length-take-le, take-suc-set}
-use mir.Val.{Val}
+use mir.Syntax.{w64}
+use mir.Val.{Val, Fits}
 use denote.Laws.{Is}
 use denote.Struct.Declared.{row}
 use Rattle.model.specs.Basics.{All}
@@ -16,11 +17,9 @@ use Rattle.model.specs.Core.{core_sum_end}
 use Rattle.model.specs.Costs.{total, totals_from}
 use Rattle.model.specs.Bounds.{prefix_ok, least_of}
 use Rattle.groups.specs.Groups.{group_of, tables_over, places_in, Grouped}
-use Rattle.pass_search.specs.States.{tables_in, prefix_of, Stands, untouched, rest_of, Branching}
+use Rattle.pass_search.specs.States.{tables_in, prefix_of, Stands, untouched, rest_of}
 use Rattle.pass_search.specs.declared.Partial as DP
-use Rattle.pass_search.specs.declared.Branch as DC
 use Rattle.pass_search.specs.contracts.Partial.{the_type}
-use Rattle.pass_search.specs.contracts.Branch as branch
 use Rattle.vectors.proofs.Fours.{listed, at_listed}
 use Rattle.pass_search.proofs.FourTotals.{totals_listed}
 use Rattle.groups.proofs.SumLimits.{total_fits}
@@ -46,11 +45,6 @@ standing {x = x} g st vs h = record {
   long = h.1.1.1.0.1.0.1;
   four = bound_four x vs h;
 }
-
--- that of a branch
-pub standing_branch : {r : ℕ} {ds s work : List ℕ} {b : DC.Branch} → Grouped ds s work r → Branching r ds s work b
-    → (vs : List Val) → Is (row branch.the_type) b vs → Standing r ds s work b.partial
-standing_branch g st vs h = standing g st.stands _ h.1.1.0
 
 -- what the tables that a variable v touches add to the bound of a prefix
 abbrev pub touched_by : (v r : ℕ) (ds s work pre : List ℕ) → List ℕ
@@ -131,6 +125,11 @@ module _ {r : ℕ} {ds s work : List ℕ} {x : DP.Partial} (a : Standing r ds s 
 
       pub next_sum : (o : ℕ) → o < max_objectives → get_or rest o 0 + get_or touched o 0 ≡ whole (next x v) o
       next_sum o l = rw (rest_is, next_is, at_listed others o l, at_listed (own (next x v)) o l) (sym (split_next o))
+
+      pub sum_fits : ((i : ℕ) → get_or s i 0 < byte_end) → (o : ℕ) → o < max_objectives
+          → Fits w64 (get_or rest o 0 + get_or touched o 0)
+      sum_fits bytes o l =
+          omega (arith, next_sum o l, total_fits ds s work (next x v) r o a.grouped.placed.few bytes)
 
       pub next_bound_lem :
           listed (λ o. get_or rest o 0 + get_or touched o 0)

@@ -6,6 +6,7 @@ use Prim.Native.Nat.{ℕ, ◌+◌, ◌*◌, ◌≤◌, ◌<◌}
 use native.Mathlib.Omega.{arith}
 use lib.ListN.{length, get_or, take, drop}
 use lib.Seq.{take-take}
+use Rattle.std.specs.Prelude.{Option}
 use Rattle.model.specs.Basics.{pick}
 use Rattle.model.specs.Limits.{max_objectives}
 use Rattle.model.specs.Problems.{Problem}
@@ -22,14 +23,20 @@ use Rattle.pass_search.specs.States.{held_of, tables_in, problem_in, listed_in, 
 use Rattle.pass_search.specs.States.{gains_in, rule_of}
 use Rattle.pass_search.specs.States.{Setting, opens_from, tries_from}
 use Rattle.pass_search.specs.declared.Partial as DP
-use Rattle.pass_search.specs.declared.Best as DB
+use Rattle.pass_search.specs.declared.Met as DM
 use Rattle.model.proofs.Totals.{take_totals}
 use Rattle.pass_search.proofs.FourTotals.{added_zero}
 use Rattle.pass_search.proofs.Partials.{Standing, prefix_length}
 use Rattle.pass_search.proofs.Opening.{Unchanged, opens_leaf, opens_tries, opens_dead, tries_end, tries_next}
 
+-- the search of the values from v on of a partial choice's next variable, with what is held so far
+abbrev pub tried_from : DT.Task → ℕ → (ds s work : List ℕ) → DP.Partial → ℕ → Option DM.Met → Held
+tried_from task k ds s work x v best =
+    tries_from (problem_in task ds s work) work (listed_in task ds work k) (prefix_of x) v
+    (held_of task.objectives (length ds) best)
+
 module _ {task : DT.Task} {k : ℕ} {ds s work : List ℕ} {x : DP.Partial} (mem : Setting task k ds s work)
-    (a : Standing task.records ds s work x) (best : DB.Best) where
+    (a : Standing task.records ds s work x) (best : Option DM.Met) where
   abbrev p : ℕ
   p = task.objectives
 
@@ -90,8 +97,8 @@ module _ {task : DT.Task} {k : ℕ} {ds s work : List ℕ} {x : DP.Partial} (mem
           rw (bound_front, all)
           (sym (leaf ∙ ap (λ b. pick b held (just (point (bound_of q (prefix_of x)) (prefix_of x)))) off))
 
-      pub begins : x.len < length ds → (after : DB.Best)
-          → held_of p (length ds) after ≡ tries_from q work ps (prefix_of x) 0 held
+      pub begins : x.len < length ds → (after : Option DM.Met)
+          → held_of p (length ds) after ≡ tried_from task k ds s work x 0 best
           → held_of p (length ds) after ≡ opens_from q work ps (prefix_of x) held
       begins l after h =
           h
@@ -100,15 +107,13 @@ module _ {task : DT.Task} {k : ℕ} {ds s work : List ℕ} {x : DP.Partial} (mem
 
   -- the values of the next variable from v on
   module _ (v : ℕ) where
-    pub ended : get_or ds x.len 0 ≤ v → held ≡ tries_from q work ps (prefix_of x) v held
+    pub ended : get_or ds x.len 0 ≤ v → held ≡ tried_from task k ds s work x v best
     ended l = sym (tries_end q work ps (prefix_of x) held v (rw (prefix_length a) l))
 
-    pub tried : v < get_or ds x.len 0 → (child : DP.Partial) (next after : DB.Best)
+    pub tried : v < get_or ds x.len 0 → (child : DP.Partial) (next : Option DM.Met)
         → prefix_of child ≡ prefix_of x ++ (v ∷ [])
         → held_of p (length ds) next ≡ opens_from q work ps (prefix_of child) held
-        → held_of p (length ds) after ≡ tries_from q work ps (prefix_of x) (v + 1) (held_of p (length ds) next)
-        → held_of p (length ds) after ≡ tries_from q work ps (prefix_of x) v held
-    tried l child next after c o h =
-        h
-        ∙ sym (tries_next q work ps (prefix_of x) held v (rw (prefix_length a) l)
+        → tried_from task k ds s work x (v + 1) next ≡ tried_from task k ds s work x v best
+    tried l child next c o =
+        sym (tries_next q work ps (prefix_of x) held v (rw (prefix_length a) l)
         ∙ ap (tries_from q work ps (prefix_of x) (v + 1)) (sym (o ∙ ap (λ y. opens_from q work ps y held) c)))

@@ -11,7 +11,7 @@ ghost use Rattle.layout.specs.Layout.{list_end, search_end};
 ghost use Rattle.groups.specs.Groups.{Placed, Grouped};
 ghost use Rattle.rows.specs.Rows.{list_in};
 ghost use Rattle.pass_search.specs.States.{held_of, problem_in, listed_in, prefix_of, dead_under, gains_in, rule_of};
-ghost use Rattle.pass_search.specs.States.{Setting, Stands, Branching, rest_of, opens_from, tries_from};
+ghost use Rattle.pass_search.specs.States.{Setting, Stands, rest_of, opens_from};
 
 // A partial choice: values of the first `len` variables, and the bound of that prefix.
 #[derive(Clone, Copy)]
@@ -21,19 +21,9 @@ pub struct Partial {
     pub bound: [u64; 4],
 }
 
-// The values of the next variable from `value` on are to be tried; `rest` is what the records that it does not touch
-// add to the bound.
+// A point that a pass has met. What a pass holds is the least one so far, if any.
 #[derive(Clone, Copy)]
-pub struct Branch {
-    pub partial: Partial,
-    pub rest: [u64; 4],
-    pub value: u8,
-}
-
-// The least point that a pass has met so far, if any.
-#[derive(Clone, Copy)]
-pub struct Best {
-    pub found: bool,
+pub struct Met {
     pub costs: [u64; 4],
     pub choice: [u8; 24],
 }
@@ -43,12 +33,10 @@ pub fn is_matched(c: [u64; 4], n: usize, work: &[u32], k: usize, p: usize) -> bo
     requires { (list_end ≤ length work.now) × (k ≤ max_points) × (p ≤ max_objectives) }
     ensures { result ≡ matched (take p c) (list_in p n work.now 0 k) }
 {
-    let mut i: usize = 0;
-    while i < k {
+    for i in 0..k {
         if vectors::is_at_most(&rows::row_costs(i, work), &c, p) {
             return true;
         }
-        i += 1;
     }
     false
 }
@@ -57,7 +45,7 @@ pub fn is_matched(c: [u64; 4], n: usize, work: &[u32], k: usize, p: usize) -> bo
 // or not earlier than the point held.
 fn is_dead(
     bound: [u64; 4],
-    best: Best,
+    best: Option<Met>,
     n: usize,
     work: &[u32],
     task: groups::Task,
@@ -76,11 +64,13 @@ fn is_dead(
     if is_matched(bound, n, work, k, p) {
         return true;
     }
-    if best.found {
-        let costs = best.costs;
-        return !vectors::is_earlier(bound, costs, p);
+    match best {
+        Some(held) => {
+            let costs = held.costs;
+            !vectors::is_earlier(bound, costs, p)
+        }
+        None => false,
     }
-    false
 }
 
 // The bound with what the variables after the prefix add to it.
@@ -147,17 +137,17 @@ impl Partial {
     }
 }
 
-// Opens the next variable of a partial choice, unless the branch is hopeless; a complete choice is held.
-#[cycle(open_variable_try_value)]
+// Opens the next variable of a partial choice and searches each of its values, unless the branch is hopeless;
+// a complete choice is held.
 pub fn open_variable(
     x: Partial,
-    best: Best,
+    best: Option<Met>,
     s: &[u8],
     sizes: &[u8],
     work: &[u32],
     task: groups::Task,
     k: usize,
-) -> Best
+) -> Option<Met>
     requires { Setting task k sizes.now s.now work.now
         × Stands task.records sizes.now s.now work.now x }
     ensures { held_of task.objectives (length sizes.now) result
@@ -165,62 +155,24 @@ pub fn open_variable(
         work.now (listed_in task sizes.now work.now k) (prefix_of x)
         (held_of task.objectives (length sizes.now) best) }
 {
-    let bound = x.bound;
     let sharper = sharper_bound(x, work);
     let n = sizes.len();
     if is_dead(sharper, best, n, work, task, k) {
         return best;
     }
-    if x.len == n {
+    let len = x.len;
+    if len == n {
+        let costs = x.bound;
         let choice = x.values;
-        return Best {
-            found: true,
-            costs: bound,
-            choice,
-        };
+        return Some(Met { costs, choice });
     }
     let rest = rest_of(x, s, sizes, work, task.records);
-    let branch = Branch {
-        partial: x,
-        rest,
-        value: 0,
-    };
-    try_value(branch, best, s, sizes, work, task, k)
-}
-
-// Tries the values of the next variable from the branch's on.
-#[cycle(open_variable_try_value)]
-pub fn try_value(
-    branch: Branch,
-    best: Best,
-    s: &[u8],
-    sizes: &[u8],
-    work: &[u32],
-    task: groups::Task,
-    k: usize,
-) -> Best
-    requires { Setting task k sizes.now s.now work.now
-        × Branching task.records sizes.now s.now work.now branch }
-    ensures { held_of task.objectives (length sizes.now) result
-        ≡ tries_from (problem_in task sizes.now s.now work.now)
-        work.now (listed_in task sizes.now work.now k) (prefix_of branch.partial)
-        branch.value (held_of task.objectives (length sizes.now) best) }
-{
-    let x = branch.partial;
-    let rest = branch.rest;
-    let v = branch.value;
-    let len = x.len;
-    if v >= sizes[len] {
-        return best;
+    let mut held = best;
+    for v in 0..sizes[len] {
+        let child = x.with(v, rest, s, sizes, work, task.records);
+        held = open_variable(child, held, s, sizes, work, task, k);
     }
-    let child = x.with(v, rest, s, sizes, work, task.records);
-    let better = open_variable(child, best, s, sizes, work, task, k);
-    let next = Branch {
-        partial: x,
-        rest,
-        value: v + 1,
-    };
-    try_value(next, better, s, sizes, work, task, k)
+    held
 }
 
 // The empty partial choice, with its bound over the `r` records that are searched.
@@ -251,7 +203,7 @@ pub fn next_point(
     work: &[u32],
     task: groups::Task,
     k: usize,
-) -> Best
+) -> Option<Met>
     requires { Setting task k sizes.now s.now work.now
         × Stands task.records sizes.now s.now work.now root × (root.len ≡ 0) }
     ensures { held_of task.objectives (length sizes.now) result
@@ -259,10 +211,5 @@ pub fn next_point(
         (rule_of (problem_in task sizes.now s.now work.now) work.now)
         (listed_in task sizes.now work.now k) }
 {
-    let none = Best {
-        found: false,
-        costs: [0u64; 4],
-        choice: [0u8; 24],
-    };
-    open_variable(root, none, s, sizes, work, task, k)
+    open_variable(root, None, s, sizes, work, task, k)
 }

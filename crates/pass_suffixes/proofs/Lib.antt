@@ -1,5 +1,4 @@
 -- The laws that the functions' proofs share.
-pub mod Filling
 pub mod SideLists
 pub mod GainRows
 pub mod FindSteps

@@ -1,21 +1,14 @@
 -- Side lists of the variables from k on: ones over zeros, and the front of a longer one.
 use mathlib.Core.Path.{◌≡◌, ap, ◌∙◌}
-use mathlib.Core.List.{[], ◌++◌, append-nil}
+use mathlib.Core.List.{◌++◌}
 use Prim.Native.Nat.{ℕ, ◌+◌, ◌-◌, ◌≤◌}
 use native.Mathlib.Omega.{arith}
-use lib.ListN.{length, take, drop, replicate, length-replicate, drop_of_length-le}
+use lib.ListN.{length, take, replicate, length-replicate}
 use lib.Seq.{take-append-add}
 use Rattle.model.specs.Suffixes.{suffix_sides}
 use Rattle.model.proofs.Zeros.{front_same}
-use Rattle.groups.proofs.Overwritten.{over}
 
 module _ (n k : ℕ) (below : k ≤ n) where
-  pub sides_written : over (replicate n 0) k (replicate (n - k) 1) n ≡ suffix_sides n k
-  sides_written =
-      let none : drop n (replicate {A = ℕ} n 0) ≡ [] = drop_of_length-le (replicate n 0) {i = n}
-      (omega (arith, length-replicate {A = ℕ} n 0)) in
-      rw (none, append-nil, front_same k n 0 below)
-
   -- of fewer variables
   pub sides_front : (m : ℕ) → n ≤ m → take n (suffix_sides m k) ≡ suffix_sides n k
   sides_front m h =

@@ -1,19 +1,18 @@
 -- The search of the last variables in one objective: what work memory holds for it, and the gain that its result gives.
 use mathlib.Core.Path.{◌≡◌, refl, sym, ap, ◌∙◌, subst}
-use mathlib.Core.Bool.{Bool, true, false}
 use mathlib.Core.List.{List, [], ◌∷◌, ◌++◌}
 use Prim.Native.Nat.{ℕ, suc, ◌+◌, ◌-◌, ◌≤◌, ◌<◌}
 use native.Mathlib.Omega.{arith}
 use native.Mathlib.Numerals.{add-one}
 use lib.ListN.{length, get_or, take, drop, replicate, length-drop}
 use lib.Seq.{length-take-le, get_or-take}
-use Rattle.model.specs.Basics.{pick}
-use Rattle.model.specs.Limits.{max_tables}
+use Rattle.std.specs.Prelude.{Option, Some, None}
+use Rattle.std.specs.Option.{option_map_or}
+use Rattle.model.specs.Limits.{max_tables, max_variables}
 use Rattle.model.specs.Problems.{Problem, DomainSize}
 use Rattle.model.specs.Bounds.{least_of}
 use Rattle.model.specs.Costs.{total}
-use Rattle.model.specs.Frontiers.{point}
-use Rattle.model.specs.Search.{Held, nothing, just, pass}
+use Rattle.model.specs.Search.{Held, pass}
 use Rattle.model.specs.Views.{narrowed}
 use Rattle.model.specs.Suffixes.{suffix_sides, suffix_of, least_cost, gain_of, Gain, Gains}
 use Rattle.model.proofs.Lists.{drop_later}
@@ -28,7 +27,7 @@ use Rattle.rows.specs.Rows.{list_in}
 use Rattle.pass_search.specs.States.{held_of, problem_in, listed_in, tables_in, prefix_of, gains_in, rule_of}
 use Rattle.pass_search.specs.States.{Setting, Stands}
 use Rattle.pass_search.specs.declared.Partial as DP
-use Rattle.pass_search.specs.declared.Best as DB
+use Rattle.pass_search.specs.declared.Met as DM
 use Rattle.vectors.proofs.Fours.{at_listed}
 use Rattle.pass_search.proofs.FourTotals.{totals_listed}
 use Rattle.views.specs.Wanted.{kept_places}
@@ -38,6 +37,7 @@ use Rattle.views.proofs.KeptTables.{suffix_part, wanted_suffix}
 use Rattle.groups.specs.Sources.{source_in, source_problem, Source}
 use Rattle.groups.specs.declared.Task as DT
 use Rattle.pass_suffixes.specs.Gained.{FoundFrom}
+use Rattle.pass_suffixes.proofs.SideLists.{sides_front}
 use Rattle.pass_suffixes.proofs.GainRows.{row_at, row_width_lem, found_same, found_last}
 
 -- the task of objective o alone: so many records, under the ceilings cs, and one point
@@ -57,6 +57,26 @@ pub record Suffix (task : DT.Task) (ds s was : List ℕ) (o k : ℕ) (ss sizes :
   pub counted : count ≡ length (kept_places (suffix_part o) ss s (source_in was task.records))
   pub written : laid
       ≡ over was records_at (kept_places (suffix_part o) ss s (source_in was task.records)) (records_at + count)
+
+-- the side list is the front of one of all variables
+pub suffix_here : {task : DT.Task} {ds s was : List ℕ} {o k : ℕ} {sides sizes : List ℕ} {count : ℕ} {laid : List ℕ}
+    → Source task ds s was × FoundFrom (source_problem task ds s was) o k was × (o < task.objectives) × (k < length ds)
+    → sides ≡ suffix_sides max_variables k → sizes ≡ narrowed 1 (take (length ds) sides) ds
+    → (count ≡ length (kept_places (suffix_part o) (take (length ds) sides) s (source_in was task.records)))
+    × (laid ≡ over was records_at (kept_places (suffix_part o) (take (length ds) sides) s (source_in was task.records))
+    (records_at + count))
+    → Suffix task ds s was o k (take (length ds) sides) sizes count laid
+suffix_here {ds = ds} {k = k} (source, known, own, more) is narrow (counted, written) = record {
+  source = source;
+  known = known;
+  own = own;
+  more = more;
+  sides =
+      ap (take (length ds)) is ∙ sides_front (length ds) k (omega (arith, more)) max_variables source.variables;
+  narrow = narrow;
+  counted = counted;
+  written = written;
+}
 
 module _ {task : DT.Task} {ds s was : List ℕ} {o k : ℕ} {ss sizes : List ℕ} {count : ℕ} {laid : List ℕ}
     (u : Suffix task ds s was o k ss sizes count laid) where
@@ -181,7 +201,7 @@ module _ {task : DT.Task} {ds s was : List ℕ} {o k : ℕ} {ss sizes : List ℕ
 
     -- what it finds, from the empty choice `root` with its bound
     module _ (cs : List ℕ) (limits : take (o + 1) cs ≡ replicate o 1 ++ (top ∷ [])) (root : DP.Partial)
-        (start : (root.len ≡ 0) × Stands count sizes s work root) (best : DB.Best)
+        (start : (root.len ≡ 0) × Stands count sizes s work root) (best : Option DM.Met)
         (gives : held_of (o + 1) (length sizes) best
         ≡ pass (problem_in (alone count o cs) sizes s work) (rule_of (problem_in (alone count o cs) sizes s work) work)
         (listed_in (alone count o cs) sizes work 0)) where
@@ -194,17 +214,16 @@ module _ {task : DT.Task} {ds s was : List ℕ} {o k : ℕ} {ss sizes : List ℕ
           subst (λ (part : Problem). held_of (o + 1) (length sizes) best ≡ pass part (rule_of part work) [])
           (suffix_problem cs limits) gives
 
+      -- the cost of a point, or c where there is none
       cost_is : (c : ℕ)
-          → least_cost o c (held_of (o + 1) (length sizes) best) ≡ pick best.found (get_or best.costs o 0) c
+          → least_cost o c (held_of (o + 1) (length sizes) best) ≡ option_map_or (λ met. get_or met.costs o 0) best c
       unfolding least_cost
-      cost_is c = go best.found
+      cost_is c = go best
         where
-          go : (b : Bool)
-              → least_cost o c
-              (pick b (just (point (take (o + 1) best.costs) (take (length sizes) best.choice))) nothing)
-              ≡ pick b (get_or best.costs o 0) c
-          go true = get_or-take (o + 1) best.costs o 0 (omega arith)
-          go false = refl
+          go : (b : Option DM.Met)
+              → least_cost o c (held_of (o + 1) (length sizes) b) ≡ option_map_or (λ met. get_or met.costs o 0) b c
+          go (Some met) = get_or-take (o + 1) met.costs o 0 (omega arith)
+          go None = refl
 
       least_is : get_or root.bound o 0 ≡ total o (least_of (suffix_of q o k).domains []) (suffix_of q o k).tables
       unfolding suffix_of
@@ -221,12 +240,12 @@ module _ {task : DT.Task} {ds s was : List ℕ} {o k : ℕ} {ss sizes : List ℕ
           (omega (arith, u.source.objectives, u.own)))
 
       gain_is :
-          pick best.found (get_or best.costs o 0) top - get_or root.bound o 0 ≡ gain_of q o k result
+          option_map_or (λ met. get_or met.costs o 0) best top - get_or root.bound o 0 ≡ gain_of q o k result
       unfolding gain_of
       gain_is = rw (← held_is, ceiling, cost_is top, least_is) refl
 
       pub gain_holds : (g : ℕ)
-          → g ≤ pick best.found (get_or best.costs o 0) top - get_or root.bound o 0 → Gain q o k g
+          → g ≤ option_map_or (λ met. get_or met.costs o 0) best top - get_or root.bound o 0 → Gain q o k g
       gain_holds g less =
           let most = gain_of q o k result in
           let small : g ≤ most = omega (arith, gain_is) in

@@ -3,7 +3,7 @@
 #![tactic(auto)]
 
 ghost use Rattle.std.specs.Prelude.{◌≡◌, ◌++◌, ◌∷◌, [], ◌+◌, ◌-◌, ◌<◌, ◌≤◌, length, get_or, take, drop, replicate};
-ghost use Rattle.model.specs.Basics.{pick};
+ghost use Rattle.std.specs.Option.{option_map_or};
 ghost use Rattle.model.specs.Limits.{max_objectives, max_variables};
 ghost use Rattle.model.specs.Suffixes.{suffix_sides, Gain, Gains};
 ghost use Rattle.layout.specs.Layout.{gains_at, source_at};
@@ -17,11 +17,7 @@ fn suffix_sides(k: usize) -> [u8; 24]
     ensures { result ≡ suffix_sides max_variables k }
 {
     let mut sides = [0u8; 24];
-    let mut v = k;
-    while v < 24 {
-        sides[v] = 1;
-        v += 1;
-    }
+    sides[k..].fill(1);
     sides
 }
 
@@ -37,23 +33,16 @@ fn suffix_ceilings(o: usize, c: u64) -> [u64; 4]
 
 // What the least cost is more than the sum of least entries, or the largest number of four bytes where that is less: a
 // smaller gain is sound too. The ceiling stands for the least cost where no choice is under it.
-fn gain_of(best: pass_search::Best, least: u64, o: usize, c: u64) -> u32
+fn gain_of(best: Option<pass_search::Met>, least: u64, o: usize, c: u64) -> u32
     requires { o < max_objectives }
-    ensures { result ≤ pick best.found (get_or best.costs o 0) c - least }
+    ensures { result ≤ option_map_or (λ met. get_or met.costs o 0) best c - least }
 {
-    let costs = best.costs;
-    let mut cost = c;
-    if best.found {
-        cost = costs[o];
-    }
-    if cost <= least {
-        return 0;
-    }
-    let gain = cost - least;
-    if gain > 4294967295 {
-        return 4294967295;
-    }
-    gain as u32
+    let cost = match best {
+        Some(met) => met.costs[o],
+        None => c,
+    };
+    let gain = cost.saturating_sub(least);
+    gain.min(u32::MAX as u64) as u32
 }
 
 // The gain of objective `o` and the variables from `k` on,
@@ -113,9 +102,7 @@ fn objective_gains(s: &[u8], sizes: &[u8], task: groups::Task, o: usize, work: &
         o 0 work.new
         × Left work.old work.new }
 {
-    let mut k = sizes.len();
-    while k > 1 {
-        k -= 1;
+    for k in (1..sizes.len()).rev() {
         let gain = suffix_gain(s, sizes, task, o, k, work);
         work[layout::GAINS_AT + 4 * k + o] = gain;
     }
@@ -130,9 +117,7 @@ pub fn find_gains(s: &[u8], sizes: &[u8], task: groups::Task, work: &mut [u32])
         × Left work.old work.new }
 {
     clear_gains(work);
-    let mut o = task.objectives;
-    while o > 0 {
-        o -= 1;
+    for o in (0..task.objectives).rev() {
         objective_gains(s, sizes, task, o, work);
     }
 }
@@ -143,9 +128,5 @@ fn clear_gains(work: &mut [u32])
     ensures { work.new
         ≡ take gains_at work.old ++ replicate (source_at - gains_at) 0 ++ drop source_at work.old }
 {
-    let mut at = layout::GAINS_AT;
-    while at < layout::SOURCE_AT {
-        work[at] = 0;
-        at += 1;
-    }
+    work[layout::GAINS_AT..layout::SOURCE_AT].fill(0);
 }
