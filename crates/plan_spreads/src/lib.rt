@@ -72,23 +72,16 @@ pub fn extents_of(s: &[u8], sizes: &[u8], r: usize, ceilings: [u64; 4], places: 
 fn fitted(ceiling: u64, most: u64) -> u64
     ensures { FittedTo ceiling most result }
 {
-    if ceiling != 4294967296 {
-        return ceiling;
+    if ceiling == 4294967296 && most < 4294967295 {
+        4294967295
+    } else {
+        ceiling
     }
-    if most >= 4294967295 {
-        return ceiling;
-    }
-    4294967295
 }
 
 // Such ceilings for all objectives.
 pub fn fitted_ceilings(ceilings: [u64; 4], mosts: [u64; 4]) -> [u64; 4]
     ensures { Fitted ceilings mosts result }
 {
-    [
-        fitted(ceilings[0], mosts[0]),
-        fitted(ceilings[1], mosts[1]),
-        fitted(ceilings[2], mosts[2]),
-        fitted(ceilings[3], mosts[3]),
-    ]
+    std::array::from_fn(|o| fitted(ceilings[o], mosts[o]))
 }
