@@ -76,10 +76,9 @@ fn in_every_row(row: [u64; 4]) -> [u64; 16] {
 }
 
 // The table with these numbers as its last row.
-fn with_last_row(table: [u64; 16], row: [u64; 4]) -> [u64; 16] {
-    let mut changed = table;
-    changed[12..].copy_from_slice(&row);
-    changed
+fn with_last_row(mut table: [u64; 16], row: [u64; 4]) -> [u64; 16] {
+    table[12..].copy_from_slice(&row);
+    table
 }
 
 // The fourth sum has these shares, by slacks.
