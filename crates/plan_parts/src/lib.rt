@@ -12,24 +12,21 @@ pub struct Parts {
 }
 
 // Sees to it that a part covers the set, if there is place: the first part that can take it in does, or a new one.
-fn cover(set: u32, parts: Parts) -> Parts {
+fn cover(set: u32, parts: &mut Parts) {
     let most = parts.most;
     let count = parts.count;
     let made = &parts.sets[..count.min(64)];
     if made.iter().any(|part| *part | set == *part) {
-        return parts;
+        return;
     }
     let g = made
         .iter()
         .position(|part| (*part | set).count_ones() <= most)
         .unwrap_or(count);
-    if 64 <= g {
-        return parts;
+    if g < 64 {
+        parts.sets[g] |= set;
+        parts.count = count.max(g + 1);
     }
-    let mut all = parts;
-    all.sets[g] |= set;
-    all.count = count.max(g + 1);
-    all
 }
 
 // Parts for the records or slots from number `from` to below `to` with `size` positions besides `own`.
@@ -40,16 +37,14 @@ fn cover_all(
     from: usize,
     to: usize,
     plan: &[u32],
-    parts: Parts,
-) -> Parts {
-    let mut all = parts;
+    parts: &mut Parts,
+) {
     for i in from..to {
         let set = plan_memory::scope_at(listed, i, plan) & !own;
         if set.count_ones() == size {
-            all = cover(set, all);
+            cover(set, parts);
         }
     }
-    all
 }
 
 // The parts of a bucket with this span, large functions first: sets of at most `most` positions, two or three. `own` is
@@ -64,14 +59,14 @@ pub fn make_parts(
     let records = plan_memory::Listed::Records(s);
     let slots = plan_memory::Listed::Slots;
     let last = span.last.min(layout::MAX_MESSAGES);
-    let mut all = Parts {
+    let mut parts = Parts {
         most,
         count: 0,
         sets: [0u32; 64],
     };
     for size in [2, 1, 0] {
-        all = cover_all(records, own, size, span.from, span.to, plan, all);
-        all = cover_all(slots, own, size, span.first, last, plan, all);
+        cover_all(records, own, size, span.from, span.to, plan, &mut parts);
+        cover_all(slots, own, size, span.first, last, plan, &mut parts);
     }
-    all
+    parts
 }
