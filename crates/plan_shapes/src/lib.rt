@@ -7,7 +7,8 @@ ghost use Rattle.layout.specs.Places.{numbers_at};
 ghost use Rattle.branch_directions.specs.Directions.{Sensible};
 ghost use Rattle.plan_memory.specs.Arranged.{Loose};
 
-// No variable has this number: it stands for one that a message lacks.
+// No variable has this number: it stands for one that a message lacks, as it does in the plan itself (a rule of the
+// project: fixed memory), so that a variable that is read and one that is made are alike.
 pub const NO_VARIABLE: usize = 255;
 
 // Three variables have at most so many combinations of values.
