@@ -6,7 +6,6 @@ ghost use Rattle.std.specs.Prelude.{◌≡◌, ◌≤◌, ◌<◌, length};
 ghost use Rattle.model.specs.Limits.{max_tables};
 ghost use Rattle.layout.specs.Places.{numbers_at, max_messages, children_at, loose_at};
 ghost use Rattle.branch_buckets.specs.Messages.{count_from};
-ghost use Rattle.branch_buckets.proofs.Rearranging.{exchanged};
 ghost use Rattle.groups.proofs.Overwritten.{over};
 ghost use Rattle.plan_memory.specs.Arranged.{Loose, Arranged};
 
@@ -17,49 +16,35 @@ pub const MOST_NUMBER: usize = 4294967295;
 pub fn put(i: usize, number: usize, plan: &mut [u32])
     ensures { Loose plan.old plan.new }
 {
-    if layout::LOOSE_AT <= i {
-        if i < plan.len() {
-            if number <= MOST_NUMBER {
-                plan[i] = number as u32;
-            }
-        }
+    if layout::LOOSE_AT <= i && i < plan.len() && number <= MOST_NUMBER {
+        plan[i] = number as u32;
     }
 }
 
-// Numbers `i` and `j` change places.
-fn exchange(i: usize, j: usize, plan: &mut [u32])
-    requires { (i < length plan.old) × (j < length plan.old) }
-    ensures { plan.new ≡ exchanged plan.old i j }
-{
-    let a = plan[i];
-    let b = plan[j];
-    plan[i] = b;
-    plan[j] = a;
+// What a plan lists, and only the order of which it may change: the records of a problem, or the slots.
+#[derive(Clone, Copy)]
+pub enum Listed<'a> {
+    Records(&'a [u8]),
+    Slots,
 }
 
-// Two of the `r` records change places.
-fn exchange_records(i: usize, j: usize, r: usize, plan: &mut [u32])
+// Two of the `r` records, or two slots, change places.
+fn exchange(listed: Listed<'_>, i: usize, j: usize, r: usize, plan: &mut [u32])
     requires { r ≤ max_tables }
     ensures { Arranged r plan.old plan.new }
 {
-    if i < r {
-        if j < r {
-            if layout::LOOSE_AT <= plan.len() {
-                exchange(i, j, plan);
+    if plan.len() < layout::LOOSE_AT {
+        return;
+    }
+    match listed {
+        Listed::Records(_) => {
+            if i < r && j < r {
+                plan.swap(i, j);
             }
         }
-    }
-}
-
-// Two slots change places.
-fn exchange_slots(i: usize, j: usize, r: usize, plan: &mut [u32])
-    requires { r ≤ max_tables }
-    ensures { Arranged r plan.old plan.new }
-{
-    if i < layout::MAX_MESSAGES {
-        if j < layout::MAX_MESSAGES {
-            if layout::LOOSE_AT <= plan.len() {
-                exchange(layout::CHILDREN_AT + i, layout::CHILDREN_AT + j, plan);
+        Listed::Slots => {
+            if i < layout::MAX_MESSAGES && j < layout::MAX_MESSAGES {
+                plan.swap(layout::CHILDREN_AT + i, layout::CHILDREN_AT + j);
             }
         }
     }
@@ -78,11 +63,9 @@ pub fn record_scope(s: &[u8], at: usize, plan: &[u32]) -> u32 {
     }
     let a = branch_buckets::byte_at(s, at + 3);
     let mut set: u32 = 0;
-    let mut i: usize = 0;
-    while i < a {
+    for i in 0..a {
         let v = branch_buckets::byte_at(s, at + 4 + i);
-        set = set | bit(branch_buckets::number_at(plan, layout::POSITIONS_AT + v));
-        i += 1;
+        set |= bit(branch_buckets::number_at(plan, layout::POSITIONS_AT + v));
     }
     set
 }
@@ -90,9 +73,10 @@ pub fn record_scope(s: &[u8], at: usize, plan: &[u32]) -> u32 {
 // The position of variable `v` as a set.
 fn position_of(v: usize, plan: &[u32]) -> u32 {
     if v < 24 {
-        return bit(branch_buckets::number_at(plan, layout::POSITIONS_AT + v));
+        bit(branch_buckets::number_at(plan, layout::POSITIONS_AT + v))
+    } else {
+        0
     }
-    0
 }
 
 // The positions that message `g` reads.
@@ -102,24 +86,56 @@ pub fn message_scope(g: usize, plan: &[u32]) -> u32 {
     }
     let at = layout::MESSAGES_AT + layout::MESSAGE_WIDTH * g;
     let mut set: u32 = 0;
-    if branch_buckets::number_at(plan, at + 2) != 0 {
-        set = position_of(branch_buckets::number_at(plan, at + 1), plan);
-    }
-    if branch_buckets::number_at(plan, at + 4) != 0 {
-        set = set | position_of(branch_buckets::number_at(plan, at + 3), plan);
-    }
-    if branch_buckets::number_at(plan, at + 6) != 0 {
-        set = set | position_of(branch_buckets::number_at(plan, at + 5), plan);
+    for i in [1, 3, 5] {
+        if branch_buckets::number_at(plan, at + i + 1) != 0 {
+            set |= position_of(branch_buckets::number_at(plan, at + i), plan);
+        }
     }
     set
 }
 
+// The positions that record or slot `i` reads; none behind the last slot.
+pub fn scope_at(listed: Listed<'_>, i: usize, plan: &[u32]) -> u32 {
+    match listed {
+        Listed::Records(s) => record_scope(s, branch_buckets::number_at(plan, i), plan),
+        Listed::Slots if i < layout::MAX_MESSAGES => {
+            message_scope(
+                branch_buckets::number_at(plan, layout::CHILDREN_AT + i),
+                plan,
+            )
+        }
+        Listed::Slots => 0,
+    }
+}
+
 // Whether a set has all of `needed`, and nothing outside `allowed`.
 fn is_between(set: u32, needed: u32, allowed: u32) -> bool {
-    if set & needed != needed {
-        return false;
+    set & needed == needed && set & !allowed == 0
+}
+
+// Of the records or slots from number `from` to below `to` brings those whose positions have all of `needed` and nothing
+// outside `allowed` to the front, and answers where they end.
+#[tactic(auto, using(crate::proofs::Arranging::arranged_refl))]
+fn gather(
+    listed: Listed<'_>,
+    needed: u32,
+    allowed: u32,
+    from: usize,
+    to: usize,
+    r: usize,
+    plan: &mut [u32],
+) -> usize
+    requires { r ≤ max_tables }
+    ensures { Arranged r plan.old plan.new }
+{
+    let mut end = from;
+    for i in from..to {
+        if is_between(scope_at(listed, i, plan), needed, allowed) {
+            exchange(listed, end, i, r, plan);
+            end += 1;
+        }
     }
-    set & !allowed == 0
+    end
 }
 
 // Of the records from number `from` to below `to` brings those whose positions have all of `needed` and nothing outside
@@ -136,17 +152,7 @@ pub fn gather_records(
     requires { r ≤ max_tables }
     ensures { Arranged r plan.old plan.new }
 {
-    let mut end = from;
-    let mut i = from;
-    while i < to {
-        let set = record_scope(s, branch_buckets::number_at(plan, i), plan);
-        if is_between(set, needed, allowed) {
-            exchange_records(end, i, r, plan);
-            end += 1;
-        }
-        i += 1;
-    }
-    end
+    gather(Listed::Records(s), needed, allowed, from, to, r, plan)
 }
 
 // The same for the slots, by what their messages read.
@@ -161,23 +167,15 @@ pub fn gather_slots(
     requires { r ≤ max_tables }
     ensures { Arranged r plan.old plan.new }
 {
-    let mut end = from;
-    let mut i = from;
-    while i < to {
-        if layout::MAX_MESSAGES <= i {
-            return end;
-        }
-        let set = message_scope(
-            branch_buckets::number_at(plan, layout::CHILDREN_AT + i),
-            plan,
-        );
-        if is_between(set, needed, allowed) {
-            exchange_slots(end, i, r, plan);
-            end += 1;
-        }
-        i += 1;
-    }
-    end
+    gather(
+        Listed::Slots,
+        needed,
+        allowed,
+        from,
+        to.min(layout::MAX_MESSAGES),
+        r,
+        plan,
+    )
 }
 
 // Writes the numbers of the messages into the slots, in order.
@@ -185,9 +183,7 @@ pub fn fill_slots(plan: &mut [u32])
     requires { numbers_at ≤ length plan.old }
     ensures { plan.new ≡ over plan.old children_at (count_from 0 max_messages) loose_at }
 {
-    let mut i: usize = 0;
-    while i < layout::MAX_MESSAGES {
+    for i in 0..layout::MAX_MESSAGES {
         plan[layout::CHILDREN_AT + i] = i as u32;
-        i += 1;
     }
 }

@@ -3,7 +3,7 @@
 #![tactic(auto)]
 
 ghost use Rattle.std.specs.Prelude.{◌≤◌, ◌<◌, length};
-ghost use Rattle.model.specs.Limits.{max_variables, word_end};
+ghost use Rattle.model.specs.Limits.{max_variables};
 ghost use Rattle.plan_memory.specs.Arranged.{Loose};
 ghost use Rattle.plan_order.specs.Fill.{max_size, max_sizes, max_fill};
 
@@ -14,43 +14,26 @@ const MOST_SCORE: u64 = 4294967295;
 fn number_positions(plan: &mut [u32])
     ensures { Loose plan.old plan.new }
 {
-    let mut v: usize = 0;
-    while v < 24 {
+    for v in 0..24 {
         plan_memory::put(layout::POSITIONS_AT + v, v, plan);
-        v += 1;
     }
-}
-
-// What is linked to the variable once the members of a set are linked with each other.
-fn link(v: usize, links: u32, set: u32) -> u32 {
-    if set & plan_memory::bit(v) == 0 {
-        return links;
-    }
-    links | set
 }
 
 // Links the members of a set with each other.
-fn linked(links: [u32; 24], set: u32) -> [u32; 24] {
-    let mut more = links;
-    let mut v: usize = 0;
-    while v < 24 {
-        more[v] = link(v, more[v], set);
-        v += 1;
+fn link(set: u32, links: &mut [u32; 24]) {
+    for (v, near) in links.iter_mut().enumerate() {
+        if set & plan_memory::bit(v) != 0 {
+            *near |= set;
+        }
     }
-    more
 }
 
 // For each variable those that share one of the `r` records with it. Each variable's position is its own number.
 fn links_of(s: &[u8], r: usize, plan: &[u32]) -> [u32; 24] {
     let mut links = [0u32; 24];
-    let mut i: usize = 0;
-    while i < r {
-        let next = linked(
-            links,
-            plan_memory::record_scope(s, branch_buckets::number_at(plan, i), plan),
-        );
-        links = next;
-        i += 1;
+    for i in 0..r {
+        let set = plan_memory::record_scope(s, branch_buckets::number_at(plan, i), plan);
+        link(set, &mut links);
     }
     links
 }
@@ -70,10 +53,8 @@ fn sizes_of(set: u32, sizes: &[u8]) -> u64
     ensures { result ≤ max_sizes }
 {
     let mut sum: u64 = 0;
-    let mut v: usize = 0;
-    while v < 24 {
+    for v in 0..24 {
         sum += size_in(v, set, sizes);
-        v += 1;
     }
     sum
 }
@@ -84,65 +65,74 @@ fn fill_of(near: u32, links: [u32; 24], sizes: &[u8]) -> u64
     ensures { result ≤ max_fill }
 {
     let mut fill: u64 = 0;
-    let mut v: usize = 0;
-    while v < 24 {
+    for v in 0..24 {
         let apart = near & !links[v] & !plan_memory::bit(v);
         fill += size_in(v, near, sizes) * sizes_of(apart, sizes);
-        v += 1;
     }
     fill
 }
 
-// The number in eight bytes.
-fn wide(number: u32) -> u64
-    ensures { result < word_end }
-{
-    number as u64
+// Which of the variables that are left comes last.
+#[derive(Clone, Copy)]
+enum Order {
+    // Of those with the fewest links the last.
+    Links,
+    // Of those with the fewest links the first.
+    LinksFirst,
+    // Of those with the least fill the one with the fewest links.
+    Fill,
+    // The last one.
+    Own,
 }
 
-// The score of a variable, of which the least comes last: how many others of `left` are linked to it, in kind 2 behind
-// its fill; in kind 3 all have the same. More than the most score where it is not left itself.
-fn score_of(v: usize, links: [u32; 24], left: u32, sizes: &[u8], kind: usize) -> u64
+// The order of this kind.
+fn order_of(kind: usize) -> Order {
+    match kind {
+        1 => Order::LinksFirst,
+        2 => Order::Fill,
+        3 => Order::Own,
+        _ => Order::Links,
+    }
+}
+
+// The score of a variable, of which the least comes last: how many others of `left` are linked to it, or that behind its
+// fill; by the variables' own order all have the same. More than the most score where it is not left itself.
+fn score_of(v: usize, links: [u32; 24], left: u32, sizes: &[u8], order: Order) -> u64
     requires { v < max_variables }
 {
     if left & plan_memory::bit(v) == 0 {
         return MOST_SCORE + 1;
     }
-    if kind == 3 {
-        return 0;
-    }
     let near = links[v] & left & !plan_memory::bit(v);
-    let degree = wide(u32::count_ones(near));
-    if kind == 2 {
-        return 32 * fill_of(near, links, sizes) + degree;
+    let degree = u64::from(near.count_ones());
+    match order {
+        Order::Links | Order::LinksFirst => degree,
+        Order::Fill => 32 * fill_of(near, links, sizes) + degree,
+        Order::Own => 0,
     }
-    degree
 }
 
-// Whether a score is better than that of an earlier variable. Of equal ones the last is taken, in kind 1 the first.
-fn is_better(score: u64, found: u64, kind: usize) -> bool {
-    if kind == 1 {
-        return score < found;
+// Whether a score is better than that of an earlier variable. Of equal ones the last is taken, or the first.
+fn is_better(score: u64, found: u64, order: Order) -> bool {
+    match order {
+        Order::LinksFirst => score < found,
+        _ => score <= found,
     }
-    score <= found
 }
 
 // The variable of `left` with the least score.
-fn best_of(links: [u32; 24], left: u32, sizes: &[u8], kind: usize) -> usize
+fn best_of(links: [u32; 24], left: u32, sizes: &[u8], order: Order) -> usize
     requires { length sizes.now ≤ max_variables }
     ensures { result < max_variables }
 {
-    let n = sizes.len();
     let mut best: usize = 0;
     let mut found = MOST_SCORE;
-    let mut v: usize = 0;
-    while v < n {
-        let score = score_of(v, links, left, sizes, kind);
-        if is_better(score, found, kind) {
+    for v in 0..sizes.len() {
+        let score = score_of(v, links, left, sizes, order);
+        if is_better(score, found, order) {
             best = v;
             found = score;
         }
-        v += 1;
     }
     best
 }
@@ -154,17 +144,15 @@ pub fn set_order(s: &[u8], sizes: &[u8], r: usize, kind: usize, plan: &mut [u32]
     requires { length sizes.now ≤ max_variables }
     ensures { Loose plan.old plan.new }
 {
-    let n = sizes.len();
+    let order = order_of(kind);
     number_positions(plan);
     let mut links = links_of(s, r, plan);
-    let mut left: u32 = 4294967295;
-    let mut k = n;
-    while 0 < k {
-        k -= 1;
-        let v = best_of(links, left, sizes, kind);
-        left = left & !plan_memory::bit(v);
-        let next = linked(links, links[v] & left);
-        links = next;
+    let mut left = u32::MAX;
+    for k in (0..sizes.len()).rev() {
+        let v = best_of(links, left, sizes, order);
+        left &= !plan_memory::bit(v);
+        let near = links[v] & left;
+        link(near, &mut links);
         plan_memory::put(layout::ORDER_AT + k, v, plan);
         plan_memory::put(layout::POSITIONS_AT + v, k, plan);
     }

@@ -7,7 +7,8 @@ ghost use Rattle.layout.specs.Places.{numbers_at};
 ghost use Rattle.branch_directions.specs.Directions.{Sensible};
 ghost use Rattle.plan_memory.specs.Arranged.{Loose};
 
-// No variable has this number: it stands for one that a message lacks.
+// No variable has this number: it stands for one that a message lacks, as it does in the plan itself (a rule of the
+// project: fixed memory), so that a variable that is read and one that is made are alike.
 pub const NO_VARIABLE: usize = 255;
 
 // Three variables have at most so many combinations of values.
@@ -43,21 +44,14 @@ pub struct Shape {
 pub fn at_most(x: usize, most: usize) -> usize
     ensures { result ≤ most }
 {
-    if x <= most {
-        return x;
-    }
-    most
+    x.min(most)
 }
 
 // How many values a variable has: 1 to 8.
 pub fn size_of(v: usize, sizes: &[u8]) -> usize
     ensures { (1 ≤ result) × (result ≤ 8) }
 {
-    let d = at_most(branch_buckets::byte_at(sizes, v), 8);
-    if d == 0 {
-        return 1;
-    }
-    d
+    branch_buckets::byte_at(sizes, v).clamp(1, 8)
 }
 
 // How many directions there are.
@@ -70,20 +64,14 @@ pub fn width_of(d: branch_directions::Directions) -> usize
 
 // How many numbers there are still for messages.
 pub fn room_from(at: usize, plan: &[u32]) -> usize {
-    if at <= plan.len() {
-        return plan.len() - at;
-    }
-    0
+    plan.len().saturating_sub(at)
 }
 
 // How many combinations `x` values of one kind and `y` of another make.
 fn product(x: usize, y: usize) -> usize
     ensures { result ≤ 512 }
 {
-    at_most(
-        at_most(x, MOST_ENTRIES) * at_most(y, MOST_ENTRIES),
-        MOST_ENTRIES,
-    )
+    (x.min(MOST_ENTRIES) * y.min(MOST_ENTRIES)).min(MOST_ENTRIES)
 }
 
 // How many numbers so many entries have.
@@ -91,33 +79,19 @@ fn numbers_of(entries: usize, width: usize) -> usize
     requires { width ≤ 8 }
     ensures { result ≤ 4096 }
 {
-    width * at_most(entries, MOST_ENTRIES)
+    width * entries.min(MOST_ENTRIES)
 }
 
 // A message with entries for the first `kept` variables of a scope, the last of which runs fastest.
 pub fn shape_over(scope: Scope, kept: usize, place: usize) -> Shape {
-    let u = scope.u;
-    let v = scope.v;
-    let w = scope.w;
+    let Scope { u, v, w } = scope;
     let pairs = product(v.values, w.values);
-    let mut strides = [0usize; 3];
-    let mut entries: usize = 1;
-    let mut share = product(u.values, pairs);
-    if kept == 1 {
-        strides = [1, 0, 0];
-        entries = u.values;
-        share = pairs;
-    }
-    if kept == 2 {
-        strides = [v.values, 1, 0];
-        entries = product(u.values, v.values);
-        share = w.values;
-    }
-    if 2 < kept {
-        strides = [pairs, w.values, 1];
-        entries = share;
-        share = 1;
-    }
+    let (strides, entries, share) = match kept {
+        0 => ([0, 0, 0], 1, product(u.values, pairs)),
+        1 => ([1, 0, 0], u.values, pairs),
+        2 => ([v.values, 1, 0], product(u.values, v.values), w.values),
+        _ => ([pairs, w.values, 1], product(u.values, pairs), 1),
+    };
     Shape {
         scope,
         strides,
@@ -146,37 +120,24 @@ pub fn constant_shape(place: usize) -> Shape {
 pub fn room_for(k: usize, at: usize, width: usize, plan: &[u32]) -> usize
     requires { (k < max_variables) × (width ≤ 8) }
 {
-    let room = room_from(at, plan);
-    let kept = width * (k + 1);
-    if room <= kept {
-        return 0;
-    }
-    room - kept
+    room_from(at, plan).saturating_sub(width * (k + 1))
 }
 
 // Where a message without variables has its numbers: it is worth nothing unless its part is the last one, so that what
 // it holds counts for the next part.
 fn constant_place(is_last: bool, at: usize, width: usize, plan: &[u32]) -> usize {
-    if is_last {
-        if width <= room_from(at, plan) {
-            return at;
-        }
+    if is_last && width <= room_from(at, plan) {
+        at
+    } else {
+        layout::NUMBERS_AT
     }
-    layout::NUMBERS_AT
 }
 
 // The first position of a set, or 24.
 fn lowest(set: u32) -> usize
     ensures { result ≤ max_variables }
 {
-    let mut k: usize = 0;
-    while k < 24 {
-        if set & plan_memory::bit(k) != 0 {
-            return k;
-        }
-        k += 1;
-    }
-    k
+    (set.trailing_zeros() as usize).min(24)
 }
 
 // The variable of this number.
@@ -191,10 +152,12 @@ fn variable_of(number: usize, sizes: &[u8]) -> Variable {
 fn variable_at(k: usize, sizes: &[u8], plan: &[u32]) -> Variable
     requires { k ≤ max_variables }
 {
-    if k == 24 {
-        return variable_of(NO_VARIABLE, sizes);
-    }
-    variable_of(branch_buckets::variable_at(k, plan), sizes)
+    let number = if k == 24 {
+        NO_VARIABLE
+    } else {
+        branch_buckets::variable_at(k, plan)
+    };
+    variable_of(number, sizes)
 }
 
 // The variables at the first three positions of a set.
@@ -222,30 +185,24 @@ pub fn numbers_over(set: u32, width: usize, sizes: &[u8], plan: &[u32]) -> usize
 fn has_room(variable: Variable, entries: usize, width: usize, room: usize) -> bool
     requires { width ≤ 8 }
 {
-    if variable.number == NO_VARIABLE {
-        return false;
-    }
-    numbers_of(entries, width) <= room
+    variable.number != NO_VARIABLE && numbers_of(entries, width) <= room
 }
 
 // How many variables of its part a message has, from the first on: as many as there is room for.
 fn kept_of(scope: Scope, width: usize, room: usize) -> usize
     requires { width ≤ 8 }
 {
-    let u = scope.u;
-    let v = scope.v;
-    let w = scope.w;
+    let Scope { u, v, w } = scope;
     let pairs = product(u.values, v.values);
     if has_room(w, product(pairs, w.values), width, room) {
-        return 3;
+        3
+    } else if has_room(v, pairs, width, room) {
+        2
+    } else if has_room(u, u.values, width, room) {
+        1
+    } else {
+        0
     }
-    if has_room(v, pairs, width, room) {
-        return 2;
-    }
-    if has_room(u, u.values, width, room) {
-        return 1;
-    }
-    0
 }
 
 // The message of the part of position `k` over the positions of `set`, with its numbers from `at` on.
@@ -261,11 +218,10 @@ pub fn choose_shape(
     requires { (k < max_variables) × (width ≤ 8) }
 {
     let scope = scope_of(set, sizes, plan);
-    let kept = kept_of(scope, width, room_for(k, at, width, plan));
-    if kept == 0 {
-        return shape_over(scope, 0, constant_place(is_last, at, width, plan));
+    match kept_of(scope, width, room_for(k, at, width, plan)) {
+        0 => shape_over(scope, 0, constant_place(is_last, at, width, plan)),
+        kept => shape_over(scope, kept, at),
     }
-    shape_over(scope, kept, at)
 }
 
 // Writes a variable of a message and its stride.
@@ -298,21 +254,17 @@ pub fn put_message(g: usize, shape: Shape, records: usize, slots: usize, plan: &
 fn kept_at(at: usize, plan: &[u32]) -> usize
     requires { at ≤ numbers_at }
 {
-    if branch_buckets::number_at(plan, at + 2) == 0 {
-        return 0;
-    }
-    if branch_buckets::number_at(plan, at + 4) == 0 {
-        return 1;
-    }
-    if branch_buckets::number_at(plan, at + 6) == 0 {
-        return 2;
+    for i in 0..3 {
+        if branch_buckets::number_at(plan, at + 2 * i + 2) == 0 {
+            return i;
+        }
     }
     3
 }
 
 // Message `g` as it was written.
 pub fn shape_at(g: usize, sizes: &[u8], plan: &[u32]) -> Shape {
-    let at = layout::MESSAGES_AT + layout::MESSAGE_WIDTH * at_most(g, layout::MAX_MESSAGES);
+    let at = layout::MESSAGES_AT + layout::MESSAGE_WIDTH * g.min(layout::MAX_MESSAGES);
     let u = variable_of(branch_buckets::number_at(plan, at + 1), sizes);
     let v = variable_of(branch_buckets::number_at(plan, at + 3), sizes);
     let w = variable_of(branch_buckets::number_at(plan, at + 5), sizes);
@@ -327,5 +279,5 @@ pub fn numbers_end(shape: Shape, at: usize, width: usize) -> usize
     if shape.place == layout::NUMBERS_AT {
         return at;
     }
-    at_most(at, plan_memory::MOST_NUMBER) + numbers_of(shape.entries, width)
+    at.min(plan_memory::MOST_NUMBER) + numbers_of(shape.entries, width)
 }

@@ -39,9 +39,6 @@ pub record Scanned (c : ℕ) (xs : List ℕ) (low most i : ℕ) : Type 0 where
   pub none : most < low → most ≡ 0
   pub rest : max most (largest_under c (drop i xs)) ≡ largest_under c xs
 
-pub scan_start : (c low : ℕ) (xs : List ℕ) → Scanned c xs low 0 0
-scan_start c low xs = record { small = omega arith; none = λ h. refl; rest = omega arith }
-
 module _ {c : ℕ} {xs : List ℕ} {low most i : ℕ} (u : Scanned c xs low most i) where
   pub scan_end : length xs ≤ i → most ≡ largest_under c xs
   unfolding largest_under

@@ -1,4 +1,3 @@
 -- The laws that the functions' proofs share.
 pub mod LargestEntries
 pub mod LargestSums
-pub mod FourFitted

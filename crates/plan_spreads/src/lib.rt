@@ -34,16 +34,12 @@ fn extent_at(s: &[u8], at: usize, sizes: &[u8], ceiling: u64) -> Extent
     let count = costs::entries_of(s, at, sizes);
     let mut low = ceiling;
     let mut most: u64 = 0;
-    let mut i: usize = 0;
-    while i < count {
+    for i in 0..count {
         let cost = costs::table_entry(s, at, i, sizes);
         if cost < ceiling {
-            low = branch_directions::lesser(cost, low);
-            if most < cost {
-                most = cost;
-            }
+            low = low.min(cost);
+            most = most.max(cost);
         }
-        i += 1;
     }
     if most < low {
         return Extent { low: 0, most: 0 };
@@ -60,15 +56,13 @@ pub fn extents_of(s: &[u8], sizes: &[u8], r: usize, ceilings: [u64; 4], places: 
 {
     let mut lows = [0u64; 4];
     let mut mosts = [0u64; 4];
-    let mut i: usize = 0;
-    while i < r {
-        let at = places[i] as usize;
+    for &place in &places[..r] {
+        let at = place as usize;
         let t = problem::record_at(s, at, sizes);
         let o = t.objective as usize;
         let extent = extent_at(s, at, sizes, ceilings[o]);
-        lows[o] = std::num::wrapping_add_u64(lows[o], extent.low);
-        mosts[o] = mosts[o] + extent.most;
-        i += 1;
+        lows[o] = lows[o].wrapping_add(extent.low);
+        mosts[o] += extent.most;
     }
     Extents { lows, mosts }
 }
@@ -78,23 +72,16 @@ pub fn extents_of(s: &[u8], sizes: &[u8], r: usize, ceilings: [u64; 4], places: 
 fn fitted(ceiling: u64, most: u64) -> u64
     ensures { FittedTo ceiling most result }
 {
-    if ceiling != 4294967296 {
-        return ceiling;
+    if ceiling == 4294967296 && most < 4294967295 {
+        4294967295
+    } else {
+        ceiling
     }
-    if most >= 4294967295 {
-        return ceiling;
-    }
-    4294967295
 }
 
 // Such ceilings for all objectives.
 pub fn fitted_ceilings(ceilings: [u64; 4], mosts: [u64; 4]) -> [u64; 4]
     ensures { Fitted ceilings mosts result }
 {
-    [
-        fitted(ceilings[0], mosts[0]),
-        fitted(ceilings[1], mosts[1]),
-        fitted(ceilings[2], mosts[2]),
-        fitted(ceilings[3], mosts[3]),
-    ]
+    std::array::from_fn(|o| fitted(ceilings[o], mosts[o]))
 }

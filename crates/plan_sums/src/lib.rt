@@ -20,57 +20,27 @@ pub struct Ranges {
 
 // What parts each sum has of each objective, four numbers in a row. The first sum leads, so it leaves none out.
 fn parts_for(p: usize) -> [u64; 16] {
-    if p <= 2 {
-        return [1, 1, 0, 0, 3, 1, 0, 0, 1, 3, 0, 0, 1, 10, 0, 0];
+    match p {
+        0..=2 => [1, 1, 0, 0, 3, 1, 0, 0, 1, 3, 0, 0, 1, 10, 0, 0],
+        3 => [1, 1, 1, 0, 1, 0, 1, 0, 1, 1, 0, 0, 0, 1, 1, 0],
+        _ => [1, 1, 1, 1, 1, 0, 1, 0, 1, 0, 0, 1, 1, 1, 0, 0],
     }
-    if p == 3 {
-        return [1, 1, 1, 0, 1, 0, 1, 0, 1, 1, 0, 0, 0, 1, 1, 0];
-    }
-    [1, 1, 1, 1, 1, 0, 1, 0, 1, 0, 0, 1, 1, 1, 0, 0]
 }
 
 // The share of each objective in each sum: 4,096 for each part.
 fn shares_for(p: usize) -> [u64; 16] {
-    let parts = parts_for(p);
-    let mut shares = [0u64; 16];
-    let mut i: usize = 0;
-    while i < 16 {
-        shares[i] = parts[i] << 12;
-        i += 1;
-    }
-    shares
-}
-
-// The difference, or 0 where `b` is larger.
-fn less(a: u64, b: u64) -> u64 {
-    if a < b {
-        return 0;
-    }
-    a - b
+    parts_for(p).map(|part| part << 12)
 }
 
 // How far a cost may lie above the least one. Where costs below the ceiling hardly differ it counts as a part of the
 // largest one, so that sums up to the ceilings still fit 32 bits.
 fn slack_of(low: u64, top: u64) -> u64 {
-    let slack = branch_directions::larger(less(top, low), top >> 4);
-    branch_directions::lesser(slack, MAX_RANGE) + 1
+    top.saturating_sub(low).max(top >> 4).min(MAX_RANGE) + 1
 }
 
 // How far the costs of an objective lie apart, or its slack where they do not.
 fn spread_of(low: u64, most: u64, slack: u64) -> u64 {
-    let spread = less(most, low);
-    if spread == 0 {
-        return slack;
-    }
-    spread
-}
-
-// Whether it was so before, or `a` is less than `b`.
-fn or_below(before: bool, a: u64, b: u64) -> bool {
-    if a < b {
-        return true;
-    }
-    before
+    if low < most { most - low } else { slack }
 }
 
 // What is known of the costs of `p` objectives under these ceilings.
@@ -83,16 +53,14 @@ pub fn ranges_of(p: usize, e: plan_spreads::Extents, ceilings: [u64; 4]) -> Rang
     let mut slacks = [0u64; 4];
     let mut tops = [0u64; 4];
     let mut binds = false;
-    let mut j: usize = 0;
-    while j < p {
-        let last = less(ceilings[j], 1);
-        let top = branch_directions::lesser(mosts[j], last);
+    for j in 0..p {
+        let last = ceilings[j].saturating_sub(1);
+        let top = mosts[j].min(last);
         let slack = slack_of(lows[j], top);
         spreads[j] = spread_of(lows[j], mosts[j], slack);
         slacks[j] = slack;
         tops[j] = top;
-        binds = or_below(binds, last, mosts[j]);
-        j += 1;
+        binds |= last < mosts[j];
     }
     Ranges {
         spreads,
@@ -104,23 +72,13 @@ pub fn ranges_of(p: usize, e: plan_spreads::Extents, ceilings: [u64; 4]) -> Rang
 
 // The same four numbers in every row.
 fn in_every_row(row: [u64; 4]) -> [u64; 16] {
-    let mut table = [0u64; 16];
-    let mut i: usize = 0;
-    while i < 16 {
-        table[i] = row[i % 4];
-        i += 1;
-    }
-    table
+    std::array::from_fn(|i| row[i % 4])
 }
 
 // The table with these numbers as its last row.
-fn with_last_row(table: [u64; 16], row: [u64; 4]) -> [u64; 16] {
-    let mut changed = table;
-    changed[12] = row[0];
-    changed[13] = row[1];
-    changed[14] = row[2];
-    changed[15] = row[3];
-    changed
+fn with_last_row(mut table: [u64; 16], row: [u64; 4]) -> [u64; 16] {
+    table[12..].copy_from_slice(&row);
+    table
 }
 
 // The fourth sum has these shares, by slacks.
@@ -129,24 +87,18 @@ fn with_fourth(
     shares: [u64; 4],
     r: Ranges,
 ) -> branch_directions::Sums {
-    let old_shares = sums.shares;
-    let old_ranges = sums.ranges;
-    let slacks = r.slacks;
-    let new_shares = with_last_row(old_shares, shares);
-    let new_ranges = with_last_row(old_ranges, slacks);
     branch_directions::Sums {
-        shares: new_shares,
-        ranges: new_ranges,
+        shares: with_last_row(sums.shares, shares),
+        ranges: with_last_row(sums.ranges, r.slacks),
         count: 4,
     }
 }
 
 // One sum alone, with these shares, by slacks.
 fn one_sum(shares: [u64; 4], r: Ranges) -> branch_directions::Sums {
-    let slacks = r.slacks;
     branch_directions::Sums {
         shares: in_every_row(shares),
-        ranges: in_every_row(slacks),
+        ranges: in_every_row(r.slacks),
         count: 1,
     }
 }
@@ -167,27 +119,23 @@ pub fn with_adapted(
 // equal shares by slacks, in kind 1 all go by slacks, and in kind 3 there is one alone: with fewer directions messages
 // have room for more variables.
 pub fn sums_of(kind: usize, p: usize, r: Ranges) -> branch_directions::Sums {
-    let spreads = r.spreads;
-    let slacks = r.slacks;
     let shares = shares_for(p);
     let by_spreads = branch_directions::Sums {
         shares,
-        ranges: in_every_row(spreads),
+        ranges: in_every_row(r.spreads),
         count: 4,
     };
     if !r.binds {
         return by_spreads;
     }
-    if kind == 1 {
-        return branch_directions::Sums {
-            shares,
-            ranges: in_every_row(slacks),
-            count: 4,
-        };
-    }
     let equal = [shares[0], shares[1], shares[2], shares[3]];
-    if kind == 3 {
-        return one_sum(equal, r);
+    match kind {
+        1 => branch_directions::Sums {
+            shares,
+            ranges: in_every_row(r.slacks),
+            count: 4,
+        },
+        3 => one_sum(equal, r),
+        _ => with_fourth(by_spreads, equal, r),
     }
-    with_fourth(by_spreads, equal, r)
 }
