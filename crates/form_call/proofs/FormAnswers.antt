@@ -12,26 +12,27 @@ use Rattle.model.specs.Refusals.{Verdict, verdict, accepted, first}
 use Rattle.model.specs.Encoding.{Byte}
 use Rattle.model.specs.Reading.{verdict_of}
 use Rattle.model.specs.Calls.{over, answers}
+use Rattle.model.specs.Reasons.{number_of, told, value_or}
+use Rattle.model.specs.declared.Reason.TheVariants.{Output}
+use Rattle.model.specs.declared.Refusal.{Refusal}
+use Rattle.std.specs.Prelude.{Result, Ok, Err}
 use Rattle.model.proofs.Reading.{accepted_place}
-use Rattle.problem.proofs.Chains.{stop_verdict, same_verdict}
+use Rattle.model.proofs.Reasons.{number_positive}
+use Rattle.problem.proofs.Chains.{stop_verdict}
 use Rattle.form_keys.specs.Keys.{key_of}
 use Rattle.form_canonical.specs.Canonical.{canonical_bytes, form_short, CanonicalOutcome, canonical_outcome}
-use Rattle.form_canonical.specs.Says.{CanonicalSays}
+use Rattle.form_canonical.specs.Says.{no_form, CanonicalSays}
 use Rattle.form_canonical.specs.declared.Canonical as DC
 use Rattle.form_canonical.proofs.CanonicalBytes.{form_length}
-
-abbrev answer : (number place count key : ℕ) → DC.Canonical
-answer number place count key = record { number = number; place = place; count = count; key = key }
 
 abbrev outcome : Verdict → (count key : ℕ) → List ℕ → CanonicalOutcome
 outcome v count key form = record { verdict = v; count = count; key = key; form = form }
 
-tells : {o : CanonicalOutcome} {number place count key : ℕ} {form : List ℕ}
-    → o ≡ outcome (verdict number place) count key form → CanonicalSays o form (answer number place count key)
-tells e =
+tells : {o : CanonicalOutcome} {form : List ℕ} (r : Result DC.Canonical Refusal)
+    → o ≡ outcome (told r) (value_or no_form r).count (value_or no_form r).key form → CanonicalSays o form r
+tells r e =
     record {
-      number = sym (ap (λ (o : CanonicalOutcome). o.verdict.number) e);
-      place = sym (ap (λ (o : CanonicalOutcome). o.verdict.place) e);
+      verdict = sym (ap (λ (o : CanonicalOutcome). o.verdict) e);
       count = sym (ap (λ (o : CanonicalOutcome). o.count) e);
       key = sym (ap (λ (o : CanonicalOutcome). o.key) e);
       form = sym (ap (λ (o : CanonicalOutcome). o.form) e);
@@ -49,33 +50,35 @@ unfolding judged
 judged_refused v form buffer h = rw (ne_eqb v.number 0 h) refl
 
 module _ (s buffer : List ℕ) where
-  pub refused_answer : (n at : ℕ) → n ≡ (verdict_of s).number → at ≡ (verdict_of s).place → (n ≡ 0 → ⊥)
-      → CanonicalSays (canonical_outcome s buffer) buffer (answer n at 0 0)
+  pub refused_answer : (r : Refusal) → verdict (number_of r.reason) r.place ≡ verdict_of s
+      → CanonicalSays (canonical_outcome s buffer) buffer (Err r)
   unfolding canonical_outcome judged
-  refused_answer n at e f h =
+  refused_answer r e =
       let form = canonical_bytes s in
-      let refuses : (verdict_of s).number ≡ 0 → ⊥ = λ z. h (e ∙ z) in
-      tells
+      let refuses : (verdict_of s).number ≡ 0 → ⊥ =
+      λ z. number_positive r.reason (ap (λ (v : Verdict). v.number) e ∙ z) in
+      tells (Err r)
       (ap (λ (v : Verdict). judged v form buffer) (stop_verdict (verdict_of s) _ refuses)
       ∙ judged_refused (verdict_of s) form buffer refuses
-      ∙ ap (λ (v : Verdict). outcome v 0 0 buffer) (same_verdict e f))
+      ∙ ap (λ (v : Verdict). outcome v 0 0 buffer) (sym e))
 
   module _ (bytes : All Byte s) (fine : (verdict_of s).number ≡ 0) where
     long : length (canonical_bytes s) ≡ length s
     long = form_length s bytes fine
 
-    pub short_answer : length buffer < length s
-        → CanonicalSays (canonical_outcome s buffer) buffer (answer form_short 0 0 0)
+    pub short_answer : (r : Refusal) → r.reason ≡ Output → r.place ≡ 0 → length buffer < length s
+        → CanonicalSays (canonical_outcome s buffer) buffer (Err r)
     unfolding canonical_outcome judged
-    short_answer h =
+    short_answer r why here h =
         let form = canonical_bytes s in
         let short : length buffer < length form = omega (arith, long) in
-        let told : first (verdict_of s) (pick (ltb (length buffer) (length form)) (verdict form_short 0) accepted)
+        let short_told : first (verdict_of s) (pick (ltb (length buffer) (length form)) (verdict form_short 0) accepted)
         ≡ verdict form_short 0 =
         rw (accepted_place s fine, lt-ltb (length buffer) (length form) short) refl in
-        tells
-        (ap (λ (v : Verdict). judged v form buffer) told
-        ∙ judged_refused (verdict form_short 0) form buffer (λ z. omega arith))
+        tells (Err r)
+        (ap (λ (v : Verdict). judged v form buffer) short_told
+        ∙ judged_refused (verdict form_short 0) form buffer (λ z. omega arith)
+        ∙ rw (why, here) refl)
 
     -- the form is the start of the buffer
     pub form_taken : (buffer' : List ℕ) → buffer' ≡ over (canonical_bytes s) buffer
@@ -89,15 +92,15 @@ module _ (s buffer : List ℕ) where
 
     pub form_answer : (buffer' : List ℕ) (key : ℕ) → length s ≤ length buffer
         → buffer' ≡ over (canonical_bytes s) buffer → key ≡ key_of (take (length s) buffer')
-        → CanonicalSays (canonical_outcome s buffer) buffer' (answer 0 0 (length s) key)
+        → CanonicalSays (canonical_outcome s buffer) buffer' (Ok (record { count = length s; key = key }))
     unfolding canonical_outcome judged
-    form_answer buffer' key room written told =
+    form_answer buffer' key room written told_key =
         let form = canonical_bytes s in
         let fits : length form ≤ length buffer = omega (arith, long) in
         let fine-verdict :
         first (verdict_of s) (pick (ltb (length buffer) (length form)) (verdict form_short 0) accepted)
         ≡ accepted =
         rw (accepted_place s fine, le-ltb (length buffer) (length form) fits) refl in
-        let same : key ≡ key_of form = told ∙ ap key_of (form_taken buffer' written) in
-        tells
+        let same : key ≡ key_of form = told_key ∙ ap key_of (form_taken buffer' written) in
+        tells (Ok (record { count = length s; key = key }))
         (ap (λ (v : Verdict). judged v form buffer) fine-verdict ∙ rw (sym written, sym same, sym long) refl)

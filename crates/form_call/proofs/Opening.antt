@@ -10,13 +10,13 @@ use Rattle.model.specs.Encoding.{Byte}
 use Rattle.model.specs.Reading.{tables_at, problem_of}
 use Rattle.model.proofs.Elements.{all_map}
 use Rattle.model.proofs.Reading.{accepted_rules}
-use Rattle.problem.specs.declared.Reading as DG
+use Rattle.problem.specs.declared.Problem as DQ
 use Rattle.problem.specs.Says.{start_of}
 use Rattle.problem.proofs.Accepted.{AcceptedReading}
 use Rattle.problem.proofs.AcceptedTables.{sizes_held_lem, tables_begin, tables_held}
 use Rattle.form_call.specs.Opened.{Opened}
 
-module _ (s : List ℕ) (r : DG.Reading) (a : AcceptedReading s r) where
+module _ (s : List ℕ) (r : DQ.Problem) (a : AcceptedReading s r) where
   abbrev sizes : List ℕ
   sizes = take r.head.variables r.sizes
 

@@ -8,6 +8,8 @@ ghost use Rattle.form_canonical.specs.Says.{CanonicalSays};
 ghost use Rattle.form_call.specs.Opened.{Turnable, TurnedParts, form_records, Opened};
 ghost use Rattle.form_canonical.specs.Places.{over_at};
 
+use model::{Reason, Refusal};
+
 // Turns the accepted records from `at` on, each at its own place of a buffer, and notes which part of it each one has.
 fn turn_records(s: &[u8], at: usize, sizes: &[u8], turned: &mut [u8], parts: &mut [u32])
     requires { Turnable (length parts.old) sizes.now s.now at × (length s.now ≤ length turned.old) }
@@ -15,13 +17,11 @@ fn turn_records(s: &[u8], at: usize, sizes: &[u8], turned: &mut [u8], parts: &mu
         turned.new parts.new }
 {
     let mut here = at;
-    let mut i: usize = 0;
-    while i < parts.len() {
+    for i in 0..parts.len() {
         let next = problem::place_after(s, here, sizes);
         form_turning::put_turned(s, here, sizes, turned);
         parts[i] = form_order::part_of(here, next);
         here = next;
-        i += 1;
     }
 }
 
@@ -62,37 +62,22 @@ pub fn put_form(s: &[u8], head: model::Header, sizes: &[u8], form: &mut [u8])
 
 // The canonical form of a problem, over the start of a buffer, and its key. Nothing is written before the verdict is
 // known: the form is as long as the problem.
-pub fn canonical_form(problem: &[u8], form: &mut [u8]) -> form_canonical::Canonical
+#[tactic(auto, using(crate::proofs::FormAnswers::refused_answer))]
+pub fn canonical_form(problem: &[u8], form: &mut [u8]) -> Result<form_canonical::Canonical, Refusal>
     ensures { CanonicalSays (canonical_outcome problem.now form.old)
         form.new result }
 {
-    let g = problem::read_problem(problem);
-    if g.number != 0 {
-        return form_canonical::Canonical {
-            number: g.number,
-            place: g.place as u32,
-            count: 0,
-            key: 0,
-        };
-    }
+    let q = problem::read_problem(problem)?;
     let count = problem.len();
     if form.len() < count {
-        return form_canonical::Canonical {
-            number: 19,
-            place: 0,
-            count: 0,
-            key: 0,
-        };
+        return Err(Reason::Output.at(0));
     }
-    let head = g.head;
+    let head = q.head;
     let n = head.variables as usize;
-    let sizes = g.sizes;
-    put_form(problem, head, &sizes[..n], form);
+    put_form(problem, head, &q.sizes[..n], form);
     let key = form_keys::key_of(&form[..count]);
-    form_canonical::Canonical {
-        number: 0,
-        place: 0,
+    Ok(form_canonical::Canonical {
         count: count as u32,
         key,
-    }
+    })
 }
