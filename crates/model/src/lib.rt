@@ -5,7 +5,7 @@
 ghost use Rattle.std.specs.Prelude.{◌≡◌, ◌<◌, not, leb};
 ghost use Rattle.model.specs.Limits.{max_bytes, max_variables, max_objectives, max_tables, max_domain, max_arity, word_end};
 ghost use Rattle.model.specs.Reading.{outside};
-ghost use Rattle.model.specs.Reasons.{number_of};
+ghost use Rattle.model.specs.Reasons.{number_of, told, value_or};
 
 // Why a call refuses, by the words of docs/REFERENCE.md, section 6, and with its numbers.
 #[derive(Clone, Copy, PartialEq, Eq)]
@@ -68,6 +68,25 @@ impl Refusal {
     {
         *place = self.place.min(4294967295) as u32;
         self.reason.number()
+    }
+}
+
+// An answer that is a count, as C is told it: the number is the result, the others go through references.
+pub fn tell_count(answer: Result<u32, Refusal>, place: &mut u32, count: &mut u32) -> u8
+    ensures number { result ≡ (told answer).number }
+    ensures place { (told answer).place < word_end → place.new ≡ (told answer).place }
+    ensures count { count.new ≡ value_or 0 answer }
+{
+    match answer {
+        Ok(counted) => {
+            *place = 0;
+            *count = counted;
+            0
+        }
+        Err(refusal) => {
+            *count = 0;
+            refusal.tell(place)
+        }
     }
 }
 

@@ -2,27 +2,24 @@
 use mathlib.Core.Path.{◌≡◌, refl}
 use mathlib.Core.Bool.{false}
 use mathlib.Core.List.{List}
+use Rattle.std.specs.Prelude.{Result}
 use Prim.Native.Nat.{ℕ, ◌≤◌, ◌<◌}
 use lib.Dec.{eqb, ltb}
 use lib.ListN.{length}
 use borrow.Author.Tests.{eq-eqb, ne_eqb, lt-ltb, le-ltb, ltb-false}
 use Rattle.model.specs.Basics.{pick}
 use Rattle.model.specs.Refusals.{Verdict, verdict, accepted}
+use Rattle.model.specs.Reasons.{told, value_or}
+use Rattle.model.specs.declared.Refusal.{Refusal}
 use Rattle.model.specs.Calls.{over}
 use Rattle.model.proofs.Verdicts.{first_accepts, test_accepts}
 use Rattle.text_networks.specs.Conversions.{output_short, ConvertOutcome, converted}
-use Rattle.text_networks.specs.Says.{answer, ConvertSays}
+use Rattle.text_networks.specs.Says.{ConvertSays}
 
 -- an answer that tells an outcome
-pub tells : {o : ConvertOutcome} {output' : List ℕ} {n at k : ℕ}
-    → o ≡ record { verdict = verdict n at; count = k; output = output' } → ConvertSays o output' (answer n at k)
-tells e =
-    record {
-      number = rw e refl;
-      place = rw e refl;
-      count = rw e refl;
-      output = rw e refl;
-    }
+pub tells : {o : ConvertOutcome} {output' : List ℕ} (r : Result ℕ Refusal)
+    → o ≡ record { verdict = told r; count = value_or 0 r; output = output' } → ConvertSays o output' r
+tells r e = record { verdict = rw e refl; count = rw e refl; output = rw e refl }
 
 abbrev pub refusal : Verdict → List ℕ → ConvertOutcome
 refusal v output = record { verdict = v; count = 0; output = output }

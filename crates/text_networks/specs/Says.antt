@@ -1,13 +1,11 @@
 -- What a call that converts promises: what its definition says, for every input.
-use Rattle.std.specs.Prelude.{◌≡◌, List, ℕ}
+use Rattle.std.specs.Prelude.{◌≡◌, List, ℕ, Result}
+use Rattle.model.specs.Reasons.{told, value_or}
+use Rattle.model.specs.declared.Refusal.{Refusal}
 use Rattle.text_networks.specs.Conversions.{ConvertOutcome}
-use Rattle.text_networks.specs.declared.Converted as DC
 
-abbrev pub answer : (number place count : ℕ) → DC.Converted
-answer number place count = record { number = number; place = place; count = count }
-
-pub record ConvertSays (o : ConvertOutcome) (output' : List ℕ) (r : DC.Converted) : Type 0 where
-  pub number : r.number ≡ o.verdict.number
-  pub place : r.place ≡ o.verdict.place
-  pub count : r.count ≡ o.count
+-- its verdict, and how many bytes are written
+pub record ConvertSays (o : ConvertOutcome) (output' : List ℕ) (r : Result ℕ Refusal) : Type 0 where
+  pub verdict : told r ≡ o.verdict
+  pub count : value_or 0 r ≡ o.count
   pub output : output' ≡ o.output

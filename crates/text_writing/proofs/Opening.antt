@@ -13,7 +13,7 @@ use Rattle.model.specs.Reading.{head_tables, domains_of, tables_start, problem_o
 use Rattle.model.specs.Calls.{padded}
 use Rattle.model.proofs.Reading.{accepted_encoded}
 use Rattle.model.proofs.TableRecords.{length_tables_at}
-use Rattle.problem.specs.declared.Reading as DG
+use Rattle.problem.specs.declared.Problem as DQ
 use Rattle.problem.proofs.Accepted.{AcceptedReading}
 use Rattle.problem.proofs.AcceptedTables.{taken, sizes_held_lem, tables_held}
 use Rattle.text_networks.specs.Networks.{max_bound}
@@ -30,7 +30,7 @@ unfolding padded
 first_padded [] = refl
 first_padded (x ∷ xs) = refl
 
-module _ (s : List ℕ) (r : DG.Reading) (a : AcceptedReading s r) where
+module _ (s : List ℕ) (r : DQ.Problem) (a : AcceptedReading s r) where
   first_ceiling : get_or r.head.ceilings 0 0 ≡ get_or (problem_of s).ceilings 0 0
   first_ceiling = ap (λ (l : List ℕ). get_or l 0 0) a.ceilings ∙ first_padded (problem_of s).ceilings
 

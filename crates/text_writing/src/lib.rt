@@ -17,6 +17,8 @@ ghost use Rattle.text_networks.specs.Conversions.{to_text_outcome};
 ghost use Rattle.text_networks.specs.Says.{ConvertSays};
 ghost use Rattle.text_writing.specs.Opened.{Opened};
 
+use model::{Reason, Refusal};
+
 // 1 for an entry that becomes a tuple, 0 for another.
 fn tuple_of(cost: u32) -> u32
     ensures { result ≡ is_nonzero cost }
@@ -213,39 +215,20 @@ fn is_unwritable(head: model::Header) -> bool
 }
 
 // A problem with one objective as text, over the start of a buffer. It is measured before anything is written.
-pub fn to_text(problem: &[u8], text: &mut [u8]) -> text_networks::Converted
+#[tactic(auto, using(crate::proofs::TextAnswers::refused_answer))]
+pub fn to_text(problem: &[u8], text: &mut [u8]) -> Result<u32, Refusal>
     ensures { ConvertSays (to_text_outcome problem.now text.old) text.new result }
 {
-    let g = problem::read_problem(problem);
-    if g.number != 0 {
-        return text_networks::Converted {
-            number: g.number,
-            place: g.place as u32,
-            count: 0,
-        };
-    }
-    let head = g.head;
+    let q = problem::read_problem(problem)?;
+    let head = q.head;
     if is_unwritable(head) {
-        return text_networks::Converted {
-            number: 18,
-            place: 0,
-            count: 0,
-        };
+        return Err(Reason::Dialect.at(0));
     }
     let n = head.variables as usize;
-    let sizes = g.sizes;
-    let length = put_network(problem, head, &sizes[..n], &mut text[..0]);
+    let length = put_network(problem, head, &q.sizes[..n], &mut text[..0]);
     if text.len() < length {
-        return text_networks::Converted {
-            number: 19,
-            place: 0,
-            count: 0,
-        };
+        return Err(Reason::Output.at(0));
     }
-    let written = put_network(problem, head, &sizes[..n], text);
-    text_networks::Converted {
-        number: 0,
-        place: 0,
-        count: written as u32,
-    }
+    let written = put_network(problem, head, &q.sizes[..n], text);
+    Ok(written as u32)
 }
