@@ -13,6 +13,7 @@ pub mod Scopes
 -- demand 1: reading and encoding
 pub mod Words
 pub mod Verdicts
+pub mod Reasons
 pub mod Marks
 pub mod HeadRecord
 pub mod DomainRecords

@@ -2,6 +2,7 @@
 pub mod Basics
 pub mod Limits
 pub mod Refusals
+pub mod Reasons
 pub mod Problems
 pub mod Encoding
 pub mod Reading

@@ -5,6 +5,60 @@
 ghost use Rattle.std.specs.Prelude.{◌≡◌, not, leb};
 ghost use Rattle.model.specs.Limits.{max_bytes, max_variables, max_objectives, max_tables, max_domain, max_arity};
 ghost use Rattle.model.specs.Reading.{outside};
+ghost use Rattle.model.specs.Reasons.{number_of};
+
+// Why a call refuses, by the words of docs/REFERENCE.md, section 6, and with its numbers.
+#[derive(Clone, Copy, PartialEq, Eq)]
+pub enum Reason {
+    Oversize = 1,
+    CutShort = 2,
+    StrayMark = 3,
+    Variables = 4,
+    Objectives = 5,
+    Tables = 6,
+    Domain = 7,
+    Owner = 8,
+    Arity = 9,
+    Scope = 10,
+    Leftover = 11,
+    Work = 12,
+    Sides = 13,
+    Linked = 14,
+    Full = 15,
+    Prefix = 16,
+    Text = 17,
+    Dialect = 18,
+    Output = 19,
+    Store = 20,
+    Batch = 21,
+}
+
+impl Reason {
+    // Its number, as the calls tell it.
+    pub fn number(self) -> u8
+        ensures { result ≡ number_of self }
+    {
+        self as u8
+    }
+
+    // The refusal for this reason at a place.
+    pub fn at(self, place: usize) -> Refusal
+        ensures reason { result.reason ≡ self }
+        ensures place { result.place ≡ place }
+    {
+        Refusal {
+            reason: self,
+            place,
+        }
+    }
+}
+
+// What a call refuses: why, and where.
+#[derive(Clone, Copy, PartialEq, Eq)]
+pub struct Refusal {
+    pub reason: Reason,
+    pub place: usize,
+}
 
 // Whether x is 1 to the limit.
 fn from_one(limit: u8, x: u8) -> bool

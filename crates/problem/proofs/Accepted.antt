@@ -1,6 +1,5 @@
--- What callers get of an accepted problem: whole cost records, sizes of domains, and the plain facts of a reading with
--- number 0.
-use mathlib.Core.Path.{◌≡◌, sym, ◌∙◌}
+-- What callers get of an accepted problem: whole cost records, sizes of domains, and the plain facts of what was read.
+use mathlib.Core.Path.{◌≡◌, ap}
 use mathlib.Core.List.{List}
 use Prim.Native.Nat.{ℕ, ◌≤◌}
 use lib.ListN.{length, take}
@@ -11,10 +10,10 @@ use Rattle.model.specs.Reading.{head_variables, head_objectives, head_tables, he
 use Rattle.model.specs.Reading.{verdict_of, problem_of}
 use Rattle.model.specs.Calls.{padded}
 use Rattle.model.proofs.DomainRecords.{domain_sizes, domains_end}
-use Rattle.model.proofs.Reading.{accepted_parts, accepted_place}
-use Rattle.problem.specs.declared.Reading as DG
+use Rattle.model.proofs.Reading.{accepted_parts}
+use Rattle.problem.specs.declared.Problem as DQ
 use Rattle.problem.specs.Records.{AllWhole}
-use Rattle.problem.specs.Says.{start_of, ReadSays}
+use Rattle.problem.specs.Says.{start_of, Reads}
 use Rattle.problem.proofs.DomainSteps.{domains_taken, domains_room}
 use Rattle.problem.proofs.TableSteps.{all_whole}
 
@@ -28,8 +27,8 @@ module _ (s : List ℕ) (e : (verdict_of s).number ≡ 0) where
       all_whole (head_tables s) (head_objectives s) (domains_of s) s (tables_start s) a.head.objectives.1
       (domains_end (head_variables s) s (head_length s) a.head.long a.domains) a.tables
 
--- what `read_problem` gives with number 0
-pub record AcceptedReading (s : List ℕ) (r : DG.Reading) : Type 0 where
+-- what `read_problem` gives where the problem is accepted
+pub record AcceptedReading (s : List ℕ) (r : DQ.Problem) : Type 0 where
   pub none : (verdict_of s).number ≡ 0
   pub short : length s ≤ max_bytes
   pub variables : r.head.variables ≡ head_variables s
@@ -44,16 +43,15 @@ pub record AcceptedReading (s : List ℕ) (r : DG.Reading) : Type 0 where
   pub small : All DomainSize (take r.head.variables r.sizes)
   pub whole : AllWhole r.head.tables (take r.head.variables r.sizes) s (start_of r.head)
 
-pub read_accepted : (s : List ℕ) (r : DG.Reading) → ReadSays s r → r.number ≡ 0 → AcceptedReading s r
+pub read_accepted : (s : List ℕ) (r : DQ.Problem) → Reads s r → AcceptedReading s r
 unfolding problem_of
-read_accepted s r says h =
-    let e : (verdict_of s).number ≡ 0 = sym says.number ∙ h in
-    let v = accepted_place s e in
+read_accepted s r reads =
+    let e : (verdict_of s).number ≡ 0 = ap (λ v. v.number) reads.accepts in
     let a = accepted_parts s e in
-    let n : r.head.variables ≡ head_variables s = rw v at says.variables in
-    let p : r.head.objectives ≡ head_objectives s = rw v at says.objectives in
-    let t : r.head.tables ≡ head_tables s = rw v at says.tables in
-    let filled : r.sizes ≡ padded max_variables (domains_of s) = rw v at says.sizes in
+    let n : r.head.variables ≡ head_variables s = reads.variables in
+    let p : r.head.objectives ≡ head_objectives s = reads.objectives in
+    let t : r.head.tables ≡ head_tables s = reads.tables in
+    let filled : r.sizes ≡ padded max_variables (domains_of s) = reads.sizes in
     let domains : take r.head.variables r.sizes ≡ domains_of s =
     rw (filled, n) (domains_taken (head_variables s) s (head_length s)) in
     record {
@@ -62,7 +60,7 @@ read_accepted s r says h =
       variables = n;
       objectives = p;
       tables = t;
-      ceilings = rw v at says.ceilings;
+      ceilings = reads.ceilings;
       few_variables = rw n a.head.variables;
       few_objectives = rw p a.head.objectives;
       few_tables = rw t a.head.tables;

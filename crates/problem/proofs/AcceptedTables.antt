@@ -6,11 +6,11 @@ use native.Mathlib.Omega.{arith}
 use lib.ListN.{length, take}
 use lib.Seq.{length-take-le}
 use Rattle.model.specs.Reading.{tables_start, tables_at, problem_of}
-use Rattle.problem.specs.declared.Reading as DG
+use Rattle.problem.specs.declared.Problem as DQ
 use Rattle.problem.specs.Says.{start_of}
 use Rattle.problem.proofs.Accepted.{AcceptedReading}
 
-module _ (s : List ℕ) (r : DG.Reading) (a : AcceptedReading s r) where
+module _ (s : List ℕ) (r : DQ.Problem) (a : AcceptedReading s r) where
   -- the domain sizes are the first n of the array
   pub within : r.head.variables ≤ length r.sizes
   within = omega (arith, a.room, a.few_variables)

@@ -5,17 +5,14 @@ use mathlib.Core.List.{List, [], ◌∷◌, ◌++◌}
 use Prim.Native.Nat.{ℕ, zero, suc, ◌+◌, ◌*◌, ◌≤◌}
 use native.Mathlib.Omega.{arith}
 use native.Mathlib.Nat.{add-zero}
-use borrow.Author.Tests.{ne_eqb}
 use lib.ListN.{length, take, drop, length-drop}
 use Rattle.model.specs.Limits.{max_variables, max_domain}
-use Rattle.model.specs.Refusals.{bad_domain, verdict, accepted}
+use Rattle.model.specs.Refusals.{bad_domain, verdict}
 use Rattle.model.specs.Encoding.{letter_d, letter_o}
 use Rattle.model.specs.Reading.{start_number, outside, domain_size, domain_number, domains_verdict, domains_at}
 use Rattle.model.specs.Calls.{padded}
 use Rattle.model.proofs.Verdicts.{none_when}
 use Rattle.model.proofs.DomainRecords.{domain_good, length_domains_at}
-use Rattle.problem.specs.declared.Domains as DD
-use Rattle.problem.specs.Says.{DomainsSays}
 use Rattle.problem.proofs.Filled.{length_padded, take_padded}
 use Rattle.problem.proofs.Chains.{pass_number, stop_number, when_on, pass_record, stop_record}
 
@@ -63,15 +60,3 @@ domains_room n s at h = length_padded max_variables (domains_at n s at) (rw leng
 -- the next record starts in the list, or at its end
 pub domain_next : (s : List ℕ) (at : ℕ) → domain_number (drop at s) ≡ 0 → at + 3 ≤ length s
 domain_next s at e = omega (arith, (domain_good (drop at s) e).start.long, length-drop at s)
-
--- the same after all of them
--- ## what `read_domains` answers
-
-pub domains_refused : (s : List ℕ) (at n : ℕ) (r : DD.Domains) → (r.number ≡ 0 → ⊥)
-    → domains_verdict n s at ≡ verdict r.number r.place → r.sizes ≡ padded max_variables [] → DomainsSays s at n r
-domains_refused s at n r h v z = record { number = rw v; place = rw v; sizes = rw (v, ne_eqb _ _ h) z }
-
-pub domains_accepted : (s : List ℕ) (at n : ℕ) (sizes : List ℕ) → domains_verdict n s at ≡ accepted
-    → sizes ≡ padded max_variables (domains_at n s at)
-    → DomainsSays s at n (record { number = 0; place = 0; sizes = sizes })
-domains_accepted s at n sizes v z = record { number = rw v; place = rw v; sizes = rw v z }

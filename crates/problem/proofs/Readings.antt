@@ -11,11 +11,11 @@ use Rattle.model.specs.Problems.{DomainSize}
 use Rattle.model.specs.Reading.{words_in, head_objectives, tables_at, problem_of}
 use Rattle.model.specs.Calls.{padded}
 use Rattle.model.proofs.Words.{length_words_in}
-use Rattle.problem.specs.declared.Reading as DG
+use Rattle.problem.specs.declared.Problem as DQ
 use Rattle.problem.specs.Says.{start_of}
 use Rattle.problem.proofs.Accepted.{AcceptedReading}
 
-module _ (s : List ℕ) (r : DG.Reading) (a : AcceptedReading s r) where
+module _ (s : List ℕ) (r : DQ.Problem) (a : AcceptedReading s r) where
   abbrev sizes : List ℕ
   sizes = take r.head.variables r.sizes
 

@@ -1,10 +1,10 @@
--- A cost record's number, test by test, and what `scan_table` answers.
-use mathlib.Core.Path.{◌≡◌, refl, ap, sym, ◌∙◌}
+-- A cost record's number, test by test.
+use mathlib.Core.Path.{◌≡◌, refl, ap, ◌∙◌}
 use mathlib.Core.Bool.{true, false, not}
 use mathlib.Core.List.{List}
 use Prim.Native.Nat.{ℕ, ◌+◌, ◌≤◌, ◌<◌}
-use borrow.Author.Tests.{lt-ltb, le-ltb, le-leb, lt-leb, eq-eqb}
-use lib.Dec.{eqb, ltb}
+use borrow.Author.Tests.{lt-ltb, le-ltb, le-leb, lt-leb}
+use lib.Dec.{ltb}
 use lib.ListN.{length}
 use Rattle.model.specs.Basics.{first_of, when}
 use Rattle.model.specs.Limits.{max_arity}
@@ -13,8 +13,6 @@ use Rattle.model.specs.Problems.{scope_rule}
 use Rattle.model.specs.Encoding.{letter_c, letter_f}
 use Rattle.model.specs.Reading.{start_number, table_objective, table_arity, table_scope, table_length, table_number}
 use Rattle.model.proofs.Verdicts.{none_when}
-use Rattle.problem.specs.declared.Scan as DS
-use Rattle.problem.specs.Says.{ScanSays}
 use Rattle.problem.proofs.Chains.{pass_number, stop_number, pass_test, stop_test, when_on}
 
 module _ (p : ℕ) (ds s : List ℕ) where
@@ -63,16 +61,3 @@ module _ (p : ℕ) (ds s : List ℕ) where
 
             pub table_whole : table_length ds s ≤ length s → table_number p ds s ≡ 0
             table_whole h = table_last ∙ none_when cut_short (le-ltb _ _ h)
-
-  -- ## what `scan_table` answers
-
-  pub scan_refused : (n : ℕ) → eqb n 0 ≡ false → table_number p ds s ≡ n
-      → ScanSays p ds s (record { number = n; length = 0 })
-  scan_refused n e h = record { number = rw h; width = rw (h, e) }
-
-  pub scan_accepted : (long : ℕ) → table_number p ds s ≡ 0 → long ≡ table_length ds s
-      → ScanSays p ds s (record { number = 0; length = long })
-  scan_accepted long h e = record { number = rw h; width = rw h e }
-
-  pub scanned_length : (r : DS.Scan) → ScanSays p ds s r → r.number ≡ 0 → r.length ≡ table_length ds s
-  scanned_length r says h = says.width ∙ rw (eq-eqb _ _ (sym says.number ∙ h))

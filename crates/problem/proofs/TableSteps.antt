@@ -6,11 +6,10 @@ use native.Mathlib.Omega.{arith}
 use borrow.Author.Tests.{lt-ltb, le-ltb}
 use lib.ListN.{length, drop, length-drop}
 use Rattle.model.specs.Limits.{max_objectives}
-use Rattle.model.specs.Refusals.{leftover, Verdict, verdict, accepted}
+use Rattle.model.specs.Refusals.{leftover, verdict, accepted}
 use Rattle.model.specs.Reading.{table_scope, table_length, table_number, tables_verdict, places_at}
 use Rattle.model.proofs.Verdicts.{record_accepts}
 use Rattle.model.proofs.TableRecord.{table_good}
-use Rattle.problem.specs.Says.{RefusalSays}
 use Rattle.problem.specs.Records.{Whole, AllWhole}
 use Rattle.problem.proofs.Chains.{pass_record, stop_record}
 use Rattle.problem.proofs.ScopeRule.{scope_range}
@@ -41,9 +40,6 @@ module _ (p : ℕ) (ds s : List ℕ) (at : ℕ) where
   pub tables_end : length s ≤ at → tables_verdict 0 p ds s at ≡ accepted
   unfolding tables_verdict
   tables_end h = rw (le-ltb _ _ h)
-
-pub says_verdict : {v : Verdict} (n at : ℕ) → v ≡ verdict n at → RefusalSays v (record { number = n; place = at })
-says_verdict n at e = record { number = rw e; place = rw e }
 
 pub places_none : (ds s : List ℕ) (at : ℕ) → places_at 0 ds s at ≡ []
 unfolding places_at

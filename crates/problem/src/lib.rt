@@ -7,10 +7,12 @@ ghost use Rattle.model.specs.Limits.{max_bytes, max_variables, max_objectives, m
 ghost use Rattle.model.specs.Problems.{DomainSize, InRange, size_of, has_variable, scope_rule};
 ghost use Rattle.model.specs.Reading.{word2, word4, words_in, start_number, head_number, domain_number, table_length};
 ghost use Rattle.model.specs.Reading.{table_objective, table_arity, table_scope, tables_verdict, places_at};
+ghost use Rattle.model.specs.Reasons.{told, number_in};
 ghost use Rattle.model.specs.Calls.{padded, over};
 ghost use Rattle.problem.specs.Records.{Headed, Whole, AllWhole};
-ghost use Rattle.problem.specs.Says.{HeadSays, start_of, DomainsSays, ScanSays, RefusalSays, RecordSays};
-ghost use Rattle.problem.specs.Says.{refusal, ReadSays};
+ghost use Rattle.problem.specs.Says.{HeadSays, start_of, DomainsSays, ScanSays, RecordSays, ReadSays};
+
+use model::{Reason, Refusal};
 
 pub fn wide(x: u8) -> u32
     ensures { result ≡ x }
@@ -94,49 +96,43 @@ pub fn has_variable(s: &[u8], at: usize, v: usize) -> bool
     is_named(s, at + 4, a, v)
 }
 
-// The mark due at `at`, and the single fields after it: 2, 3, 2, else 0.
-pub fn start_number(s: &[u8], at: usize, a: u8, b: u8, fields: usize) -> u8
+// The mark due at `at`, and the single fields after it.
+pub fn check_start(s: &[u8], at: usize, a: u8, b: u8, fields: usize) -> Result<(), Reason>
     requires { (at ≤ length s.now) × (fields ≤ 4) }
-    ensures { result ≡ start_number a b fields (drop at s.now) }
+    ensures { number_in result ≡ start_number a b fields (drop at s.now) }
 {
     let left = s.len() - at;
     if left < 2 {
-        return 2;
+        return Err(Reason::CutShort);
     }
-    if s[at] != a {
-        return 3;
-    }
-    if s[at + 1] != b {
-        return 3;
+    if s[at] != a || s[at + 1] != b {
+        return Err(Reason::StrayMark);
     }
     if left < 2 + fields {
-        return 2;
+        return Err(Reason::CutShort);
     }
-    0
+    Ok(())
 }
 
-// The header's number of refusal, else 0.
-pub fn head_number(s: &[u8]) -> u8
-    ensures { result ≡ head_number s.now }
+// The header.
+pub fn check_head(s: &[u8]) -> Result<(), Reason>
+    ensures { number_in result ≡ head_number s.now }
 {
-    let e = start_number(s, 0, b'H', b'D', 4);
-    if e != 0 {
-        return e;
-    }
+    check_start(s, 0, b'H', b'D', 4)?;
     if !model::Header::allows_variables(s[2]) {
-        return 4;
+        return Err(Reason::Variables);
     }
     let p = s[3];
     if !model::Header::allows_objectives(p) {
-        return 5;
+        return Err(Reason::Objectives);
     }
     if !model::Header::allows_tables(two_at(s, 4)) {
-        return 6;
+        return Err(Reason::Tables);
     }
     if s.len() < 6 + 4 * (p as usize) {
-        return 2;
+        return Err(Reason::CutShort);
     }
-    0
+    Ok(())
 }
 
 // `count` ceilings after the header's single fields, and zeros.
@@ -179,55 +175,33 @@ pub fn tables_start(head: model::Header) -> usize
     6 + 4 * p + 3 * n
 }
 
-// The number of the domain record at `at`, else 0.
-pub fn domain_number(s: &[u8], at: usize) -> u8
+// The domain record at `at`.
+pub fn check_domain(s: &[u8], at: usize) -> Result<(), Reason>
     requires { at ≤ length s.now }
-    ensures { result ≡ domain_number (drop at s.now) }
+    ensures { number_in result ≡ domain_number (drop at s.now) }
 {
-    let e = start_number(s, at, b'D', b'O', 1);
-    if e != 0 {
-        return e;
-    }
+    check_start(s, at, b'D', b'O', 1)?;
     if !model::Domain::allows_size(s[at + 2]) {
-        return 7;
+        return Err(Reason::Domain);
     }
-    0
+    Ok(())
 }
 
-// What reading the domain records finds: a refusal's number and place, or 0 and 0 and the sizes.
-#[derive(Clone, Copy)]
-pub struct Domains {
-    pub number: u8,
-    pub place: usize,
-    pub sizes: [u8; 24],
-}
-
-// `n` domain records from `at` on.
-pub fn read_domains(s: &[u8], at: usize, n: usize) -> Domains
+// The sizes in `n` domain records from `at` on, then zeros.
+pub fn read_domains(s: &[u8], at: usize, n: usize) -> Result<[u8; 24], Refusal>
     requires { (at ≤ length s.now) × (n ≤ max_variables) }
     ensures { DomainsSays s.now at n result }
 {
     let mut sizes = [0u8; 24];
     let mut here = at;
-    let mut i: usize = 0;
-    while i < n {
-        let e = domain_number(s, here);
-        if e != 0 {
-            return Domains {
-                number: e,
-                place: here,
-                sizes: [0u8; 24],
-            };
+    for i in 0..n {
+        if let Err(reason) = check_domain(s, here) {
+            return Err(reason.at(here));
         }
         sizes[i] = s[here + 2];
         here += 3;
-        i += 1;
     }
-    Domains {
-        number: 0,
-        place: 0,
-        sizes,
-    }
+    Ok(sizes)
 }
 
 // Whether the `arity` variables at `at` are below `n`, and none of them is named again after it.
@@ -267,153 +241,75 @@ pub fn size_of(s: &[u8], at: usize, arity: usize, sizes: &[u8]) -> usize
     size
 }
 
-// What reading a cost record finds: its number of refusal, or 0 and how many bytes it has.
-#[derive(Clone, Copy)]
-pub struct Scan {
-    pub number: u8,
-    pub length: usize,
-}
-
-// The cost record at `at`, of a problem with `p` objectives.
-pub fn scan_table(s: &[u8], at: usize, p: u8, sizes: &[u8]) -> Scan
+// How many bytes the cost record at `at` has, in a problem with `p` objectives.
+pub fn scan_table(s: &[u8], at: usize, p: u8, sizes: &[u8]) -> Result<usize, Reason>
     requires { (at ≤ length s.now) × All DomainSize sizes.now }
     ensures { ScanSays p sizes.now (drop at s.now) result }
 {
-    let e = start_number(s, at, b'C', b'F', 2);
-    if e != 0 {
-        return Scan {
-            number: e,
-            length: 0,
-        };
-    }
+    check_start(s, at, b'C', b'F', 2)?;
     if p <= s[at + 2] {
-        return Scan {
-            number: 8,
-            length: 0,
-        };
+        return Err(Reason::Owner);
     }
     let arity = s[at + 3];
     if !model::CostRecord::allows_arity(arity) {
-        return Scan {
-            number: 9,
-            length: 0,
-        };
+        return Err(Reason::Arity);
     }
     let a = arity as usize;
     let left = s.len() - at;
     if left < 4 + a {
-        return Scan {
-            number: 2,
-            length: 0,
-        };
+        return Err(Reason::CutShort);
     }
     if !scope_ok(s, at + 4, a, sizes.len()) {
-        return Scan {
-            number: 10,
-            length: 0,
-        };
+        return Err(Reason::Scope);
     }
     let length = 4 + (a + 4 * size_of(s, at + 4, a, sizes));
     if left < length {
-        return Scan {
-            number: 2,
-            length: 0,
-        };
+        return Err(Reason::CutShort);
     }
-    Scan { number: 0, length }
-}
-
-// A refusal's number and place, or 0 and 0.
-#[derive(Clone, Copy)]
-pub struct Refusal {
-    pub number: u8,
-    pub place: usize,
+    Ok(length)
 }
 
 // `r` cost records from `at` on, and nothing after them.
-pub fn scan_tables(s: &[u8], at: usize, r: u32, p: u8, sizes: &[u8]) -> Refusal
+pub fn scan_tables(s: &[u8], at: usize, r: u32, p: u8, sizes: &[u8]) -> Result<(), Refusal>
     requires { (at ≤ length s.now) × All DomainSize sizes.now }
-    ensures { RefusalSays (tables_verdict r p sizes.now s.now at) result }
+    ensures { told result ≡ tables_verdict r p sizes.now s.now at }
 {
     let mut here = at;
-    let mut left = r;
-    while left > 0 {
-        let t = scan_table(s, here, p, sizes);
-        if t.number != 0 {
-            return Refusal {
-                number: t.number,
-                place: here,
-            };
+    for _i in 0..r {
+        match scan_table(s, here, p, sizes) {
+            Ok(length) => here += length,
+            Err(reason) => return Err(reason.at(here)),
         }
-        here += t.length;
-        left -= 1;
     }
     if here < s.len() {
-        return Refusal {
-            number: 11,
-            place: here,
-        };
+        return Err(Reason::Leftover.at(here));
     }
-    Refusal {
-        number: 0,
-        place: 0,
-    }
+    Ok(())
 }
 
-// What reading a problem finds: a refusal's number and place, or 0 and 0 with the header and the domain sizes.
+// What reading a problem finds: the header and the domain sizes.
 #[derive(Clone, Copy)]
-pub struct Reading {
-    pub number: u8,
-    pub place: usize,
+pub struct Problem {
     pub head: model::Header,
     pub sizes: [u8; 24],
 }
 
-fn refused(number: u8, place: usize) -> Reading
-    ensures { result ≡ refusal number place }
-{
-    Reading {
-        number,
-        place,
-        head: model::Header {
-            variables: 0,
-            objectives: 0,
-            tables: 0,
-            ceilings: [0u32; 4],
-        },
-        sizes: [0u8; 24],
-    }
-}
-
-pub fn read_problem(s: &[u8]) -> Reading
+pub fn read_problem(s: &[u8]) -> Result<Problem, Refusal>
     ensures { ReadSays s.now result }
 {
     if !model::Header::allows_bytes(s.len()) {
-        return refused(1, 0);
+        return Err(Reason::Oversize.at(0));
     }
-    let e = head_number(s);
-    if e != 0 {
-        return refused(e, 0);
+    if let Err(reason) = check_head(s) {
+        return Err(reason.at(0));
     }
     let head = read_head(s);
     let n = head.variables as usize;
     let p = head.objectives;
     let start = 6 + 4 * (p as usize);
-    let d = read_domains(s, start, n);
-    if d.number != 0 {
-        return refused(d.number, d.place);
-    }
-    let sizes = d.sizes;
-    let t = scan_tables(s, tables_start(head), head.tables, p, &sizes[..n]);
-    if t.number != 0 {
-        return refused(t.number, t.place);
-    }
-    Reading {
-        number: 0,
-        place: 0,
-        head,
-        sizes,
-    }
+    let sizes = read_domains(s, start, n)?;
+    scan_tables(s, tables_start(head), head.tables, p, &sizes[..n])?;
+    Ok(Problem { head, sizes })
 }
 
 // The fields of the accepted cost record at `at`.
