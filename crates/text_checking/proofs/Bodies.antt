@@ -23,15 +23,17 @@ use Rattle.text_networks.specs.Networks.{largest_of, functions_in, functions_fin
 use Rattle.text_networks.specs.Networks.{network_finding, ceiling_for, network_problem}
 use Rattle.text_networks.proofs.FineWords.{both_fine, test_fine, field_fine, inside_fine}
 use Rattle.text_networks.proofs.FineTables.{values_count}
-use Rattle.text_checking.specs.Codes.{code_of, both}
+use Rattle.text_checking.specs.declared.Found.{Found}
+use Rattle.text_checking.specs.declared.Found.TheVariants.{Nothing, Fault}
+use Rattle.text_checking.specs.Codes.{rank, found_of, both}
 use Rattle.text_checking.specs.Sizes.{domains_at, Indexed}
 use Rattle.text_checking.specs.Steps.{HeadSays, SizesSays, FunctionsSays, BodySays, head_finding}
 use Rattle.text_checking.specs.declared.Declared as DD
 use Rattle.text_checking.specs.declared.Sizes as DM
 use Rattle.text_checking.specs.declared.Head as DH
 use Rattle.text_checking.specs.declared.Body as DB
-use Rattle.text_checking.proofs.Codes.{both_light, both_heavy, both_none, both_assoc, both_zero, both_second}
-use Rattle.text_checking.proofs.Codes.{code_both, code_fine}
+use Rattle.text_checking.proofs.Codes.{both_fault, both_heavy, both_none, both_assoc, both_zero, both_second}
+use Rattle.text_checking.proofs.Codes.{found_both, found_fine}
 use Rattle.text_checking.proofs.Filling.{values_at}
 use Rattle.text_checking.proofs.Caps.{words_short, runs_capped, runs_exact, size_end}
 use Rattle.text_checking.proofs.Functions.{then_assoc}
@@ -100,14 +102,14 @@ module _ (name : List ℕ) (ws : Words) where
       ∙ ap (λ (f : Finding). and_then a (and_then b f)) (then_assoc c d rest) in
       rw functions_place (sym order)
 
-  pub network_code : code_of (network_finding (name ∷ ws))
-      ≡ both (both (code_of (head_finding ws)) (code_of sizes)) (both (code_of met) (code_of functions))
+  pub network_code : found_of (network_finding (name ∷ ws))
+      ≡ both (both (found_of (head_finding ws)) (found_of sizes)) (both (found_of met) (found_of functions))
   network_code =
-      ap code_of network_parts
-      ∙ code_both (head_finding ws) (and_then sizes (and_then met functions))
-      ∙ ap (both (code_of (head_finding ws)))
-      (code_both sizes (and_then met functions) ∙ ap (both (code_of sizes)) (code_both met functions))
-      ∙ sym (both_assoc (code_of (head_finding ws)) (code_of sizes) (both (code_of met) (code_of functions)))
+      ap found_of network_parts
+      ∙ found_both (head_finding ws) (and_then sizes (and_then met functions))
+      ∙ ap (both (found_of (head_finding ws)))
+      (found_both sizes (and_then met functions) ∙ ap (both (found_of sizes)) (found_both met functions))
+      ∙ sym (both_assoc (found_of (head_finding ws)) (found_of sizes) (both (found_of met) (found_of functions)))
 
   -- the records of the problem
   pub network_bytes : length (encode (network_problem (name ∷ ws)))
@@ -128,15 +130,15 @@ module _ (name : List ℕ) (ws : Words) where
 
 -- ## the head decides
 
-pub head_decides : {s : List ℕ} {at : ℕ} {head : DH.Head} → HeadSays s at head → 2 ≤ head.finding
+pub head_decides : {s : List ℕ} {at : ℕ} {head : DH.Head} → HeadSays s at head → 2 ≤ rank head.finding
     → BodySays s at (record { finding = head.finding; bytes = 0 })
 head_decides {s} {at} {head} says h =
-    let heavy : 2 ≤ code_of (head_finding (words_at s at)) = omega (arith, says.finding) in
+    let heavy : 2 ≤ rank (found_of (head_finding (words_at s at))) = omega (arith, ap rank says.finding) in
     record {
       finding = λ name.
-          let one = both_heavy (code_of (head_finding (words_at s at))) (code_of (sizes name (words_at s at))) heavy in
+          let one = both_heavy (found_of (head_finding (words_at s at))) (found_of (sizes name (words_at s at))) heavy in
           says.finding ∙ sym (network_code name (words_at s at) ∙ rw one (both_heavy _ _ heavy));
-      bytes = λ z. absurd (omega arith);
+      bytes = λ z. absurd (omega (arith, ap rank z));
     }
 
 -- ## the domain sizes are read
@@ -144,10 +146,10 @@ head_decides {s} {at} {head} says h =
 abbrev declared_in : DH.Head → DD.Declared
 declared_in head = record { variables = head.variables; sizes = head.next }
 
-module _ {s : List ℕ} {at : ℕ} {head : DH.Head} (says : HeadSays s at head) (light : head.finding < 2)
+module _ {s : List ℕ} {at : ℕ} {head : DH.Head} (says : HeadSays s at head) (light : rank head.finding < 2)
     (short : length s < 18446744073709551616) (index : List ℕ) (stated : ℕ)
     (same : stated ≡ value_at 1 (words_at s at)) (sized : DM.Sizes)
-    (read : SizesSays s head.next head.variables stated index sized) (total : ℕ)
+    (read : SizesSays s head.next head.variables stated index sized) (total : Found)
     (sum : total ≡ both head.finding sized.finding) where
   abbrev ws : Words
   ws = words_at s at
@@ -164,28 +166,28 @@ module _ {s : List ℕ} {at : ℕ} {head : DH.Head} (says : HeadSays s at head) 
   few : length (drop 4 ws) < cap_end
   few = subst (λ (l : Words). length l < cap_end) says.words (words_short s head.next short)
 
-  capped : sized.finding ≡ code_of (runs (min count cap_end) f 1 (drop 4 ws))
+  capped : sized.finding ≡ found_of (runs (min count cap_end) f 1 (drop 4 ws))
   capped = read.step.finding ∙ rw (same, says.variables, says.words)
 
-  sizes_code : sized.finding ≡ code_of (runs count f 1 (drop 4 ws))
+  sizes_code : sized.finding ≡ found_of (runs count f 1 (drop 4 ws))
   sizes_code = capped ∙ runs_capped f 0 (size_end (value_at 1 ws)) count (drop 4 ws) few
 
-  total_code : total ≡ both (code_of (head_finding ws)) (code_of (runs count f 1 (drop 4 ws)))
+  total_code : total ≡ both (found_of (head_finding ws)) (found_of (runs count f 1 (drop 4 ws)))
   total_code = sum ∙ rw (says.finding, sizes_code)
 
-  all_code : (name : List ℕ) → code_of (network_finding (name ∷ ws))
-      ≡ both total (both (code_of (met name ws)) (code_of (functions name ws)))
+  all_code : (name : List ℕ) → found_of (network_finding (name ∷ ws))
+      ≡ both total (both (found_of (met name ws)) (found_of (functions name ws)))
   all_code name = network_code name ws ∙ rw (← total_code)
 
-  pub body_decided : 2 ≤ total → BodySays s at (record { finding = total; bytes = 0 })
+  pub body_decided : 2 ≤ rank total → BodySays s at (record { finding = total; bytes = 0 })
   body_decided h =
       record {
         finding = λ name. sym (all_code name ∙ both_heavy total _ h);
-        bytes = λ z. absurd (omega arith);
+        bytes = λ z. absurd (omega (arith, ap rank z));
       }
 
-  module _ (l : total < 2) where
-    sizes_light : sized.finding < 2
+  module _ (l : rank total < 2) where
+    sizes_light : rank sized.finding < 2
     sizes_light = both_second head.finding sized.finding (rw sum at l)
 
     exact : head.variables ≡ count
@@ -202,18 +204,16 @@ module _ {s : List ℕ} {at : ℕ} {head : DH.Head} (says : HeadSays s at head) 
     behind : words_at s sized.next ≡ drop (4 + count) ws
     behind = read.step.words sizes_light ∙ rw (exact, says.words) (drop-drop count 4 ws)
 
-    pub body_unmet : sized.met ≡ false → BodySays s at (record { finding = 3; bytes = 0 })
-    unfolding code_of
+    pub body_unmet : sized.met ≡ false → BodySays s at (record { finding = Fault; bytes = 0 })
+    unfolding found_of
     body_unmet e =
         let unmet : eqb (largest_of domains) (value_at 1 ws) ≡ false = sym met_same ∙ e in
         record {
           finding = λ name.
               sym (all_code name
               ∙ rw unmet
-              (ap (both total) (both_heavy 3 (code_of (functions name ws)) (omega arith))
-              ∙ both_light total 3 l
-              ∙ omega arith));
-          bytes = λ z. absurd (omega arith);
+              (ap (both total) (both_heavy Fault (found_of (functions name ws)) (omega arith)) ∙ both_fault total l));
+          bytes = λ z. absurd (cc);
         }
 
     pub index_says : Indexed s (declared_in head) index
@@ -229,13 +229,13 @@ module _ {s : List ℕ} {at : ℕ} {head : DH.Head} (says : HeadSays s at head) 
         says_within : head.next ≤ length s
         says_within = says.within
 
-    pub plain_limits : (front : ℕ) → (head.variables ≤ 24 → front ≡ 10 + 3 * head.variables) → total ≡ 0
+    pub plain_limits : (front : ℕ) → (head.variables ≤ 24 → front ≡ 10 + 3 * head.variables) → total ≡ Nothing
         → All DomainSize (domains_at s (declared_in head)) × (head.functions ≤ 256) × (front ≤ 82)
     plain_limits front add z =
         let (first, second) = both_zero head.finding sized.finding (sym sum ∙ z) in
-        let (variables, tables) = head_fine ws (code_fine _ (sym says.finding ∙ first)) in
+        let (variables, tables) = head_fine ws (found_fine _ (sym says.finding ∙ first)) in
         let n : head.variables ≤ 24 = omega (arith, exact) in (
-          rw domains_same (sizes_fine (value_at 1 ws) count (drop 4 ws) (code_fine _ (sym sizes_code ∙ second))),
+          rw domains_same (sizes_fine (value_at 1 ws) count (drop 4 ws) (found_fine _ (sym sizes_code ∙ second))),
           omega (arith, says.functions),
           omega (arith, add n),
         )
@@ -244,14 +244,14 @@ module _ {s : List ℕ} {at : ℕ} {head : DH.Head} (says : HeadSays s at head) 
         → (r : DB.Body)
         → FunctionsSays s (record { finding = total; next = sized.next }) head.functions front (declared_in head) r
         → BodySays s at r
-    unfolding code_of
+    unfolding found_of
     body_says front add e r found =
         let right : eqb (largest_of domains) (value_at 1 ws) ≡ true = sym met_same ∙ e in
         let tables : ℕ = value_at 2 ws in
         let us : Words = drop (4 + count) ws in
         let short-rest : length us < cap_end = subst (λ (v : Words). length v < cap_end) behind
         (words_short s sized.next short) in
-        let here : r.finding ≡ both total (code_of (functions_finding tables domains us)) =
+        let here : r.finding ≡ both total (found_of (functions_finding tables domains us)) =
         found.finding
         ∙ rw (domains_same, behind, says.functions)
         (ap (both total) (functions_capped domains tables us short-rest)) in
@@ -260,7 +260,7 @@ module _ {s : List ℕ} {at : ℕ} {head : DH.Head} (says : HeadSays s at head) 
           bytes = λ z name.
               let none = (both_zero total _ (sym here ∙ z)).0 in
               let (first, second) = both_zero head.finding sized.finding (sym sum ∙ none) in
-              let (variables, limit) = head_fine ws (code_fine _ (sym says.finding ∙ first)) in
+              let (variables, limit) = head_fine ws (found_fine _ (sym says.finding ∙ first)) in
               let all : head.functions ≡ tables = omega (arith, says.functions) in
               let start : front ≡ 10 + 3 * count = rw (← exact) (add (omega (arith, exact))) in
               found.bytes z ∙ rw (domains_same, behind, all, start) (sym (network_bytes name ws));

@@ -10,6 +10,7 @@ use lib.ListN.{length, get_or, drop_of_length-le, get_or-map}
 use borrow.Author.Tests.{ltb-true, ltb-false, lt-ltb, le-ltb}
 use Rattle.text_words.specs.Texts.{Term, number, negative, other, words_of, term_of, value_of}
 use Rattle.text_words.specs.Reads.{term_at, kind_of, cap_end, NumberSays}
+use Rattle.text_words.specs.declared.Kind.TheVariants.{Natural}
 use Rattle.text_words.specs.declared.Number as DN
 use Rattle.text_checking.specs.Sizes.{half, entry_of, size_held, sizes_held}
 use Rattle.text_checking.proofs.Codes.{lt_or_ge}
@@ -69,11 +70,11 @@ module _ (s : List ℕ) where
   unfolding words_of term_of value_of
   none_behind at h = rw (drop_of_length-le s {i = at} (omega arith))
 
-  pub none_value : (at : ℕ) (r : DN.Number) → NumberSays s at r → (r.kind ≡ 0 → ⊥) → value_of (term_at s at) ≡ 0
+  pub none_value : (at : ℕ) (r : DN.Number) → NumberSays s at r → (r.kind ≡ Natural → ⊥) → value_of (term_at s at) ≡ 0
   unfolding kind_of value_of
   none_value at r says k = go (term_at s at) (λ e. k (says.kind ∙ e))
     where
-      go : (t : Term) → (kind_of t ≡ 0 → ⊥) → value_of t ≡ 0
+      go : (t : Term) → (kind_of t ≡ Natural → ⊥) → value_of t ≡ 0
       go (number x) e = absurd (e refl)
       go negative e = refl
       go other e = refl

@@ -10,36 +10,38 @@ use Rattle.text_words.specs.Texts.{term_of, value_of}
 use Rattle.text_words.specs.Reads.{words_at, cap_end}
 use Rattle.text_networks.specs.Findings.{Words, dialect, and_then, find_if, term_at, values_in}
 use Rattle.text_networks.specs.Networks.{repeated, cost_finding, count_finding}
-use Rattle.text_checking.specs.Codes.{code_of, both}
+use Rattle.text_checking.specs.declared.Found.{Found}
+use Rattle.text_checking.specs.declared.Found.TheVariants.{Nothing}
+use Rattle.text_checking.specs.Codes.{rank, found_of, both}
 use Rattle.text_checking.specs.Steps.{ScopeSays, CountsSays, FrontSays, front_finding}
 use Rattle.text_checking.specs.declared.Step as DS
 use Rattle.text_checking.specs.declared.Counted as DC
-use Rattle.text_checking.proofs.Codes.{lt_or_ge, both_heavy, both_assoc, both_first, both_second, both_either}
-use Rattle.text_checking.proofs.Codes.{code_both, test_light}
+use Rattle.text_checking.proofs.Codes.{lt_or_ge, both_heavy, both_assoc, both_first, both_second, both_either, some_rank}
+use Rattle.text_checking.proofs.Codes.{found_both, test_light}
 use Rattle.text_checking.proofs.Filling.{filled_values}
 
 module _ (s : List ℕ) (start : DS.Step) (arity n : ℕ) (scope : List ℕ) (room : 3 ≤ length scope)
-    (few : start.finding ≡ 0 → arity ≤ 3) (over : DS.Step) (says : ScopeSays s start.next arity n scope over)
-    (twice : ℕ) (light : twice ≤ 1)
-    (once : arity ≤ 3 → twice ≡ code_of (find_if (repeated (take arity scope)) dialect)) (counts : DC.Counted)
-    (counted : CountsSays s arity over.next counts) (total : ℕ)
+    (few : start.finding ≡ Nothing → arity ≤ 3) (over : DS.Step) (says : ScopeSays s start.next arity n scope over)
+    (twice : Found) (light : rank twice ≤ 1)
+    (once : arity ≤ 3 → twice ≡ found_of (find_if (repeated (take arity scope)) dialect)) (counts : DC.Counted)
+    (counted : CountsSays s arity over.next counts) (total : Found)
     (sum : total ≡ both (both (both start.finding over.finding) twice) counts.finding) where
   abbrev us : Words
   us = words_at s start.next
 
-  abbrev r : ℕ
-  r = code_of (find_if (repeated (values_in arity us)) dialect)
+  abbrev r : Found
+  r = found_of (find_if (repeated (values_in arity us)) dialect)
 
-  abbrev k : ℕ
-  k = code_of (and_then (cost_finding (term_at arity us)) (count_finding arity (term_at (1 + arity) us)))
+  abbrev k : Found
+  k = found_of (and_then (cost_finding (term_at arity us)) (count_finding arity (term_at (1 + arity) us)))
 
-  front_code : code_of (front_finding n arity us) ≡ both over.finding (both r k)
+  front_code : found_of (front_finding n arity us) ≡ both over.finding (both r k)
   unfolding front_finding
   front_code =
-      code_both _ _ ∙ rw (← says.step.finding) (ap (both over.finding) (code_both _ _))
+      found_both _ _ ∙ rw (← says.step.finding) (ap (both over.finding) (found_both _ _))
 
   -- the words behind the scope
-  module _ (l : over.finding < 2) where
+  module _ (l : rank over.finding < 2) where
     behind : words_at s over.next ≡ drop arity us
     behind = says.step.words l
 
@@ -54,28 +56,26 @@ module _ (s : List ℕ) (start : DS.Step) (arity n : ℕ) (scope : List ℕ) (ro
     same_twice : arity ≤ 3 → twice ≡ r
     same_twice h =
         once h
-        ∙ ap (λ (vs : List ℕ). code_of (find_if (repeated vs) dialect))
+        ∙ ap (λ (vs : List ℕ). found_of (find_if (repeated vs) dialect))
         (filled_values us arity scope (omega arith) (says.filled l))
 
-  some : 3 < arity → 1 ≤ start.finding
-  some h =
-      ⊎_elim (λ (l : 0 < start.finding). l) (λ (l : start.finding ≤ 0). absurd (omega (arith, few (omega arith))))
-      (lt_or_ge 0 start.finding)
+  some : 3 < arity → 1 ≤ rank start.finding
+  some h = some_rank start.finding (λ z. omega (arith, few z))
 
   all_found : both start.finding (both over.finding (both twice counts.finding))
       ≡ both start.finding (both over.finding (both r k))
   all_found =
-      ⊎_elim (λ (l : over.finding < 2).
+      ⊎_elim (λ (l : rank over.finding < 2).
       rw (same_counts l)
       (⊎_elim (λ (h : 3 < arity).
       both_either start.finding over.finding twice r k (some h) light
       (test_light (repeated (values_in arity us))))
       (λ (h : arity ≤ 3). rw (same_twice l h)) (lt_or_ge 3 arity)))
-      (λ (l : 2 ≤ over.finding).
+      (λ (l : 2 ≤ rank over.finding).
       ap (both start.finding) (both_heavy over.finding _ l ∙ sym (both_heavy over.finding _ l)))
-      (lt_or_ge over.finding 2)
+      (lt_or_ge (rank over.finding) 2)
 
-  total_code : total ≡ both start.finding (code_of (front_finding n arity us))
+  total_code : total ≡ both start.finding (found_of (front_finding n arity us))
   total_code =
       sum
       ∙ both_assoc (both start.finding over.finding) twice counts.finding
@@ -83,8 +83,8 @@ module _ (s : List ℕ) (start : DS.Step) (arity n : ℕ) (scope : List ℕ) (ro
       ∙ all_found
       ∙ ap (both start.finding) (sym front_code)
 
-  module _ (l : total < 2) where
-    parts : (over.finding < 2) × (counts.finding < 2)
+  module _ (l : rank total < 2) where
+    parts : (rank over.finding < 2) × (rank counts.finding < 2)
     parts =
         let h = rw sum at l in
         let one = both_first _ counts.finding h in

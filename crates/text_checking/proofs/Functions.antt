@@ -24,14 +24,16 @@ use Rattle.text_networks.specs.Networks.{tuple_finding, tuples_of, function_find
 use Rattle.text_networks.proofs.FineTables.{costs_count}
 use Rattle.text_networks.proofs.Entries.{product, size_product}
 use Rattle.text_networks.proofs.FineWords.{test_fine, field_fine}
-use Rattle.text_checking.specs.Codes.{code_of, both}
+use Rattle.text_checking.specs.declared.Found.{Found}
+use Rattle.text_checking.specs.declared.Found.TheVariants.{Nothing}
+use Rattle.text_checking.specs.Codes.{rank, found_of, both}
 use Rattle.text_checking.specs.Sizes.{domains_at}
 use Rattle.text_checking.specs.Steps.{front_finding, tuples_finding, over_finding, record_bytes, OverSays}
 use Rattle.text_checking.specs.Steps.{FunctionSays}
 use Rattle.text_checking.specs.declared.Declared as DD
 use Rattle.text_checking.specs.declared.Function as DU
-use Rattle.text_checking.proofs.Codes.{lt_or_ge, both_heavy, both_assoc, both_second, both_zero, code_both}
-use Rattle.text_checking.proofs.Codes.{code_fine}
+use Rattle.text_checking.proofs.Codes.{lt_or_ge, both_heavy, both_assoc, both_second, both_zero, found_both}
+use Rattle.text_checking.proofs.Codes.{none_light, found_fine}
 use Rattle.text_checking.proofs.Caps.{words_short, runs_heavy, runs_capped, declared_end}
 
 -- ## the findings in order
@@ -109,25 +111,25 @@ module _ (ds : List ℕ) (ws : Words) where
 -- ## an arity above the cap
 
 over_parts : (ds : List ℕ) (a : ℕ) (us : Words)
-    → (x : ℕ) × (y : ℕ) × (code_of (over_finding ds a us)
-    ≡ both (both (code_of (runs a (λ ws. declared_finding (length ds) (term_at 0 ws)) 1 us)) x) y)
+    → (x : Found) × (y : Found) × (found_of (over_finding ds a us)
+    ≡ both (both (found_of (runs a (λ ws. declared_finding (length ds) (term_at 0 ws)) 1 us)) x) y)
 unfolding over_finding front_finding
 over_parts ds a us =
-    let y : ℕ = code_of (tuples_finding (sizes_over ds (values_in a us)) a (value_at (1 + a) us) (drop (2 + a) us)) in
-    (_, y, code_both _ _ ∙ ap (λ (n : ℕ). both n y) (code_both _ _))
+    let y : Found = found_of (tuples_finding (sizes_over ds (values_in a us)) a (value_at (1 + a) us) (drop (2 + a) us)) in
+    (_, y, found_both _ _ ∙ ap (λ (n : Found). both n y) (found_both _ _))
 
 module _ (ds : List ℕ) (a : ℕ) (us : Words) (short : length us < cap_end) where
   abbrev f : Words → Finding
   f ws = declared_finding (length ds) (term_at 0 ws)
 
-  scope_heavy : (n : ℕ) → cap_end ≤ n → code_of (over_finding ds n us) ≡ code_of (runs n f 1 us)
+  scope_heavy : (n : ℕ) → cap_end ≤ n → found_of (over_finding ds n us) ≡ found_of (runs n f 1 us)
   scope_heavy n h =
       let (x, y, e) = over_parts ds n us in
       let heavy = runs_heavy f 0 (declared_end (length ds)) n us (omega arith) in
-      let one = both_heavy (code_of (runs n f 1 us)) x heavy in
-      e ∙ rw one (both_heavy (code_of (runs n f 1 us)) y heavy)
+      let one = both_heavy (found_of (runs n f 1 us)) x heavy in
+      e ∙ rw one (both_heavy (found_of (runs n f 1 us)) y heavy)
 
-  over_capped : code_of (over_finding ds (min a cap_end) us) ≡ code_of (over_finding ds a us)
+  over_capped : found_of (over_finding ds (min a cap_end) us) ≡ found_of (over_finding ds a us)
   over_capped =
       ⊎_elim (λ (h : a < cap_end). let e : min a cap_end ≡ a = omega arith in rw e)
       (λ (h : cap_end ≤ a).
@@ -135,25 +137,25 @@ module _ (ds : List ℕ) (a : ℕ) (us : Words) (short : length us < cap_end) wh
       ∙ runs_capped f 0 (declared_end (length ds)) a us short
       ∙ sym (scope_heavy a h)) (lt_or_ge a cap_end)
 
-  over_exact : code_of (over_finding ds (min a cap_end) us) < 2 → min a cap_end ≡ a
+  over_exact : rank (found_of (over_finding ds (min a cap_end) us)) < 2 → min a cap_end ≡ a
   over_exact l =
       ⊎_elim (λ (h : a < cap_end). omega arith)
       (λ (h : cap_end ≤ a).
       let heavy = runs_heavy f 0 (declared_end (length ds)) (min a cap_end) us (omega arith) in
-      absurd (omega (arith, scope_heavy (min a cap_end) (omega arith)))) (lt_or_ge a cap_end)
+      absurd (omega (arith, ap rank (scope_heavy (min a cap_end) (omega arith))))) (lt_or_ge a cap_end)
 
 -- ## the whole
 
-module _ {s : List ℕ} {at : ℕ} {x : DN.Number} (says : NumberSays s at x) (found total code : ℕ)
-    (arity : code ≡ code_of (arity_finding (term_at 0 (words_at s at)))) (sum : total ≡ both found code) where
+module _ {s : List ℕ} {at : ℕ} {x : DN.Number} (says : NumberSays s at x) (found total code : Found)
+    (arity : code ≡ found_of (arity_finding (term_at 0 (words_at s at)))) (sum : total ≡ both found code) where
   abbrev here : Words
   here = words_at s at
 
-  pub arity_few : total ≡ 0 → (found ≡ 0) × (x.value ≤ 3)
+  pub arity_few : total ≡ Nothing → (found ≡ Nothing) × (x.value ≤ 3)
   arity_few z =
       let (before, now) = both_zero found code (sym sum ∙ z) in
       let fits = ltb-false max_arity (arity_in here)
-      (test_fine _ dialect tt (field_fine stop _ (term_at 0 here) tt (code_fine _ (sym arity ∙ now)))) in
+      (test_fine _ dialect tt (field_fine stop _ (term_at 0 here) tt (found_fine _ (sym arity ∙ now)))) in
       (before, omega (arith, says.value))
 
   pub function_says : (d : DD.Declared) (r : DU.Function) → length s < 18446744073709551616
@@ -164,10 +166,10 @@ module _ {s : List ℕ} {at : ℕ} {x : DN.Number} (says : NumberSays s at x) (f
       let after : Words = drop 1 here in
       let few : length after < cap_end = subst (λ (l : Words). length l < cap_end) says.rest
       (words_short s x.end short) in
-      let behind : code_of (over_finding ds x.value (words_at s x.end))
-      ≡ code_of (over_finding ds (min n cap_end) after) =
+      let behind : found_of (over_finding ds x.value (words_at s x.end))
+      ≡ found_of (over_finding ds (min n cap_end) after) =
       rw (says.rest, says.value) in
-      let exact : r.finding < 2 → x.value ≡ n =
+      let exact : rank r.finding < 2 → x.value ≡ n =
       λ l.
       says.value
       ∙ over_exact ds n after few (rw behind at (both_second total _ (rw over.finding at l))) in
@@ -176,9 +178,9 @@ module _ {s : List ℕ} {at : ℕ} {x : DN.Number} (says : NumberSays s at x) (f
             over.finding
             ∙ ap (both total) (behind ∙ over_capped ds n after few)
             ∙ rw (sum, arity) (both_assoc found _ _)
-            ∙ ap (both found) (sym (ap code_of (function_over ds here) ∙ code_both _ _));
+            ∙ ap (both found) (sym (ap found_of (function_over ds here) ∙ found_both _ _));
         within = over.within;
         words = λ l. over.words l ∙ rw (exact l, says.rest) (width_later ds here);
-        bytes = λ z. over.bytes z ∙ rw (exact (omega arith), says.rest) (sym (table_bytes_lem ds here));
+        bytes = λ z. over.bytes z ∙ rw (exact (none_light r.finding z), says.rest) (sym (table_bytes_lem ds here));
         small = over.small;
       }

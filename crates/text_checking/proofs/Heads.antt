@@ -8,16 +8,18 @@ use lib.Seq.{drop-drop}
 use Rattle.model.proofs.Lists.{get_d_first}
 use Rattle.text_words.specs.Texts.{Term, number, negative, other, term_of, value_of}
 use Rattle.text_words.specs.Reads.{words_at, cap_end, kind_of, NumberSays}
+use Rattle.text_words.specs.declared.Kind.TheVariants.{Natural}
 use Rattle.text_words.specs.declared.Number as DN
 use Rattle.text_networks.specs.Findings.{Words, field, term_at}
 use Rattle.text_networks.specs.Networks.{variables_finding, largest_finding, functions_number, bound_finding}
-use Rattle.text_checking.specs.Codes.{code_of, both}
+use Rattle.text_checking.specs.declared.Found.{Found}
+use Rattle.text_checking.specs.Codes.{rank, found_of, both}
 use Rattle.text_checking.specs.Steps.{HeadSays, head_finding}
-use Rattle.text_checking.proofs.Codes.{both_first, both_second, code_both}
+use Rattle.text_checking.proofs.Codes.{both_first, both_second, found_both}
 
 -- a largest size that does not decide is a number
-largest_kind : (t : Term) → code_of (largest_finding t) < 2 → kind_of t ≡ 0
-unfolding field code_of kind_of
+largest_kind : (t : Term) → rank (found_of (largest_finding t)) < 2 → kind_of t ≡ Natural
+unfolding field found_of kind_of
 largest_kind (number x) h = refl
 largest_kind negative h = absurd (omega arith)
 largest_kind other h = absurd (omega arith)
@@ -39,12 +41,12 @@ module _ (s : List ℕ) (at : ℕ) (a b c d : DN.Number) (first : NumberSays s a
   word_at : (i place : ℕ) → words_at s place ≡ drop i ws → get_or (words_at s place) 0 [] ≡ get_or ws i []
   word_at i place e = rw e (get_d_first [] i ws)
 
-  module _ (p q r t : ℕ) (variables : p ≡ code_of (variables_finding (term_at 0 ws)))
-      (largest : q ≡ code_of (largest_finding (term_at 0 (words_at s a.end))))
-      (functions : r ≡ code_of (functions_number (term_at 0 (words_at s b.end))))
-      (bound : t ≡ code_of (bound_finding (term_at 0 (words_at s c.end)))) (total : ℕ)
+  module _ (p q r t : Found) (variables : p ≡ found_of (variables_finding (term_at 0 ws)))
+      (largest : q ≡ found_of (largest_finding (term_at 0 (words_at s a.end))))
+      (functions : r ≡ found_of (functions_number (term_at 0 (words_at s b.end))))
+      (bound : t ≡ found_of (bound_finding (term_at 0 (words_at s c.end)))) (total : Found)
       (sum : total ≡ both (both p q) (both r t)) where
-    head_code : total ≡ code_of (head_finding ws)
+    head_code : total ≡ found_of (head_finding ws)
     unfolding head_finding
     head_code =
         sum
@@ -57,9 +59,9 @@ module _ (s : List ℕ) (at : ℕ) (a b c d : DN.Number) (first : NumberSays s a
           word_at 2 b.end words_two,
           word_at 3 c.end words_three,
         )
-        (sym (code_both _ _ ∙ rw (code_both, code_both)))
+        (sym (found_both _ _ ∙ rw (found_both, found_both)))
 
-    number_kind : total < 2 → b.kind ≡ 0
+    number_kind : rank total < 2 → b.kind ≡ Natural
     number_kind l =
         second.kind
         ∙ largest_kind _ (rw largest at (both_second p q (both_first (both p q) (both r t) (rw sum at l))))

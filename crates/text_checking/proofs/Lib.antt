@@ -1,5 +1,5 @@
 -- Laws that the functions' proofs cite.
--- findings as numbers, fields
+-- findings in the source's kinds, fields
 pub mod Codes
 pub mod Fields
 -- domain sizes in a word of memory each

@@ -17,7 +17,9 @@ use Rattle.text_networks.proofs.Lists.{map-append}
 use Rattle.text_networks.proofs.Entries.{sizes_over_lem}
 use Rattle.text_networks.proofs.FineWords.{both_fine, test_fine, field_fine}
 use Rattle.text_networks.proofs.FineTables.{values_count}
-use Rattle.text_checking.specs.Codes.{code_of, both}
+use Rattle.text_checking.specs.declared.Found.{Found}
+use Rattle.text_checking.specs.declared.Found.TheVariants.{Nothing}
+use Rattle.text_checking.specs.Codes.{rank, found_of, both}
 use Rattle.text_checking.specs.Sizes.{size_held, sizes_held, domains_at, scope_sizes}
 use Rattle.text_checking.specs.Steps.{Holds, FrontSays, FarSays, TableSays, OverSays, Plain, record_bytes}
 use Rattle.text_checking.specs.Steps.{front_finding, tuples_finding, over_finding}
@@ -26,7 +28,7 @@ use Rattle.text_checking.specs.declared.Declared as DD
 use Rattle.text_checking.specs.declared.Far as DF
 use Rattle.text_checking.specs.declared.Counted as DC
 use Rattle.text_checking.specs.declared.Function as DU
-use Rattle.text_checking.proofs.Codes.{both_heavy, both_assoc, both_second, both_zero, code_both, code_fine}
+use Rattle.text_checking.proofs.Codes.{both_heavy, both_assoc, both_second, both_zero, found_both, found_fine, none_light}
 use Rattle.text_checking.proofs.Entries.{held_at}
 use Rattle.text_checking.proofs.Filling.{values_at, values_split, map_at}
 use Rattle.text_checking.proofs.Caps.{words_short, tuples_capped, tuples_exact}
@@ -107,39 +109,39 @@ module _ (s : List ℕ) (start : DS.Step) (arity : ℕ) (d : DD.Declared) (front
   abbrev sizes : List ℕ
   sizes = sizes_over (domains_at s d) (values_in arity vs)
 
-  abbrev tuples : ℕ
-  tuples = code_of (tuples_finding sizes arity (value_at (1 + arity) vs) (drop (2 + arity) vs))
+  abbrev tuples : Found
+  tuples = found_of (tuples_finding sizes arity (value_at (1 + arity) vs) (drop (2 + arity) vs))
 
-  over_code : both start.finding (code_of (over_finding (domains_at s d) arity vs)) ≡ both counted.finding tuples
+  over_code : both start.finding (found_of (over_finding (domains_at s d) arity vs)) ≡ both counted.finding tuples
   unfolding over_finding
   over_code =
       let n = values_count d.variables (words_at s d.sizes) in
-      let f : ℕ = code_of (front_finding d.variables arity vs) in
-      let parts : code_of (over_finding (domains_at s d) arity vs) ≡ both f tuples = code_both _ _ ∙ rw n in
+      let f : Found = found_of (front_finding d.variables arity vs) in
+      let parts : found_of (over_finding (domains_at s d) arity vs) ≡ both f tuples = found_both _ _ ∙ rw n in
       ap (both start.finding) parts
       ∙ sym (both_assoc start.finding f tuples)
-      ∙ ap (λ (k : ℕ). both k tuples) (sym says.finding)
+      ∙ ap (λ (k : Found). both k tuples) (sym says.finding)
 
-  pub over_decided : 2 ≤ counted.finding
+  pub over_decided : 2 ≤ rank counted.finding
       → OverSays s start arity d (record { finding = counted.finding; next = counted.next; bytes = 0 })
   over_decided h =
       record {
         finding = sym (over_code ∙ both_heavy counted.finding tuples h);
         within = says.within;
         words = λ l. absurd (omega arith);
-        bytes = λ z. absurd (omega arith);
+        bytes = λ z. absurd (omega (arith, ap rank z));
         small = omega arith;
       }
 
   -- where nothing is found
-  pub over_plain : (start.finding ≡ 0 → (arity ≤ 3) × All DomainSize (domains_at s d))
+  pub over_plain : (start.finding ≡ Nothing → (arity ≤ 3) × All DomainSize (domains_at s d))
       → (entries : List ℕ) (far : DF.Far) → length entries ≡ min arity (length front)
       → 3 ≤ length front → far.count ≡ arity - length entries
-      → scope_sizes s entries far d ≡ sizes → counted.finding ≡ 0 → Plain s counted entries far
+      → scope_sizes s entries far d ≡ sizes → counted.finding ≡ Nothing → Plain s counted entries far
   over_plain plain entries far long room rest all none =
       let (before, here) = both_zero _ _ (sym says.finding ∙ none) in
       let (few, domains) = plain before in
-      let (range, constant) = front_fine d.variables arity vs (code_fine _ here) in
+      let (range, constant) = front_fine d.variables arity vs (found_fine _ here) in
       let near : far.count ≡ 0 = omega arith in
       let n = values_count d.variables (words_at s d.sizes) in
       let inside : InRange (length (domains_at s d)) (values_in arity vs) = rw n range in
@@ -149,14 +151,14 @@ module _ (s : List ℕ) (start : DS.Step) (arity : ℕ) (d : DD.Declared) (front
         short = omega arith;
         near = near;
         sizes = front_all (sizes_held s entries) (scope_sizes s [] far d) fit;
-        constant = λ z. says.count (omega arith) ∙ rw (constant (omega arith));
+        constant = λ z. says.count (none_light counted.finding none) ∙ rw (constant (omega arith));
       }
     where
       front_all : (xs ys : List ℕ) → All DomainSize (xs ++ ys) → All DomainSize xs
       front_all [] ys h = tt
       front_all (x ∷ xs) ys h = (h.0, front_all xs ys h.1)
 
-  pub over_says : length s < 18446744073709551616 → counted.finding < 2 → (es : List ℕ) → es ≡ sizes
+  pub over_says : length s < 18446744073709551616 → rank counted.finding < 2 → (es : List ℕ) → es ≡ sizes
       → (r : DU.Function) → TableSays s counted es r → OverSays s start arity d r
   over_says short light es same r table =
       let k : ℕ = value_at (1 + arity) vs in
@@ -166,15 +168,15 @@ module _ (s : List ℕ) (start : DS.Step) (arity : ℕ) (d : DD.Declared) (front
       let count : counted.count ≡ min k cap_end = says.count light in
       let words : ws ≡ drop (2 + arity) vs = says.words light in
       let few = words_short s counted.next short in
-      let found : code_of (tuples_finding es (length es) counted.count ws)
-      ≡ code_of (tuples_finding sizes arity (min k cap_end) ws) = rw (wide, same, count) in
+      let found : found_of (tuples_finding es (length es) counted.count ws)
+      ≡ found_of (tuples_finding sizes arity (min k cap_end) ws) = rw (wide, same, count) in
       record {
         finding =
             table.finding
             ∙ ap (both counted.finding)
             (found
             ∙ tuples_capped sizes arity k ws few
-            ∙ ap (λ (l : Words). code_of (tuples_finding sizes arity k l)) words)
+            ∙ ap (λ (l : Words). found_of (tuples_finding sizes arity k l)) words)
             ∙ sym over_code;
         within = table.within;
         words = λ l.

@@ -12,15 +12,17 @@ use Rattle.text_words.specs.Reads.{words_at}
 use Rattle.text_networks.specs.Findings.{Words, fine, dialect, find_if, runs, values_in}
 use Rattle.text_networks.specs.Networks.{repeated_tuple, tuples_of, tuple_finding}
 use Rattle.text_networks.proofs.Entries.{product}
-use Rattle.text_checking.specs.Codes.{code_of, both}
+use Rattle.text_checking.specs.declared.Found.{Found}
+use Rattle.text_checking.specs.declared.Found.TheVariants.{Nothing, Dialect}
+use Rattle.text_checking.specs.Codes.{found_of, both}
 use Rattle.text_checking.specs.Sizes.{size_held, sizes_held, scope_sizes}
 use Rattle.text_checking.specs.Steps.{Checked, Plain, TableSays, tuples_finding, record_bytes}
 use Rattle.text_checking.specs.declared.Step as DS
 use Rattle.text_checking.specs.declared.Declared as DD
 use Rattle.text_checking.specs.declared.Far as DF
 use Rattle.text_checking.specs.declared.Counted as DC
-use Rattle.text_checking.proofs.Codes.{both_none, both_more, both_assoc, both_second, both_zero, code_both}
-use Rattle.text_checking.proofs.Codes.{code_fine, test_code, test_light}
+use Rattle.text_checking.proofs.Codes.{both_none, both_more, both_assoc, both_second, both_zero, found_both}
+use Rattle.text_checking.proofs.Codes.{found_fine, test_code, test_light, some_rank, none_light}
 use Rattle.text_checking.proofs.Entries.{small_held}
 use Rattle.text_checking.proofs.Scopes.{far_count}
 
@@ -46,11 +48,6 @@ three_product (a ∷ b ∷ []) h = refl
 three_product (a ∷ b ∷ c ∷ []) h = omega arith
 three_product (a ∷ b ∷ c ∷ d ∷ l) h = absurd (omega arith)
 
-pub three_small : (a b c : ℕ) → a ≤ 8 → b ≤ 8 → c ≤ 8 → (b * c ≤ 64) × (a * (b * c) ≤ 512)
-three_small a b c h k l =
-    let two : b * c ≤ 64 = product_small 8 8 b c k l in
-    (two, product_small 8 64 a (b * c) h two)
-
 -- ## small sizes
 
 pub small_sizes : (s entries : List ℕ) → All DomainSize (sizes_held s entries) → sizes_held s entries ≡ entries
@@ -65,15 +62,26 @@ unfolding values_in
 plain_sizes {s} {start} {entries} {far} d p =
     rw p.near (append-nil (sizes_held s entries) ∙ small_sizes s entries p.sizes)
 
+-- nothing is found yet, behind what is to hold then
+pub plain_before : (s : List ℕ) (start : DC.Counted) (entries : List ℕ) (far : DF.Far)
+    → (start.finding ≡ Nothing → Plain s start entries far) → (g : Found) → Nothing ≡ both start.finding g
+    → Plain s start entries far
+plain_before s start entries far h g none = h (both_zero start.finding g (sym none)).0
+
+pub small_plain : {s : List ℕ} {start : DC.Counted} {entries : List ℕ} {far : DF.Far} → Plain s start entries far
+    → All DomainSize entries
+small_plain {s} {start} {entries} {far} p =
+    subst (λ (l : List ℕ). All DomainSize l) (small_sizes s entries p.sizes) p.sizes
+
 -- ## the tuples
 
 pub tuples_code : (es : List ℕ) (a k : ℕ) (ws : Words)
-    → code_of (tuples_finding es a k ws)
-    ≡ both (code_of (runs k (tuple_finding es) (suc a) ws))
-    (code_of (find_if (repeated_tuple (tuples_of k a ws)) dialect))
+    → found_of (tuples_finding es a k ws)
+    ≡ both (found_of (runs k (tuple_finding es) (suc a) ws))
+    (found_of (find_if (repeated_tuple (tuples_of k a ws)) dialect))
 unfolding tuples_finding
 tuples_code es a k ws =
-    code_both (runs k (tuple_finding es) (suc a) ws) (find_if (repeated_tuple (tuples_of k a ws)) dialect)
+    found_both (runs k (tuple_finding es) (suc a) ws) (find_if (repeated_tuple (tuples_of k a ws)) dialect)
 
 module _ (s : List ℕ) (start : DC.Counted) (entries : List ℕ) (far : DF.Far) (d : DD.Declared) where
   abbrev es : List ℕ
@@ -89,22 +97,22 @@ module _ (s : List ℕ) (start : DC.Counted) (entries : List ℕ) (far : DF.Far)
 
   module _ (tuples : DS.Step)
       (read :
-      Checked s (code_of (runs start.count (tuple_finding es) (suc (length entries + far.count)) ws))
+      Checked s (found_of (runs start.count (tuple_finding es) (suc (length entries + far.count)) ws))
       (start.count * suc (length entries + far.count)) start.next tuples) where
-    read_all : Checked s (code_of (runs start.count (tuple_finding es) (suc (length es)) ws))
+    read_all : Checked s (found_of (runs start.count (tuple_finding es) (suc (length es)) ws))
         (start.count * suc (length es)) start.next tuples
     read_all =
-        subst (λ (n : ℕ). Checked s (code_of (runs start.count (tuple_finding es) (suc n) ws)) (start.count * suc n)
+        subst (λ (n : ℕ). Checked s (found_of (runs start.count (tuple_finding es) (suc n) ws)) (start.count * suc n)
         start.next tuples) (sym wide) read
 
-    pub table_found : (found : ℕ) → found ≡ both start.finding tuples.finding → (found ≡ 0 → ⊥)
+    pub table_found : (found : Found) → found ≡ both start.finding tuples.finding → (found ≡ Nothing → ⊥)
         → TableSays s start es (record { finding = found; next = tuples.next; bytes = 0 })
     table_found found e some =
         let twice : Bool = repeated_tuple (tuples_of start.count (length es) ws) in
-        let w : ℕ = code_of (find_if twice dialect) in
+        let w : Found = found_of (find_if twice dialect) in
         let more : both (both start.finding tuples.finding) w ≡ found =
-        rw (← e) (both_more found w (omega (arith, some)) (test_light twice)) in
-        let all : code_of (tuples_finding es (length es) start.count ws) ≡ both tuples.finding w =
+        rw (← e) (both_more found w (some_rank found some) (test_light twice)) in
+        let all : found_of (tuples_finding es (length es) start.count ws) ≡ both tuples.finding w =
         rw read_all.finding (tuples_code es (length es) start.count ws) in
         record {
           finding =
@@ -115,34 +123,34 @@ module _ (s : List ℕ) (start : DC.Counted) (entries : List ℕ) (far : DF.Far)
           small = omega arith;
         }
 
-    module _ (none : 0 ≡ both start.finding tuples.finding) where
-      pub start_none : start.finding ≡ 0
+    module _ (none : Nothing ≡ both start.finding tuples.finding) where
+      pub start_none : start.finding ≡ Nothing
       start_none = (both_zero _ _ (sym none)).0
 
-      tuples_none : tuples.finding ≡ 0
+      tuples_none : tuples.finding ≡ Nothing
       tuples_none = (both_zero start.finding _ (sym none)).1
 
       pub runs_fine : Plain s start entries far
           → runs start.count (tuple_finding entries) (suc (length entries)) ws ≡ fine
       runs_fine p =
           let all : runs start.count (tuple_finding es) (suc (length es)) ws ≡ fine =
-          code_fine _ (sym read_all.finding ∙ tuples_none) in
+          found_fine _ (sym read_all.finding ∙ tuples_none) in
           rw (plain_sizes d p) at all
 
       pub table_fine : (twice : Bool) → twice ≡ repeated_tuple (tuples_of start.count (length entries) ws)
           → Plain s start entries far → (n : ℕ) → n ≡ record_bytes entries → n ≤ 2055
-          → TableSays s start es (record { finding = pick twice 1 0; next = tuples.next; bytes = n })
+          → TableSays s start es (record { finding = pick twice Dialect Nothing; next = tuples.next; bytes = n })
       table_fine twice t p n e few =
           let same = plain_sizes d p in
-          let last : code_of (find_if (repeated_tuple (tuples_of start.count (length es) ws)) dialect)
-          ≡ pick twice 1 0 =
+          let last : found_of (find_if (repeated_tuple (tuples_of start.count (length es) ws)) dialect)
+          ≡ pick twice Dialect Nothing =
           rw (same, ← t) (test_code twice) in
           record {
             finding =
                 sym (ap (both start.finding) (tuples_code es (length es) start.count ws)
                 ∙ rw (← read_all.finding, tuples_none, start_none, last) (both_none _ ∙ both_none _));
             within = read.within;
-            words = λ _. read_all.words (omega (arith, tuples_none));
+            words = λ _. read_all.words (none_light tuples.finding tuples_none);
             bytes = λ _. e ∙ sym (ap record_bytes same);
             small = few;
           }

@@ -1,29 +1,51 @@
--- Findings as numbers.
-use Rattle.std.specs.Prelude.{◌&&◌, ◌||◌, ℕ, max, eqb, ltb}
+-- What is found, in the source's kinds.
+use Rattle.std.specs.Prelude.{◌&&◌, ◌||◌, ℕ, eqb, ltb}
 use Rattle.model.specs.Basics.{pick}
+use Rattle.text_words.specs.declared.Kind.{Kind}
+use Rattle.text_words.specs.declared.Kind.TheVariants.{Natural, Negative, Other}
 use Rattle.text_networks.specs.Findings.{Finding, fine, dialect, stop, fault}
 use Rattle.text_networks.specs.Conversions.{bad_text, bad_dialect}
+use Rattle.text_checking.specs.declared.Found.{Found}
+use Rattle.text_checking.specs.declared.Found.TheVariants.{Nothing, Dialect, Stop, Fault}
 
-unfoldable pub code_of : Finding → ℕ
-code_of fine = 0
-code_of dialect = 1
-code_of stop = 2
-code_of fault = 3
+unfoldable pub found_of : Finding → Found
+found_of fine = Nothing
+found_of dialect = Dialect
+found_of stop = Stop
+found_of fault = Fault
 
--- a finding, and then what follows: from 2 on the first decides
-unfoldable pub both : ℕ → ℕ → ℕ
-both a b = pick (ltb a 2) (max a b) a
+-- the findings in order: from 2 on nothing is read behind them
+abbrev pub rank : Found → ℕ
+rank Nothing = 0
+rank Dialect = 1
+rank Stop = 2
+rank Fault = 3
+
+-- a finding, and then what follows
+unfoldable pub both : Found → Found → Found
+both Nothing b = b
+both Dialect Nothing = Dialect
+both Dialect Dialect = Dialect
+both Dialect Stop = Stop
+both Dialect Fault = Fault
+both Stop b = Stop
+both Fault b = Fault
 
 -- a word of this kind and value is to be a number from `least` to `most`; what is found where it is negative
-unfoldable pub limited_code : ℕ → ℕ → ℕ → ℕ → ℕ → ℕ
-limited_code kind value least most below =
-    pick (eqb kind 0) (pick (ltb value least || ltb most value) 1 0) (pick (eqb kind 1) below 3)
+unfoldable pub limited_code : Kind → ℕ → ℕ → ℕ → Found → Found
+limited_code Natural value least most below = pick (ltb value least || ltb most value) Dialect Nothing
+limited_code Negative value least most below = below
+limited_code Other value least most below = Fault
 
 -- the same of a number of tuples
-unfoldable pub count_code : ℕ → ℕ → ℕ → ℕ
-count_code kind value arity =
-    pick (eqb kind 0) (pick (eqb arity 0 && ltb 0 value) 3 0) (pick (eqb kind 1) 2 3)
+unfoldable pub count_code : Kind → ℕ → ℕ → Found
+count_code Natural value arity = pick (eqb arity 0 && ltb 0 value) Fault Nothing
+count_code Negative value arity = Stop
+count_code Other value arity = Fault
 
 -- the number of a refusal
-unfoldable pub number_code : ℕ → ℕ
-number_code k = pick (eqb k 0) 0 (pick (ltb k 3) bad_dialect bad_text)
+unfoldable pub number_code : Found → ℕ
+number_code Nothing = 0
+number_code Dialect = bad_dialect
+number_code Stop = bad_dialect
+number_code Fault = bad_text

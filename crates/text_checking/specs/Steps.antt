@@ -14,8 +14,10 @@ use Rattle.text_networks.specs.Networks.{function_width, function_table, functio
 use Rattle.text_networks.specs.Networks.{network_problem}
 use Rattle.text_networks.specs.Conversions.{number_of}
 use Rattle.text_networks.proofs.Entries.{product}
-use Rattle.text_checking.specs.Codes.{code_of, both}
+use Rattle.text_checking.specs.Codes.{rank, found_of, both}
 use Rattle.text_checking.specs.Sizes.{size_held, sizes_held, domains_at}
+use Rattle.text_checking.specs.declared.Found.{Found}
+use Rattle.text_checking.specs.declared.Found.TheVariants.{Nothing}
 use Rattle.text_checking.specs.declared.Step as DS
 use Rattle.text_checking.specs.declared.Declared as DD
 use Rattle.text_checking.specs.declared.Far as DF
@@ -27,11 +29,11 @@ use Rattle.text_checking.specs.declared.Head as DH
 use Rattle.text_checking.specs.declared.Body as DB
 use Rattle.text_checking.specs.declared.Network as DN
 
--- what is found from a place on has this number; where it does not decide, so many words are read
-pub record Checked (s : List ℕ) (code width at : ℕ) (r : DS.Step) : Type 0 where
-  pub finding : r.finding ≡ code
+-- this is found from a place on; where it does not decide, so many words are read
+pub record Checked (s : List ℕ) (found : Found) (width at : ℕ) (r : DS.Step) : Type 0 where
+  pub finding : r.finding ≡ found
   pub within : r.next ≤ length s
-  pub words : r.finding < 2 → words_at s r.next ≡ drop width (words_at s at)
+  pub words : rank r.finding < 2 → words_at s r.next ≡ drop width (words_at s at)
 
 -- words are skipped
 pub record WordsSkipped (s : List ℕ) (at n r : ℕ) : Type 0 where
@@ -45,8 +47,8 @@ Holds g n l = (k : ℕ) → k < n → k < length l → g k (get_or l k 0)
 -- the variables of a scope are read, the first ones into a list
 pub record ScopeSays (s : List ℕ) (at arity variables : ℕ) (scope : List ℕ) (r : DS.Step) : Type 0 where
   pub step : Checked s
-      (code_of (runs arity (λ us. declared_finding variables (term_at 0 us)) 1 (words_at s at))) arity at r
-  pub filled : r.finding < 2 → Holds (λ k v. v ≡ value_at k (words_at s at)) arity scope
+      (found_of (runs arity (λ us. declared_finding variables (term_at 0 us)) 1 (words_at s at))) arity at r
+  pub filled : rank r.finding < 2 → Holds (λ k v. v ≡ value_at k (words_at s at)) arity scope
 
 -- ## a function
 
@@ -54,10 +56,10 @@ pub record ScopeSays (s : List ℕ) (at arity variables : ℕ) (scope : List ℕ
 pub record CountsSays (s : List ℕ) (arity at : ℕ) (r : DC.Counted) : Type 0 where
   pub finding :
       let ws = words_at s at in
-      r.finding ≡ code_of (and_then (cost_finding (term_at 0 ws)) (count_finding arity (term_at 1 ws)))
+      r.finding ≡ found_of (and_then (cost_finding (term_at 0 ws)) (count_finding arity (term_at 1 ws)))
   pub within : r.next ≤ length s
-  pub words : r.finding < 2 → words_at s r.next ≡ drop 2 (words_at s at)
-  pub count : r.finding < 2 → r.count ≡ min (value_at 1 (words_at s at)) cap_end
+  pub words : rank r.finding < 2 → words_at s r.next ≡ drop 2 (words_at s at)
+  pub count : rank r.finding < 2 → r.count ≡ min (value_at 1 (words_at s at)) cap_end
 
 -- tuples, and whether one is given twice, over these sizes
 unfoldable pub tuples_finding : List ℕ → ℕ → ℕ → Words → Finding
@@ -78,10 +80,10 @@ pub record Plain (s : List ℕ) (start : DC.Counted) (entries : List ℕ) (far :
 pub record TableSays (s : List ℕ) (start : DC.Counted) (es : List ℕ) (r : DU.Function) : Type 0 where
   pub finding :
       r.finding
-      ≡ both start.finding (code_of (tuples_finding es (length es) start.count (words_at s start.next)))
+      ≡ both start.finding (found_of (tuples_finding es (length es) start.count (words_at s start.next)))
   pub within : r.next ≤ length s
-  pub words : r.finding < 2 → words_at s r.next ≡ drop (start.count * suc (length es)) (words_at s start.next)
-  pub bytes : r.finding ≡ 0 → r.bytes ≡ record_bytes es
+  pub words : rank r.finding < 2 → words_at s r.next ≡ drop (start.count * suc (length es)) (words_at s start.next)
+  pub bytes : r.finding ≡ Nothing → r.bytes ≡ record_bytes es
   pub small : r.bytes ≤ 2055
 
 -- the variables of a scope behind the first ones
@@ -98,11 +100,11 @@ front_finding n a us =
     (and_then (cost_finding (term_at a us)) (count_finding a (term_at (1 + a) us))))
 
 pub record FrontSays (s : List ℕ) (start : DS.Step) (arity n : ℕ) (scope : List ℕ) (r : DC.Counted) : Type 0 where
-  pub finding : r.finding ≡ both start.finding (code_of (front_finding n arity (words_at s start.next)))
+  pub finding : r.finding ≡ both start.finding (found_of (front_finding n arity (words_at s start.next)))
   pub within : r.next ≤ length s
-  pub words : r.finding < 2 → words_at s r.next ≡ drop (2 + arity) (words_at s start.next)
-  pub count : r.finding < 2 → r.count ≡ min (value_at (1 + arity) (words_at s start.next)) cap_end
-  pub filled : r.finding < 2 → Holds (λ k v. v ≡ value_at k (words_at s start.next)) arity scope
+  pub words : rank r.finding < 2 → words_at s r.next ≡ drop (2 + arity) (words_at s start.next)
+  pub count : rank r.finding < 2 → r.count ≡ min (value_at (1 + arity) (words_at s start.next)) cap_end
+  pub filled : rank r.finding < 2 → Holds (λ k v. v ≡ value_at k (words_at s start.next)) arity scope
 
 -- a function behind its arity
 unfoldable pub over_finding : List ℕ → ℕ → Words → Finding
@@ -112,29 +114,29 @@ over_finding ds a us =
 
 pub record OverSays (s : List ℕ) (start : DS.Step) (arity : ℕ) (d : DD.Declared) (r : DU.Function) : Type 0 where
   pub finding :
-      r.finding ≡ both start.finding (code_of (over_finding (domains_at s d) arity (words_at s start.next)))
+      r.finding ≡ both start.finding (found_of (over_finding (domains_at s d) arity (words_at s start.next)))
   pub within : r.next ≤ length s
   pub words :
       let us = words_at s start.next in
-      r.finding < 2 → words_at s r.next ≡ drop (2 + arity + value_at (1 + arity) us * suc arity) us
+      rank r.finding < 2 → words_at s r.next ≡ drop (2 + arity + value_at (1 + arity) us * suc arity) us
   pub bytes :
-      r.finding ≡ 0
+      r.finding ≡ Nothing
       → r.bytes ≡ record_bytes (sizes_over (domains_at s d) (values_in arity (words_at s start.next)))
   pub small : r.bytes ≤ 2055
 
-pub record FunctionSays (s : List ℕ) (found at : ℕ) (d : DD.Declared) (r : DU.Function) : Type 0 where
-  pub finding : r.finding ≡ both found (code_of (function_finding (domains_at s d) (words_at s at)))
+pub record FunctionSays (s : List ℕ) (found : Found) (at : ℕ) (d : DD.Declared) (r : DU.Function) : Type 0 where
+  pub finding : r.finding ≡ both found (found_of (function_finding (domains_at s d) (words_at s at)))
   pub within : r.next ≤ length s
-  pub words : r.finding < 2 → words_at s r.next ≡ drop (function_width (words_at s at)) (words_at s at)
-  pub bytes : r.finding ≡ 0 → r.bytes ≡ length (table_bytes (function_table (domains_at s d) (words_at s at)))
+  pub words : rank r.finding < 2 → words_at s r.next ≡ drop (function_width (words_at s at)) (words_at s at)
+  pub bytes : r.finding ≡ Nothing → r.bytes ≡ length (table_bytes (function_table (domains_at s d) (words_at s at)))
   pub small : r.bytes ≤ 2055
 
 -- all functions, behind records of some bytes
 pub record FunctionsSays (s : List ℕ) (start : DS.Step) (n front : ℕ) (d : DD.Declared) (r : DB.Body) : Type 0 where
   pub finding :
-      r.finding ≡ both start.finding (code_of (functions_finding n (domains_at s d) (words_at s start.next)))
+      r.finding ≡ both start.finding (found_of (functions_finding n (domains_at s d) (words_at s start.next)))
   pub bytes :
-      r.finding ≡ 0
+      r.finding ≡ Nothing
       → r.bytes ≡ front + length (tables_bytes (function_tables n (domains_at s d) (words_at s start.next)))
 
 -- ## the domain sizes
@@ -142,18 +144,18 @@ pub record FunctionsSays (s : List ℕ) (start : DS.Step) (n front : ℕ) (d : D
 -- one size, with the largest that is stated
 pub record SizeSays (s : List ℕ) (at most : ℕ) (r : DZ.Sized) : Type 0 where
   pub step :
-      Checked s (code_of (size_finding most (term_at 0 (words_at s at)))) 1 at
+      Checked s (found_of (size_finding most (term_at 0 (words_at s at)))) 1 at
       (record { finding = r.finding; next = r.next })
-  pub met : r.finding < 2 → r.met ≡ not (ltb (value_at 0 (words_at s at)) most)
-  pub below : r.finding < 2 → value_at 0 (words_at s at) ≤ most
-  pub entry : r.finding < 2 → size_held s r.entry ≡ value_at 0 (words_at s at)
+  pub met : rank r.finding < 2 → r.met ≡ not (ltb (value_at 0 (words_at s at)) most)
+  pub below : rank r.finding < 2 → value_at 0 (words_at s at) ≤ most
+  pub entry : rank r.finding < 2 → size_held s r.entry ≡ value_at 0 (words_at s at)
 
 pub record SizesSays (s : List ℕ) (at n most : ℕ) (index : List ℕ) (r : DM.Sizes) : Type 0 where
   pub step :
-      Checked s (code_of (runs n (λ us. size_finding most (term_at 0 us)) 1 (words_at s at))) n at
+      Checked s (found_of (runs n (λ us. size_finding most (term_at 0 us)) 1 (words_at s at))) n at
       (record { finding = r.finding; next = r.next })
-  pub met : r.finding < 2 → r.met ≡ eqb (largest_of (values_in n (words_at s at))) most
-  pub held : r.finding < 2 → Holds (λ v e. size_held s e ≡ value_at v (words_at s at)) n index
+  pub met : rank r.finding < 2 → r.met ≡ eqb (largest_of (values_in n (words_at s at))) most
+  pub held : rank r.finding < 2 → Holds (λ v e. size_held s e ≡ value_at v (words_at s at)) n index
 
 -- ## the whole
 
@@ -164,18 +166,18 @@ head_finding ws =
     (and_then (functions_number (term_at 2 ws)) (bound_finding (term_at 3 ws)))
 
 pub record HeadSays (s : List ℕ) (at : ℕ) (r : DH.Head) : Type 0 where
-  pub finding : r.finding ≡ code_of (head_finding (words_at s at))
+  pub finding : r.finding ≡ found_of (head_finding (words_at s at))
   pub within : r.next ≤ length s
   pub words : words_at s r.next ≡ drop 4 (words_at s at)
   pub variables : r.variables ≡ min (value_at 0 (words_at s at)) cap_end
   pub functions : r.functions ≡ min (value_at 2 (words_at s at)) cap_end
-  pub digits : r.finding < 2 → DigitsAt s r.largest
-  pub largest : r.finding < 2 → value_from 0 (numeral s r.largest) ≡ value_at 1 (words_at s at)
+  pub digits : rank r.finding < 2 → DigitsAt s r.largest
+  pub largest : rank r.finding < 2 → value_from 0 (numeral s r.largest) ≡ value_at 1 (words_at s at)
 
 -- behind any name
 pub record BodySays (s : List ℕ) (at : ℕ) (r : DB.Body) : Type 0 where
-  pub finding : (name : List ℕ) → r.finding ≡ code_of (network_finding (name ∷ words_at s at))
-  pub bytes : r.finding ≡ 0 → (name : List ℕ) → r.bytes ≡ length (encode (network_problem (name ∷ words_at s at)))
+  pub finding : (name : List ℕ) → r.finding ≡ found_of (network_finding (name ∷ words_at s at))
+  pub bytes : r.finding ≡ Nothing → (name : List ℕ) → r.bytes ≡ length (encode (network_problem (name ∷ words_at s at)))
 
 pub record NetworkSays (s : List ℕ) (r : DN.Network) : Type 0 where
   pub number : r.number ≡ number_of (network_finding (words_of s))

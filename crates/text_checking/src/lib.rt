@@ -1,7 +1,7 @@
 // What is refused of a WCSP text, and how long its records are.
 #![tactic(auto)]
 
-ghost use Rattle.std.specs.Prelude.{◌≡◌, ◌||◌, [], ℕ, suc, ◌+◌, ◌-◌, ◌*◌, ◌≤◌, ◌<◌, min, ltb, length, get_or, take};
+ghost use Rattle.std.specs.Prelude.{◌≡◌, true, false, [], ℕ, suc, ◌+◌, ◌-◌, ◌*◌, ◌≤◌, ◌<◌, min, ltb, length, get_or, take};
 ghost use Rattle.std.specs.Prelude.{set};
 ghost use Rattle.model.specs.Basics.{All};
 ghost use Rattle.model.specs.Limits.{max_domain};
@@ -11,7 +11,8 @@ ghost use Rattle.text_words.specs.Reads.{words_at, cap_end, numeral, DigitsAt};
 ghost use Rattle.text_networks.specs.Findings.{dialect, find_if, term_at, runs};
 ghost use Rattle.text_networks.specs.Networks.{cost_finding, declared_finding, values_finding, tuple_finding};
 ghost use Rattle.text_networks.specs.Networks.{repeated};
-ghost use Rattle.text_checking.specs.Codes.{code_of, both, limited_code, count_code, number_code};
+ghost use Rattle.text_checking.specs.declared.Found.TheVariants.{Nothing};
+ghost use Rattle.text_checking.specs.Codes.{rank, found_of, both, limited_code, count_code, number_code};
 ghost use Rattle.text_checking.specs.Sizes.{half, entry_of, size_held, sizes_held, domains_at, Indexed, scope_sizes};
 ghost use Rattle.text_checking.specs.Steps.{Checked, WordsSkipped, ScopeSays, CountsSays, TableSays, OverSays};
 ghost use Rattle.text_checking.specs.Steps.{FunctionSays, FunctionsSays, SizeSays, SizesSays, HeadSays};
@@ -21,11 +22,19 @@ ghost use Rattle.text_checking.specs.Steps.{record_bytes, Plain, FarSays, FrontS
 // Entries of at least this number stand for sizes that are too large for an entry.
 const HALF: u64 = 9223372036854775808;
 
-// What is found (0 nothing, 1 what is refused, 2 what ends the reading so, 3 what is not the format), and the place
-// behind what was read.
+// What is found: nothing, what is refused, what ends the reading so, what is not the format.
+#[derive(Clone, Copy, PartialEq, Eq)]
+pub enum Found {
+    Nothing,
+    Dialect,
+    Stop,
+    Fault,
+}
+
+// What is found, and the place behind what was read.
 #[derive(Clone, Copy)]
 pub struct Step {
-    pub finding: u8,
+    pub finding: Found,
     pub next: usize,
 }
 
@@ -46,7 +55,7 @@ pub struct Far {
 // The same of a default cost and the number of tuples, which is told up to the cap.
 #[derive(Clone, Copy)]
 pub struct Counted {
-    pub finding: u8,
+    pub finding: Found,
     pub next: usize,
     pub count: u64,
 }
@@ -54,7 +63,7 @@ pub struct Counted {
 // The same of a function, with the bytes of its record where nothing is found.
 #[derive(Clone, Copy)]
 pub struct Function {
-    pub finding: u8,
+    pub finding: Found,
     pub next: usize,
     pub bytes: usize,
 }
@@ -62,7 +71,7 @@ pub struct Function {
 // The same of a domain size, whether it is the largest that is stated, and its entry.
 #[derive(Clone, Copy)]
 pub struct Sized {
-    pub finding: u8,
+    pub finding: Found,
     pub next: usize,
     pub met: bool,
     pub entry: u64,
@@ -71,7 +80,7 @@ pub struct Sized {
 // The same of all domain sizes.
 #[derive(Clone, Copy)]
 pub struct Sizes {
-    pub finding: u8,
+    pub finding: Found,
     pub next: usize,
     pub met: bool,
 }
@@ -79,7 +88,7 @@ pub struct Sizes {
 // The same of what stands before the domain sizes.
 #[derive(Clone, Copy)]
 pub struct Head {
-    pub finding: u8,
+    pub finding: Found,
     pub next: usize,
     pub variables: u64,
     pub functions: u64,
@@ -89,7 +98,7 @@ pub struct Head {
 // What is found, and the bytes of all records where nothing is found.
 #[derive(Clone, Copy)]
 pub struct Body {
-    pub finding: u8,
+    pub finding: Found,
     pub bytes: usize,
 }
 
@@ -100,47 +109,50 @@ pub struct Network {
     pub bytes: usize,
 }
 
-fn and_then(a: u8, b: u8) -> u8
+#[tactic(auto, unfolding(crate::specs::Codes::both))]
+fn and_then(a: Found, b: Found) -> Found
     ensures { result ≡ both a b }
 {
-    if a < 2 {
-        if a < b {
-            return b;
-        }
+    match (a, b) {
+        (Found::Nothing, _) => b,
+        (Found::Dialect, Found::Nothing) => a,
+        (Found::Dialect, _) => b,
+        _ => a,
     }
-    a
+}
+
+// Whether nothing is read behind what is found.
+fn decides(f: Found) -> bool
+    ensures { (result ≡ true → 2 ≤ rank f) × (result ≡ false → rank f < 2) }
+{
+    matches!(f, Found::Stop | Found::Fault)
 }
 
 // What is found in a field that is to be from `least` to `most`, and `below` where it is negative.
-fn limited(x: text_words::Number, least: u64, most: u64, below: u8) -> u8
+#[tactic(auto, unfolding(crate::specs::Codes::limited_code))]
+fn limited(x: text_words::Number, least: u64, most: u64, below: Found) -> Found
     ensures { result ≡ limited_code x.kind x.value least most below }
 {
-    if x.kind == 0 {
-        if x.value < least {
-            return 1;
-        }
-        if most < x.value {
-            return 1;
-        }
-        return 0;
+    match x.kind {
+        text_words::Kind::Natural if x.value < least || most < x.value => Found::Dialect,
+        text_words::Kind::Natural => Found::Nothing,
+        text_words::Kind::Negative => below,
+        text_words::Kind::Other => Found::Fault,
     }
-    if x.kind == 1 {
-        return below;
-    }
-    3
 }
 
 fn check_cost(s: &[u8], at: usize) -> Step
     requires { at ≤ length s.now }
-    ensures { Checked s.now (code_of (cost_finding (term_at 0 (words_at s.now at)))) 1 at result }
+    ensures { Checked s.now (found_of (cost_finding (term_at 0 (words_at s.now at)))) 1 at result }
 {
     let x = text_words::read_number(s, at);
     Step {
-        finding: limited(x, 0, 4294967295, 2),
+        finding: limited(x, 0, 4294967295, Found::Stop),
         next: x.end,
     }
 }
 
+#[tactic(auto, unfolding(crate::specs::Sizes::entry_of))]
 fn entry_of(value: u64, place: usize) -> u64
     requires { place < half }
     ensures { result ≡ entry_of value place }
@@ -167,7 +179,7 @@ fn is_below(s: &[u8], x: text_words::Number, e: u64) -> bool
         return false;
     }
     let size = text_words::read_number(s, place);
-    if size.kind != 0 {
+    if size.kind != text_words::Kind::Natural {
         return false;
     }
     text_words::is_less(s, x, size)
@@ -177,36 +189,46 @@ fn is_below(s: &[u8], x: text_words::Number, e: u64) -> bool
 fn check_value(s: &[u8], at: usize, e: u64) -> Step
     requires { at ≤ length s.now }
     ensures { Checked s.now
-        (code_of (declared_finding (size_held s.now e) (term_at 0 (words_at s.now at)))) 1 at result }
+        (found_of (declared_finding (size_held s.now e) (term_at 0 (words_at s.now at)))) 1 at result }
 {
     let x = text_words::read_number(s, at);
     let next = x.end;
-    if x.kind != 0 {
-        return Step { finding: 3, next };
+    if x.kind != text_words::Kind::Natural {
+        return Step {
+            finding: Found::Fault,
+            next,
+        };
     }
     if is_below(s, x, e) {
-        return Step { finding: 0, next };
+        return Step {
+            finding: Found::Nothing,
+            next,
+        };
     }
-    Step { finding: 3, next }
+    Step {
+        finding: Found::Fault,
+        next,
+    }
 }
 
 fn check_values(s: &[u8], at: usize, entries: &[u64]) -> Step
     requires { at ≤ length s.now }
     ensures { Checked s.now
-        (code_of (values_finding (sizes_held s.now entries.now) (words_at s.now at)))
+        (found_of (values_finding (sizes_held s.now entries.now) (words_at s.now at)))
         (length entries.now) at result }
 {
     let mut next = at;
-    let mut i: usize = 0;
-    while i < entries.len() {
-        let step = check_value(s, next, entries[i]);
-        if step.finding != 0 {
+    for e in entries {
+        let step = check_value(s, next, *e);
+        if step.finding != Found::Nothing {
             return step;
         }
         next = step.next;
-        i += 1;
     }
-    Step { finding: 0, next }
+    Step {
+        finding: Found::Nothing,
+        next,
+    }
 }
 
 // The place behind `n` words.
@@ -215,11 +237,8 @@ fn skip_words(s: &[u8], at: usize, n: u64) -> usize
     ensures { WordsSkipped s.now at n result }
 {
     let mut next = at;
-    let mut i: u64 = 0;
-    while i < n {
-        let x = text_words::read_number(s, next);
-        next = x.end;
-        i += 1;
+    for _i in 0..n {
+        next = text_words::read_number(s, next).end;
     }
     next
 }
@@ -257,21 +276,28 @@ fn check_scope(s: &[u8], at: usize, arity: u64, variables: u64, scope: &mut [u64
     ensures { ScopeSays s.now at arity variables scope.new result }
 {
     let mut next = at;
-    let mut i: u64 = 0;
-    while i < arity {
+    for i in 0..arity {
         let v = text_words::read_number(s, next);
-        if v.kind != 0 {
-            return Step { finding: 3, next };
+        if v.kind != text_words::Kind::Natural {
+            return Step {
+                finding: Found::Fault,
+                next,
+            };
         }
         let variable = v.value;
         if variables <= variable {
-            return Step { finding: 3, next };
+            return Step {
+                finding: Found::Fault,
+                next,
+            };
         }
         put(scope, i, variable);
         next = v.end;
-        i += 1;
     }
-    Step { finding: 0, next }
+    Step {
+        finding: Found::Nothing,
+        next,
+    }
 }
 
 // Each of the first variables of a scope becomes an entry for its size.
@@ -280,11 +306,8 @@ fn to_entries(s: &[u8], declared: Declared, index: &[u64], scope: &mut [u64], co
     ensures { (k : ℕ) → k < count → size_held s.now (get_or scope.new k 0)
         ≡ get_or (domains_at s.now declared) (get_or scope.old k 0) 0 }
 {
-    let mut i: usize = 0;
-    while i < count {
-        let e = size_entry(s, scope[i], declared, index);
-        scope[i] = e;
-        i += 1;
+    for i in 0..count {
+        scope[i] = size_entry(s, scope[i], declared, index);
     }
 }
 
@@ -315,24 +338,25 @@ fn repeats(scope: &[u64], arity: u64) -> bool
 fn check_far(s: &[u8], at: usize, far: Far, declared: Declared, index: &[u64]) -> Step
     requires { (at ≤ length s.now) × (far.at ≤ length s.now) × Indexed s.now declared index.now }
     ensures { Checked s.now
-        (code_of (values_finding (scope_sizes s.now [] far declared) (words_at s.now at)))
+        (found_of (values_finding (scope_sizes s.now [] far declared) (words_at s.now at)))
         far.count at result }
 {
     let mut next = at;
     let mut word = far.at;
-    let mut i: u64 = 0;
-    while i < far.count {
+    for _i in 0..far.count {
         let v = text_words::read_number(s, word);
         let e = size_entry(s, v.value, declared, index);
         let step = check_value(s, next, e);
-        if step.finding != 0 {
+        if step.finding != Found::Nothing {
             return step;
         }
         next = step.next;
         word = v.end;
-        i += 1;
     }
-    Step { finding: 0, next }
+    Step {
+        finding: Found::Nothing,
+        next,
+    }
 }
 
 fn check_tuple(
@@ -345,16 +369,16 @@ fn check_tuple(
 ) -> Step
     requires { (at ≤ length s.now) × (far.at ≤ length s.now) × Indexed s.now declared index.now }
     ensures { Checked s.now
-        (code_of (tuple_finding (scope_sizes s.now entries.now far declared)
+        (found_of (tuple_finding (scope_sizes s.now entries.now far declared)
         (words_at s.now at)))
         (suc (length entries.now + far.count)) at result }
 {
     let values = check_values(s, at, entries);
-    if values.finding != 0 {
+    if values.finding != Found::Nothing {
         return values;
     }
     let more = check_far(s, values.next, far, declared, index);
-    if more.finding != 0 {
+    if more.finding != Found::Nothing {
         return more;
     }
     check_cost(s, more.next)
@@ -371,41 +395,34 @@ fn check_tuples(
 ) -> Step
     requires { (at ≤ length s.now) × (far.at ≤ length s.now) × Indexed s.now declared index.now }
     ensures { Checked s.now
-        (code_of (runs count (tuple_finding (scope_sizes s.now entries.now far declared))
+        (found_of (runs count (tuple_finding (scope_sizes s.now entries.now far declared))
         (suc (length entries.now + far.count)) (words_at s.now at)))
         (count * suc (length entries.now + far.count)) at result }
 {
-    let mut finding: u8 = 0;
+    let mut finding = Found::Nothing;
     let mut next = at;
-    let mut i: u64 = 0;
-    while i < count {
+    for _i in 0..count {
         let step = check_tuple(s, next, entries, far, declared, index);
         finding = and_then(finding, step.finding);
         next = step.next;
-        if 2 <= finding {
+        if decides(finding) {
             return Step { finding, next };
         }
-        i += 1;
     }
     Step { finding, next }
 }
 
 // What is found in the number of tuples: without variables there are none.
-fn count_code(x: text_words::Number, arity: u64) -> u8
+#[tactic(auto, unfolding(crate::specs::Codes::count_code))]
+fn count_code(x: text_words::Number, arity: u64) -> Found
     ensures { result ≡ count_code x.kind x.value arity }
 {
-    if x.kind == 0 {
-        if arity == 0 {
-            if 0 < x.value {
-                return 3;
-            }
-        }
-        return 0;
+    match x.kind {
+        text_words::Kind::Natural if arity == 0 && 0 < x.value => Found::Fault,
+        text_words::Kind::Natural => Found::Nothing,
+        text_words::Kind::Negative => Found::Stop,
+        text_words::Kind::Other => Found::Fault,
     }
-    if x.kind == 1 {
-        return 2;
-    }
-    3
 }
 
 fn check_counts(s: &[u8], at: usize, arity: u64) -> Counted
@@ -426,10 +443,7 @@ fn byte_at(entries: &[u64], i: usize) -> u8
     requires { All DomainSize entries.now }
     ensures { result ≡ get_or entries.now i 0 }
 {
-    if i < entries.len() {
-        return entries[i] as u8;
-    }
-    0
+    entries.get(i).map_or(0, |e| *e as u8)
 }
 
 fn small_sizes(entries: &[u64]) -> [u8; 3]
@@ -448,10 +462,7 @@ fn factor(entries: &[u64], i: usize) -> usize
     requires { All DomainSize entries.now }
     ensures { (result ≡ get_or entries.now i 1) × (result ≤ max_domain) }
 {
-    if i < entries.len() {
-        return entries[i] as usize;
-    }
-    1
+    entries.get(i).map_or(1, |e| *e as usize)
 }
 
 fn record_bytes(entries: &[u64]) -> usize
@@ -474,14 +485,14 @@ fn check_table(
     index: &[u64],
 ) -> Function
     requires { (start.next ≤ length s.now) × (far.at ≤ length s.now) × Indexed s.now declared index.now
-        × (start.finding < 2) × (start.finding ≡ 0 → Plain s.now start entries.now far) }
+        × (rank start.finding < 2) × (start.finding ≡ Nothing → Plain s.now start entries.now far) }
     ensures { TableSays s.now start
         (scope_sizes s.now entries.now far declared) result }
 {
     let tuples = check_tuples(s, start.next, start.count, entries, far, declared, index);
     let finding = and_then(start.finding, tuples.finding);
     let next = tuples.next;
-    if finding != 0 {
+    if finding != Found::Nothing {
         return Function {
             finding,
             next,
@@ -492,40 +503,31 @@ fn check_table(
     let sizes = small_sizes(entries);
     if text_tuples::tuples_repeat(s, start.next, start.count, entries.len(), sizes) {
         return Function {
-            finding: 1,
+            finding: Found::Dialect,
             next,
             bytes,
         };
     }
     Function {
-        finding: 0,
+        finding: Found::Nothing,
         next,
         bytes,
     }
 }
 
 // What is found of a variable that a scope has twice; of more than three variables, which are refused, nothing.
-fn twice_code(scope: &[u64], arity: u64) -> u8
+fn twice_code(scope: &[u64], arity: u64) -> Found
     requires { 3 ≤ length scope.now }
-    ensures { (result ≤ 1)
-        × (arity ≤ 3 → result ≡ code_of (find_if (repeated (take arity scope.now)) dialect)) }
+    ensures { (rank result ≤ 1)
+        × (arity ≤ 3 → result ≡ found_of (find_if (repeated (take arity scope.now)) dialect)) }
 {
     if 3 < arity {
-        return 0;
+        return Found::Nothing;
     }
     if repeats(scope, arity) {
-        return 1;
+        return Found::Dialect;
     }
-    0
-}
-
-fn shorter(a: u64, b: usize) -> usize
-    ensures { result ≡ min a b }
-{
-    if a < b as u64 {
-        return a as usize;
-    }
-    b
+    Found::Nothing
 }
 
 // The variables of a scope at `at` behind the first `near` ones.
@@ -546,7 +548,7 @@ fn far_of(s: &[u8], at: usize, arity: u64, near: usize) -> Far
 // A function behind its arity up to the number of tuples; `scope` has room for three variables at least.
 fn check_front(s: &[u8], start: Step, arity: u64, variables: u64, scope: &mut [u64]) -> Counted
     requires { (start.next ≤ length s.now) × (variables ≤ cap_end) × (3 ≤ length scope.old)
-        × (start.finding ≡ 0 → arity ≤ 3) }
+        × (start.finding ≡ Nothing → arity ≤ 3) }
     ensures { FrontSays s.now start arity variables scope.new result }
 {
     let over = check_scope(s, start.next, arity, variables, scope);
@@ -570,18 +572,18 @@ fn check_over(
     scope: &mut [u64],
 ) -> Function
     requires { (start.next ≤ length s.now) × Indexed s.now declared index.now × (3 ≤ length scope.old)
-        × (start.finding ≡ 0 → (arity ≤ 3) × All DomainSize (domains_at s.now declared)) }
+        × (start.finding ≡ Nothing → (arity ≤ 3) × All DomainSize (domains_at s.now declared)) }
     ensures { OverSays s.now start arity declared result }
 {
     let counted = check_front(s, start, arity, declared.variables, scope);
-    if 2 <= counted.finding {
+    if decides(counted.finding) {
         return Function {
             finding: counted.finding,
             next: counted.next,
             bytes: 0,
         };
     }
-    let near = shorter(arity, scope.len());
+    let near = arity.min(scope.len() as u64) as usize;
     to_entries(s, declared, index, scope, near);
     let far = far_of(s, start.next, arity, near);
     check_table(s, counted, &scope[..near], far, declared, index)
@@ -590,7 +592,7 @@ fn check_over(
 // A function behind an arity that is refused; of its scope the first variables have entries.
 fn check_wide(s: &[u8], start: Step, arity: u64, declared: Declared, index: &[u64]) -> Function
     requires { (start.next ≤ length s.now) × Indexed s.now declared index.now
-        × (start.finding ≡ 0 → (arity ≤ 3) × All DomainSize (domains_at s.now declared)) }
+        × (start.finding ≡ Nothing → (arity ≤ 3) × All DomainSize (domains_at s.now declared)) }
     ensures { OverSays s.now start arity declared result }
 {
     let mut scope = [0u64; 4096];
@@ -598,15 +600,15 @@ fn check_wide(s: &[u8], start: Step, arity: u64, declared: Declared, index: &[u6
 }
 
 // A function, behind what was found before.
-fn check_function(s: &[u8], at: usize, found: u8, declared: Declared, index: &[u64]) -> Function
-    requires { (at ≤ length s.now) × Indexed s.now declared index.now × (found < 2)
-        × (found ≡ 0 → All DomainSize (domains_at s.now declared)) }
+fn check_function(s: &[u8], at: usize, found: Found, declared: Declared, index: &[u64]) -> Function
+    requires { (at ≤ length s.now) × Indexed s.now declared index.now × (rank found < 2)
+        × (found ≡ Nothing → All DomainSize (domains_at s.now declared)) }
     ensures { FunctionSays s.now found at declared result }
 {
     let x = text_words::read_number(s, at);
     let arity = x.value;
     let start = Step {
-        finding: and_then(found, limited(x, 0, 3, 2)),
+        finding: and_then(found, limited(x, 0, 3, Found::Stop)),
         next: x.end,
     };
     if 3 < arity {
@@ -636,38 +638,30 @@ fn check_functions(
     declared: Declared,
     index: &[u64],
 ) -> Body
-    requires { (start.next ≤ length s.now) × Indexed s.now declared index.now × (start.finding < 2)
-        × (start.finding ≡ 0 → All DomainSize (domains_at s.now declared) × (count ≤ 256) × (front ≤ 82)) }
+    requires { (start.next ≤ length s.now) × Indexed s.now declared index.now × (rank start.finding < 2)
+        × (start.finding ≡ Nothing → All DomainSize (domains_at s.now declared) × (count ≤ 256) × (front ≤ 82)) }
     ensures { FunctionsSays s.now start count front declared result }
 {
     let mut finding = start.finding;
     let mut next = start.next;
     let mut bytes = front;
-    let mut i: u64 = 0;
-    while i < count {
+    for _i in 0..count {
         let one = check_function(s, next, finding, declared, index);
         finding = one.finding;
-        if 2 <= finding {
+        if decides(finding) {
             return Body { finding, bytes };
         }
         next = one.next;
         bytes = added(bytes, one.bytes);
-        i += 1;
     }
     let word = text_words::next_word(s, next);
     if word.start != word.end {
-        return Body { finding: 3, bytes };
+        return Body {
+            finding: Found::Fault,
+            bytes,
+        };
     }
     Body { finding, bytes }
-}
-
-fn either(a: bool, b: bool) -> bool
-    ensures { result ≡ (a || b) }
-{
-    if a {
-        return true;
-    }
-    b
 }
 
 // A number without its leading zeros, which no comparison walks again.
@@ -692,8 +686,8 @@ fn check_size(s: &[u8], at: usize, most: text_words::Number) -> Sized
 {
     let x = text_words::read_number(s, at);
     let next = x.end;
-    let finding = limited(x, 1, 8, 2);
-    if x.kind != 0 {
+    let finding = limited(x, 1, 8, Found::Stop);
+    if x.kind != text_words::Kind::Natural {
         return Sized {
             finding,
             next,
@@ -703,7 +697,7 @@ fn check_size(s: &[u8], at: usize, most: text_words::Number) -> Sized
     }
     if text_words::is_less(s, most, x) {
         return Sized {
-            finding: 3,
+            finding: Found::Fault,
             next,
             met: false,
             entry: 0,
@@ -724,20 +718,18 @@ fn check_sizes(s: &[u8], at: usize, n: u64, most: text_words::Number, index: &mu
     ensures { SizesSays s.now at n (value_from 0 (numeral s.now most))
         index.new result }
 {
-    let mut finding: u8 = 0;
+    let mut finding = Found::Nothing;
     let mut next = at;
     let mut met = most.value == 0;
-    let mut i: u64 = 0;
-    while i < n {
+    for i in 0..n {
         let size = check_size(s, next, most);
         finding = and_then(finding, size.finding);
         next = size.next;
-        if 2 <= finding {
+        if decides(finding) {
             return Sizes { finding, next, met };
         }
-        met = either(met, size.met);
+        met |= size.met;
         put(index, i, size.entry);
-        i += 1;
     }
     Sizes { finding, next, met }
 }
@@ -752,12 +744,12 @@ fn check_head(s: &[u8], at: usize) -> Head
     let functions = text_words::read_number(s, largest.end);
     let bound = text_words::read_number(s, functions.end);
     let sizes = and_then(
-        limited(variables, 1, 24, 3),
-        limited(largest, 0, 18446744073709551610, 3),
+        limited(variables, 1, 24, Found::Fault),
+        limited(largest, 0, 18446744073709551610, Found::Fault),
     );
     let costs = and_then(
-        limited(functions, 0, 256, 3),
-        limited(bound, 1, 4294967295, 2),
+        limited(functions, 0, 256, Found::Fault),
+        limited(bound, 1, 4294967295, Found::Stop),
     );
     Head {
         finding: and_then(sizes, costs),
@@ -780,19 +772,19 @@ fn front_bytes(n: u64) -> usize
 
 // The domain sizes and the functions behind a head.
 fn check_body(s: &[u8], at: usize, head: Head, index: &mut [u64]) -> Body
-    requires { HeadSays s.now at head × (head.finding < 2) }
+    requires { HeadSays s.now at head × (rank head.finding < 2) }
     ensures { BodySays s.now at result }
 {
     let largest = head.largest;
     let most = bare(s, largest);
     let sizes = check_sizes(s, head.next, head.variables, most, index);
     let finding = and_then(head.finding, sizes.finding);
-    if 2 <= finding {
+    if decides(finding) {
         return Body { finding, bytes: 0 };
     }
     if !sizes.met {
         return Body {
-            finding: 3,
+            finding: Found::Fault,
             bytes: 0,
         };
     }
@@ -816,7 +808,7 @@ fn check_body(s: &[u8], at: usize, head: Head, index: &mut [u64]) -> Body
 
 // The same where there are more variables than a problem may have.
 fn check_many(s: &[u8], at: usize, head: Head) -> Body
-    requires { HeadSays s.now at head × (head.finding < 2) }
+    requires { HeadSays s.now at head × (rank head.finding < 2) }
     ensures { BodySays s.now at result }
 {
     let mut index = [0u64; 65536];
@@ -829,7 +821,7 @@ fn check_rest(s: &[u8], at: usize) -> Body
     ensures { BodySays s.now at result }
 {
     let head = check_head(s, at);
-    if 2 <= head.finding {
+    if decides(head.finding) {
         return Body {
             finding: head.finding,
             bytes: 0,
@@ -842,16 +834,16 @@ fn check_rest(s: &[u8], at: usize) -> Body
     check_body(s, at, head, &mut index)
 }
 
-fn number_of(finding: u8) -> u8
+// The number of the refusal, 0 where there is none.
+#[tactic(auto, unfolding(crate::specs::Codes::number_code))]
+fn number_of(finding: Found) -> u8
     ensures { result ≡ number_code finding }
 {
-    if finding == 0 {
-        return 0;
+    match finding {
+        Found::Nothing => 0,
+        Found::Dialect | Found::Stop => 18,
+        Found::Fault => 17,
     }
-    if finding < 3 {
-        return 18;
-    }
-    17
 }
 
 pub fn check_network(s: &[u8]) -> Network
