@@ -7,10 +7,9 @@ use Prim.Native.Nat.{ℕ, ◌≤◌}
 use native.Mathlib.Omega.{arith}
 use lib.Dec.{eqb}
 use lib.ListN.{length, get_or, take, drop}
-use borrow.Author.Tests.{ne_eqb, eq-eqb}
 use Rattle.model.specs.Basics.{All}
 use Rattle.model.specs.Limits.{max_bytes, work_need}
-use Rattle.model.specs.Refusals.{bad_sides, Verdict, first}
+use Rattle.model.specs.Refusals.{bad_sides, Verdict, verdict, accepted, first}
 use Rattle.model.specs.Problems.{Table}
 use Rattle.model.specs.Reading.{head_tables, domains_of, tables_start, tables_at, places_at}
 use Rattle.model.specs.Reading.{verdict_of, problem_of, places_of}
@@ -23,17 +22,18 @@ use Rattle.model.proofs.Reading.{accepted_parts}
 use Rattle.model.proofs.Places.{refused_number, place_limit}
 use Rattle.model.proofs.Calls.{sides_accept, linked_accepts}
 use Rattle.model.proofs.Cut.{sides_long}
-use Rattle.problem.specs.declared.Refusal as DR
-use Rattle.problem.specs.declared.Reading as DG
+use Rattle.model.specs.Reasons.{number_of}
+use Rattle.model.specs.declared.Refusal.{Refusal}
+use Rattle.model.proofs.Reasons.{number_refuses}
+use Rattle.problem.specs.declared.Problem as DQ
 use Rattle.problem.specs.Records.{Whole}
-use Rattle.problem.specs.Says.{RefusalSays, start_of, ReadSays}
-use Rattle.problem.proofs.Accepted.{accepted_whole, AcceptedReading, read_accepted}
-use Rattle.problem.proofs.TableSteps.{says_verdict}
+use Rattle.problem.specs.Says.{start_of}
+use Rattle.problem.proofs.Accepted.{accepted_whole, AcceptedReading}
 use Rattle.problem.proofs.Readings.{sized, variables_are}
 use Rattle.problem.proofs.RecordPlaces.{places_whole}
-use Rattle.answers.specs.Early.{short_of}
+use Rattle.answers.specs.Early.{short_of, early_of}
 use Rattle.answers.specs.Cuts.{cut_refusal}
-use Rattle.answers.proofs.Early.{Early, short_limits, short_open, early_verdict}
+use Rattle.answers.proofs.Early.{Early, short_limits, short_open}
 
 first_place : (ps : List ℕ) → All (λ at. at ≤ max_bytes) ps → get_or ps 0 0 ≤ max_bytes
 first_place [] h = omega arith
@@ -59,7 +59,7 @@ module _ (s ss : List ℕ) (k : ℕ) where
   sided = first (sides_verdict (problem_of s) ss) (linked_verdict ss (problem_of s).tables (places_of s))
 
   -- what all calls refuse, and then sides and linked records
-  pub cut_early : cut_refusal s ss k ≡ first (early_verdict s k) sided
+  pub cut_early : cut_refusal s ss k ≡ first (early_of s k) sided
   unfolding cut_refusal
   cut_early = sym (first_assoc (verdict_of s) (short_of k) sided)
 
@@ -74,25 +74,21 @@ module _ (s ss : List ℕ) (k : ℕ) where
       (λ _. linked_early ss q.tables (places_of s) (places_early s e))))
 
   -- what all calls refuse is refused
-  pub early_cut : (f : DR.Refusal) → RefusalSays (early_verdict s k) f → (f.number ≡ 0 → ⊥)
-      → RefusalSays (cut_refusal s ss k) f
-  early_cut f says h =
-      let refuses : eqb (early_verdict s k).number 0 ≡ false =
-      ne_eqb (early_verdict s k).number 0 (λ z. h (says.number ∙ z)) in
-      rw (cut_early, refuses) says
+  pub early_cut : (r : Refusal) → verdict (number_of r.reason) r.place ≡ early_of s k
+      → verdict (number_of r.reason) r.place ≡ cut_refusal s ss k
+  early_cut r says = says ∙ sym (cut_early ∙ rw (← says, number_refuses r.reason) refl)
 
-  module _ (none : (early_verdict s k).number ≡ 0) where
+  module _ (none : accepted ≡ early_of s k) where
     -- a side list that is none
-    pub sides_cut : sides_ok (problem_of s) ss ≡ false
-        → RefusalSays (cut_refusal s ss k) (record { number = bad_sides; place = 0 })
+    pub sides_cut : sides_ok (problem_of s) ss ≡ false → verdict bad_sides 0 ≡ cut_refusal s ss k
     unfolding sides_verdict
-    sides_cut h = says_verdict bad_sides 0 (rw (cut_early, eq-eqb (early_verdict s k).number 0 none, h) refl)
+    sides_cut h = sym (rw (cut_early, ← none, h) refl)
 
     -- else the linked records decide
-    pub linked_cut : sides_ok (problem_of s) ss ≡ true → (f : DR.Refusal)
-        → RefusalSays (linked_verdict ss (problem_of s).tables (places_of s)) f → RefusalSays (cut_refusal s ss k) f
+    pub linked_cut : sides_ok (problem_of s) ss ≡ true → (v : Verdict)
+        → v ≡ linked_verdict ss (problem_of s).tables (places_of s) → v ≡ cut_refusal s ss k
     unfolding sides_verdict
-    linked_cut h f says = rw (cut_early, eq-eqb (early_verdict s k).number 0 none, h) says
+    linked_cut h v says = says ∙ sym (rw (cut_early, ← none, h) refl)
 
   -- what is not refused
   pub cut_open : (cut_refusal s ss k).number ≡ 0 → ((verdict_of s).number ≡ 0) × (work_need ≤ k)
@@ -105,9 +101,6 @@ module _ (s ss : List ℕ) (k : ℕ) where
       let both = first_accepts (sides_verdict q ss) _ work.1 in
       let free = linked_accepts ss q.tables (places_of s) both.1 in
       (read.0, short_open k work.0, sides_accept q ss both.0, free)
-
-  pub cut_reading : (r : DG.Reading) → ReadSays s r → (cut_refusal s ss k).number ≡ 0 → AcceptedReading s r
-  cut_reading r says h = read_accepted s r says (says.number ∙ (cut_open h).0)
 
 -- the whole verdict: this one, and then the room
 pub cut_verdict_lem : (s ss w : List ℕ) (room : ℕ) → cut_verdict s ss w room
@@ -125,7 +118,7 @@ cut_verdict_lem s ss w room =
     )
 
 -- the tests of the sides and of the linked records, by the fields of what was read
-module _ (s : List ℕ) (r : DG.Reading) (a : AcceptedReading s r) (ss : List ℕ) where
+module _ (s : List ℕ) (r : DQ.Problem) (a : AcceptedReading s r) (ss : List ℕ) where
   abbrev n : ℕ
   n = r.head.variables
 
@@ -142,8 +135,8 @@ module _ (s : List ℕ) (r : DG.Reading) (a : AcceptedReading s r) (ss : List �
   pub sides_sized : sides_ok (problem_of s) ss ≡ true → length ss ≡ length ds
   sides_sized h = sym (sides_long (problem_of s) ss h) ∙ sym (variables_are s r a) ∙ sym (sized s r a)
 
-  pub linked_told : (f : DR.Refusal)
-      → RefusalSays (linked_verdict ss (tables_at r.head.tables ds s start) (places_at r.head.tables ds s start)) f
-      → RefusalSays (linked_verdict ss (problem_of s).tables (places_of s)) f
+  pub linked_told : (v : Verdict)
+      → v ≡ linked_verdict ss (tables_at r.head.tables ds s start) (places_at r.head.tables ds s start)
+      → v ≡ linked_verdict ss (problem_of s).tables (places_of s)
   unfolding problem_of places_of
-  linked_told f says = rw (a.domains, a.tables, a.objectives, a.variables) at says
+  linked_told v says = rw (a.domains, a.tables, a.objectives, a.variables) at says

@@ -21,7 +21,7 @@ use Rattle.model.proofs.Reading.{accepted_rules}
 use Rattle.layout.specs.Layout.{list_end}
 use Rattle.rows.specs.Rows.{list_in}
 use Rattle.rows_out.specs.Records.{WordCosts, RowsHold}
-use Rattle.problem.specs.declared.Reading as DG
+use Rattle.problem.specs.declared.Problem as DQ
 use Rattle.problem.proofs.Accepted.{AcceptedReading}
 use Rattle.problem.proofs.Readings.{objectives_are, variables_are}
 use Rattle.answers.specs.Says.{room_in, CopyAsked}
@@ -38,12 +38,12 @@ unfolding list_in
 rows_found p n k w true ps e h = rw e refl
 rows_found p n k w false ps e h = h refl
 
-module _ (s : List ℕ) (g : DG.Reading) (a : AcceptedReading s g) where
+module _ (s : List ℕ) (q : DQ.Problem) (a : AcceptedReading s q) where
   abbrev n : ℕ
-  n = g.head.variables
+  n = q.head.variables
 
   abbrev p : ℕ
-  p = g.head.objectives
+  p = q.head.objectives
 
   abbrev ps : List Point
   ps = frontier (problem_of s)
@@ -51,11 +51,11 @@ module _ (s : List ℕ) (g : DG.Reading) (a : AcceptedReading s g) where
   -- costs and values are counted as the header says
   pub rows_read : (w : List ℕ) (k : ℕ)
       → list_in p n w 0 k ≡ list_in (problem_of s).objectives (length (problem_of s).domains) w 0 k
-  rows_read w k = ap₂ (λ (i j : ℕ). list_in i j w 0 k) (objectives_are s g a) (variables_are s g a)
+  rows_read w k = ap₂ (λ (i j : ℕ). list_in i j w 0 k) (objectives_are s q a) (variables_are s q a)
 
-  pub room_is : (c x : List ℕ) → room_in g.head (length c) (length x) ≡ room_of (problem_of s) c x
+  pub room_is : (c x : List ℕ) → room_in q.head (length c) (length x) ≡ room_of (problem_of s) c x
   unfolding room_of
-  room_is c x = rw (objectives_are s g a, variables_are s g a) refl
+  room_is c x = rw (objectives_are s q a, variables_are s q a) refl
 
   -- costs under the ceilings of a problem that was read are words
   list_words : All Byte s → (t : Bool) → All WordCosts (pick t [] ps)
@@ -74,7 +74,7 @@ module _ (s : List ℕ) (g : DG.Reading) (a : AcceptedReading s g) where
           words = rw list (list_words bytes t);
         }
 
-    pub copy_asked : (c x : List ℕ) → k ≤ room_in g.head (length c) (length x) → list_end ≤ length w
+    pub copy_asked : (c x : List ℕ) → k ≤ room_in q.head (length c) (length x) → list_end ≤ length w
         → CopyAsked p n k c x w
     copy_asked c x few memory =
         record {

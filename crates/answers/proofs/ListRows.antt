@@ -1,9 +1,10 @@
 -- The list in work memory, from its verdict: a refusal that changes nothing, and what was found.
 use mathlib.Core.Path.{◌≡◌, refl, ap, ◌∙◌}
-use mathlib.Core.Bool.{Bool, true, false}
+use mathlib.Core.Bool.{false}
 use mathlib.Core.List.{List}
 use Prim.Native.Nat.{ℕ, ◌≤◌, min}
 use native.Mathlib.Omega.{arith}
+use Rattle.std.specs.Prelude.{Option, Some, None, Err}
 use lib.Dec.{eqb, ltb}
 use lib.ListN.{length, replicate, length-replicate}
 use borrow.Author.Tests.{ne_eqb}
@@ -15,117 +16,87 @@ use Rattle.model.specs.Reading.{problem_of}
 use Rattle.model.specs.Frontiers.{Point, frontier}
 use Rattle.model.specs.Calls.{work_after}
 use Rattle.rows.specs.Rows.{list_in}
-use Rattle.rows_out.specs.Records.{RowsHold}
-use Rattle.problem.specs.declared.Refusal as DR
-use Rattle.problem.specs.declared.Reading as DG
-use Rattle.problem.specs.Says.{RefusalSays}
+use Rattle.model.specs.Reasons.{number_of}
+use Rattle.model.specs.declared.Refusal.{Refusal}
+use Rattle.model.proofs.Reasons.{number_refuses}
+use Rattle.problem.specs.declared.Problem as DQ
 use Rattle.problem.proofs.Accepted.{AcceptedReading}
-use Rattle.pass_list.specs.declared.Found as DF
-use Rattle.pass_list.specs.Says.{FoundFor}
-use Rattle.answers.specs.declared.Listed as DI
-use Rattle.answers.specs.Says.{full_number, unlisted, found_rows, list_verdict, ListedSays}
-use Rattle.answers.proofs.Early.{early_verdict, early_limits, early_verdict_lem, room_verdict_lem}
+use Rattle.pass_list.specs.Says.{FoundFor, is_full, count_of}
+use Rattle.answers.specs.Early.{early_of}
+use Rattle.answers.specs.Says.{found_rows, list_verdict, ListedSays}
+use Rattle.answers.proofs.Early.{early_limits, early_verdict_lem, room_verdict_lem}
 use Rattle.answers.proofs.FoundRows.{found_few, rows_read, rows_hold}
 
--- no rows
-hold_none : (w : List ℕ) → RowsHold 0 0 0 w
-unfolding list_in
-hold_none w =
-    record {
-      objectives = omega arith;
-      variables = omega arith;
-      few = omega arith;
-      memory = λ h. absurd (omega arith);
-      words = tt;
-    }
-
 module _ (s : List ℕ) (room : ℕ) (w : List ℕ) (bytes : All Byte s) where
-  pub unchanged_rows : (f : DR.Refusal) → RefusalSays (early_verdict s (length w)) f → (f.number ≡ 0 → ⊥)
-      → ListedSays s room w w (unlisted f.number f.place)
-  unfolding list_in work_after
-  unchanged_rows f says h =
-      let v = early_verdict s (length w) in
-      let refuses : eqb v.number 0 ≡ false = ne_eqb v.number 0 (λ z. h (says.number ∙ z)) in
+  pub unchanged_rows : (r : Refusal) → verdict (number_of r.reason) r.place ≡ early_of s (length w)
+      → ListedSays s room w w (Err r)
+  unfolding work_after
+  unchanged_rows r says =
+      let v = early_of s (length w) in
+      let refuses : eqb v.number 0 ≡ false = rw (← says) (number_refuses r.reason) in
       let low = (early_limits s (length w)).0 in
       let other : eqb v.number full ≡ false = ne_eqb v.number full (λ z. omega (arith, z, low)) in
       let is : list_verdict s room w ≡ v = early_verdict_lem s w (min room max_points) refuses in
       record {
-        number = rw is says.number;
-        place = rw is says.place;
-        list = rw (is, refuses) refl;
-        fits = omega arith;
-        hold = hold_none w;
+        verdict = rw is says;
+        held = tt;
         left = rw (is, refuses, other) refl;
         long = refl;
         bytes = bytes;
       }
 
-  module _ (g : DG.Reading) (a : AcceptedReading s g) (enough : work_need ≤ length w)
-      (none : (early_verdict s (length w)).number ≡ 0) (room' : ℕ) (room_as : room' ≡ min room max_points)
-      (f : DF.Found) (w1 : List ℕ) (says : FoundFor (problem_of s) room' w w1 f) where
+  module _ (q : DQ.Problem) (a : AcceptedReading s q) (enough : work_need ≤ length w)
+      (none : (early_of s (length w)).number ≡ 0) (room' : ℕ) (room_as : room' ≡ min room max_points)
+      (w1 : List ℕ) where
     abbrev n : ℕ
-    n = g.head.variables
+    n = q.head.variables
 
     abbrev p : ℕ
-    p = g.head.objectives
+    p = q.head.objectives
 
     abbrev ps : List Point
     ps = frontier (problem_of s)
 
-    abbrev rows_of : Bool → DI.Listed
-    rows_of t = record { number = full_number t; place = 0; count = f.count; objectives = p; variables = n }
+    module _ (f : Option ℕ) (says : FoundFor (problem_of s) room' w w1 f) where
+      few : count_of f ≤ room'
+      few = found_few (is_full f) room' (count_of f) (length ps) says.full says.count
 
-    few : f.count ≤ room'
-    few = found_few f.full room' f.count (length ps) says.full says.count
-
-    told : (t : Bool) → f.full ≡ t → list_verdict s room w ≡ pick t (verdict full 0) accepted
-    told t e =
-        let test : f.full ≡ ltb (min room max_points) (length ps) =
-        says.full ∙ ap (λ k. ltb k (length ps)) room_as in
-        rw (← e) (room_verdict_lem s w (min room max_points) none f.full test)
+      told : list_verdict s room w ≡ pick (is_full f) (verdict full 0) accepted
+      told =
+          room_verdict_lem s w (min room max_points) none (is_full f)
+          (says.full ∙ ap (λ k. ltb k (length ps)) room_as)
 
     -- in memory that is kept, or cleared where the list is too long
-    pub rows_end : (w2 : List ℕ) → w2 ≡ pick f.full (replicate (length w1) 0) w1
-        → ListedSays s room w w2 (found_rows g.head f)
-    unfolding list_in work_after
-    rows_end w2 e = go f.full refl e
-      where
-        go : (t : Bool) → f.full ≡ t → w2 ≡ pick t (replicate (length w1) 0) w1
-            → ListedSays s room w w2 (rows_of t)
-        go true t z =
-            let is : list_verdict s room w ≡ verdict full 0 = told true t in
-            let nothing : f.count ≡ 0 = rw t at says.count in
-            let zero : w2 ≡ replicate (length w) 0 = z ∙ ap (λ k. replicate k 0) says.long in
-            record {
-              number = rw is refl;
-              place = rw is refl;
-              list = rw (is, nothing) refl;
-              fits = omega (arith, nothing);
-              hold =
-                  record {
-                    objectives = a.few_objectives.1;
-                    variables = a.few_variables.1;
-                    few = omega (arith, nothing);
-                    memory = λ h. absurd (omega (arith, h, nothing));
-                    words = rw nothing tt;
-                  };
-              left = rw is zero;
-              long = ap length zero ∙ length-replicate (length w) 0;
-              bytes = bytes;
-            }
-        go false t z =
-            let is : list_verdict s room w ≡ accepted = told false t in
-            let list : list_in p n w1 0 f.count ≡ ps = rows_read s g a w1 f.count ∙ says.list t in
-            record {
-              number = rw is refl;
-              place = rw is refl;
-              list = rw (is, z) list;
-              fits = omega (arith, room_as, few);
-              hold =
-                  rw z
-                  (rows_hold s g a bytes w1 f.count false list (omega (arith, room_as, few))
-                  (omega (arith, says.long, enough)));
-              left = rw (is, z) (ap (λ k. replicate k 0) says.long);
-              long = rw z says.long;
-              bytes = bytes;
-            }
+    pub rows_end : (f : Option ℕ) → FoundFor (problem_of s) room' w w1 f → (w2 : List ℕ)
+        → w2 ≡ pick (is_full f) (replicate (length w1) 0) w1
+        → ListedSays s room w w2 (found_rows q.head f)
+    unfolding work_after
+    rows_end None says w2 z =
+        let is : list_verdict s room w ≡ verdict full 0 = told None says in
+        let zero : w2 ≡ replicate (length w) 0 = z ∙ ap (λ k. replicate k 0) says.long in
+        record {
+          verdict = rw is refl;
+          held = tt;
+          left = rw is zero;
+          long = ap length zero ∙ length-replicate (length w) 0;
+          bytes = bytes;
+        }
+    rows_end (Some k) says w2 z =
+        let is : list_verdict s room w ≡ accepted = told (Some k) says in
+        let list : list_in p n w1 0 k ≡ ps = rows_read s q a w1 k ∙ says.list refl in
+        let fits = few (Some k) says in
+        record {
+          verdict = rw is refl;
+          held =
+              record {
+                list = rw z list;
+                fits = omega (arith, room_as, fits);
+                hold =
+                    rw z
+                    (rows_hold s q a bytes w1 k false list (omega (arith, room_as, fits))
+                    (omega (arith, says.long, enough)));
+              };
+          left = rw (is, z) (ap (λ k. replicate k 0) says.long);
+          long = rw z says.long;
+          bytes = bytes;
+        }

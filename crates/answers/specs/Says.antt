@@ -1,9 +1,12 @@
 -- What listing a problem promises: for every input, what the model's definition of the call says; and what its steps
 -- behind the search ensure.
-use Rattle.std.specs.Prelude.{◌≡◌, Bool, List, [], ℕ, ◌*◌, ◌≤◌, min, length, replicate}
+use Rattle.std.specs.Prelude.{◌≡◌, List, ℕ, ◌*◌, ◌≤◌, min, length, replicate, Option, Some, None, Result, Ok, Err, IfOk}
 use Rattle.model.specs.Basics.{pick, All}
 use Rattle.model.specs.Limits.{max_points}
-use Rattle.model.specs.Refusals.{full, Verdict}
+use Rattle.model.specs.Refusals.{Verdict}
+use Rattle.model.specs.Reasons.{told, value_or}
+use Rattle.model.specs.declared.Reason.TheVariants.{Full}
+use Rattle.model.specs.declared.Refusal.{Refusal}
 use Rattle.model.specs.Encoding.{Byte}
 use Rattle.model.specs.Reading.{problem_of}
 use Rattle.model.specs.Frontiers.{frontier}
@@ -12,19 +15,12 @@ use Rattle.model.specs.declared.Header as DM
 use Rattle.layout.specs.Layout.{list_end}
 use Rattle.rows.specs.Rows.{list_in}
 use Rattle.rows_out.specs.Records.{RowsHold}
-use Rattle.pass_list.specs.declared.Found as DF
-use Rattle.answers.specs.declared.Answer as DA
 use Rattle.answers.specs.declared.Listed as DI
 
--- a refusal as an answer
-abbrev pub refusal : ℕ → ℕ → DA.Answer
-refusal number place = record { number = number; place = place; count = 0 }
-
 -- the plain call: its answer, and the three lent buffers on exit
-pub record SolveSays (o : SolveOutcome) (costs' choices' work' : List ℕ) (r : DA.Answer) : Type 0 where
-  pub number : r.number ≡ o.verdict.number
-  pub place : r.place ≡ o.verdict.place
-  pub count : r.count ≡ o.count
+pub record SolveSays (o : SolveOutcome) (costs' choices' work' : List ℕ) (r : Result ℕ Refusal) : Type 0 where
+  pub verdict : told r ≡ o.verdict
+  pub count : value_or 0 r ≡ o.count
   pub costs : costs' ≡ o.costs
   pub choices : choices' ≡ o.choices
   pub work : work' ≡ o.work
@@ -33,13 +29,14 @@ pub record SolveSays (o : SolveOutcome) (costs' choices' work' : List ℕ) (r : 
 abbrev pub room_in : DM.Header → ℕ → ℕ → ℕ
 room_in h costs choices = min (divided costs h.objectives) (min (divided choices h.variables) max_points)
 
--- 15 where a list is longer than the room
-abbrev pub full_number : Bool → ℕ
-full_number b = pick b full 0
+-- 15: a list is longer than the room
+abbrev pub too_long : Refusal
+too_long = record { reason = Full; place = 0 }
 
 -- the answer by what was found
-abbrev pub found_answer : DF.Found → DA.Answer
-found_answer f = record { number = full_number f.full; place = 0; count = f.count }
+abbrev pub found_answer : Option ℕ → Result ℕ Refusal
+found_answer (Some k) = Ok k
+found_answer None = Err too_long
 
 -- what copying k rows to the flat buffers asks of them and of work memory
 pub record CopyAsked (p n k : ℕ) (costs choices work : List ℕ) : Type 0 where
@@ -54,36 +51,26 @@ pub record CopiedOut (p n k : ℕ) (costs choices work costs' choices' work' : L
   pub choices_copied : choices' ≡ over (flat_choices (list_in p n work 0 k)) choices
   pub cleared : work' ≡ replicate (length work) 0
 
--- a list in work memory that was refused, one by what was found, and the answer of one
-abbrev pub unlisted : ℕ → ℕ → DI.Listed
-unlisted number place = record { number = number; place = place; count = 0; objectives = 0; variables = 0 }
-
-abbrev pub found_rows : DM.Header → DF.Found → DI.Listed
-found_rows h f =
-    record {
-      number = full_number f.full;
-      place = 0;
-      count = f.count;
-      objectives = h.objectives;
-      variables = h.variables;
-    }
-
-abbrev pub answer_of : DI.Listed → DA.Answer
-answer_of r = record { number = r.number; place = r.place; count = r.count }
+-- a list in work memory by what was found
+abbrev pub found_rows : DM.Header → Option ℕ → Result DI.Listed Refusal
+found_rows h (Some k) = Ok (record { count = k; objectives = h.objectives; variables = h.variables })
+found_rows h None = Err too_long
 
 -- the verdict of the call for point records, by the records' number
 abbrev pub list_verdict : List ℕ → ℕ → List ℕ → Verdict
 list_verdict s room work = solve_verdict s work (min room max_points)
 
--- a list in work memory: number and place, the list where nothing is refused, what copying it out asks, what is left in
--- work memory where something is refused, and what the type of the problem's bytes says
-pub record ListedSays (s : List ℕ) (room : ℕ) (work work' : List ℕ) (r : DI.Listed) : Type 0 where
-  pub number : r.number ≡ (list_verdict s room work).number
-  pub place : r.place ≡ (list_verdict s room work).place
-  pub list : list_in r.objectives r.variables work' 0 r.count
-      ≡ pick (answers (list_verdict s room work)) (frontier (problem_of s)) []
-  pub fits : r.count ≤ room
-  pub hold : RowsHold r.objectives r.variables r.count work'
+-- a list in work memory: all its points, no more than the room, and what copying it out asks
+pub record ListHeld (s : List ℕ) (room : ℕ) (work' : List ℕ) (l : DI.Listed) : Type 0 where
+  pub list : list_in l.objectives l.variables work' 0 l.count ≡ frontier (problem_of s)
+  pub fits : l.count ≤ room
+  pub hold : RowsHold l.objectives l.variables l.count work'
+
+-- its verdict, the list where nothing is refused, what is left in work memory where something is, and what the type of
+-- the problem's bytes says
+pub record ListedSays (s : List ℕ) (room : ℕ) (work work' : List ℕ) (r : Result DI.Listed Refusal) : Type 0 where
+  pub verdict : told r ≡ list_verdict s room work
+  pub held : IfOk r (ListHeld s room work')
   pub left : pick (answers (list_verdict s room work)) (replicate (length work') 0) work'
       ≡ work_after (list_verdict s room work) work
   pub long : length work' ≡ length work

@@ -1,60 +1,34 @@
 // What the calls that list the frontier answer, before a search and behind it: refusals, the room, the list copied out
-// of work memory, and the answers, for C too.
+// of work memory, and the answers.
 #![tactic(auto)]
 
-ghost use Rattle.std.specs.Prelude.{◌≡◌, ◌≤◌, eqb, length, replicate};
+ghost use Rattle.std.specs.Prelude.{◌≡◌, ◌≤◌, ◌<◌, Option, IfOk, length, replicate};
 ghost use Rattle.model.specs.Basics.{pick};
-ghost use Rattle.model.specs.Limits.{max_bytes, max_points};
-ghost use Rattle.problem.specs.Says.{RefusalSays, ReadSays};
+ghost use Rattle.model.specs.Limits.{max_points, word_end};
+ghost use Rattle.model.specs.Reasons.{told, value_or};
+ghost use Rattle.problem.specs.Says.{Reads};
+ghost use Rattle.pass_list.specs.Says.{is_full, count_of};
 ghost use Rattle.answers.specs.Early.{early_of};
-ghost use Rattle.answers.specs.Says.{refusal, room_in, full_number, found_answer, CopyAsked, CopiedOut};
-ghost use Rattle.answers.specs.Says.{unlisted, found_rows, answer_of};
-ghost use Rattle.answers.specs.Cuts.{cut_refusal, uncut, no_lists, found_halves};
+ghost use Rattle.answers.specs.Says.{room_in, found_answer, CopyAsked, CopiedOut, found_rows};
+ghost use Rattle.answers.specs.Cuts.{cut_refusal, FewEach, no_halves, found_halves};
+
+use model::{Reason, Refusal};
+use problem::Problem;
 
 // The least length of a work buffer.
 pub const LEAST_WORK: usize = 8192;
 
-// What is refused before a search of a problem that was read, with `memory` numbers of work memory:
-// number and place, else 0 and 0.
-pub fn early_refusal(g: problem::Reading, memory: usize) -> problem::Refusal
-    ensures { RefusalSays (early_of g memory) result }
+// A problem that is read, to be searched with `memory` numbers of work memory; or what is refused before a search.
+#[tactic(auto, using(crate::proofs::Early::read_refused))]
+pub fn open_problem(problem: &[u8], memory: usize) -> Result<Problem, Refusal>
+    ensures verdict { told result ≡ early_of problem.now memory }
+    ensures problem { IfOk result (λ q. Reads problem.now q) }
 {
-    if g.number != 0 {
-        return problem::Refusal {
-            number: g.number,
-            place: g.place,
-        };
-    }
+    let q = problem::read_problem(problem)?;
     if memory < LEAST_WORK {
-        return problem::Refusal {
-            number: 12,
-            place: 0,
-        };
+        return Err(Reason::Work.at(0));
     }
-    problem::Refusal {
-        number: 0,
-        place: 0,
-    }
-}
-
-// What a call that lists the frontier answers: a refusal's number and place, or 0 and 0 and the count of points.
-#[derive(Clone, Copy)]
-pub struct Answer {
-    pub number: u8,
-    pub place: u32,
-    pub count: u32,
-}
-
-pub fn refused(early: problem::Refusal) -> Answer
-    requires { early.place ≤ max_bytes }
-    ensures { result ≡ refusal early.number early.place }
-{
-    let place = early.place as u32;
-    Answer {
-        number: early.number,
-        place,
-        count: 0,
-    }
+    Ok(q)
 }
 
 // Room: how many points of a problem with this header flat buffers of these lengths hold, 64 at most.
@@ -88,204 +62,123 @@ pub fn copy_out(
     rows_out::clear(work);
 }
 
-// 15 where a list is longer than the room, else 0.
-fn full_number(full: bool) -> u8
-    ensures { result ≡ full_number full }
-{
-    if full {
-        return 15;
-    }
-    0
-}
-
 // The plain call's answer, by what was found.
-pub fn answer_of(found: pass_list::Found) -> Answer
-    requires { found.count ≤ max_points }
+pub fn answer_of(found: Option<usize>) -> Result<u32, Refusal>
+    requires { count_of found ≤ max_points }
     ensures { result ≡ found_answer found }
 {
-    let points = found.count as u32;
-    Answer {
-        number: full_number(found.full),
-        place: 0,
-        count: points,
+    match found {
+        Some(count) => Ok(count as u32),
+        None => Err(Reason::Full.at(0)),
     }
 }
 
-// An answer for C: the number is the result, place and count go through references.
-pub fn tell(answer: Answer, place: &mut u32, count: &mut u32) -> u8
-    ensures { (result ≡ answer.number) × (place.new ≡ answer.place)
-        × (count.new ≡ answer.count) }
-{
-    *place = answer.place;
-    *count = answer.count;
-    answer.number
-}
-
-// A list in work memory: a refusal's number and place, or 0 and 0, the count of points,
-// and how many costs and choices each has.
+// A list in work memory: the count of points, and how many costs and choices each has.
 #[derive(Clone, Copy)]
 pub struct Listed {
-    pub number: u8,
-    pub place: u32,
     pub count: usize,
     pub objectives: usize,
     pub variables: usize,
 }
 
-pub fn not_listed(early: problem::Refusal) -> Listed
-    requires { early.place ≤ max_bytes }
-    ensures { result ≡ unlisted early.number early.place }
-{
-    let place = early.place as u32;
-    Listed {
-        number: early.number,
-        place,
-        count: 0,
-        objectives: 0,
-        variables: 0,
-    }
-}
-
 // A list in work memory, by what was found; where it is longer than the room, work memory is cleared.
-pub fn found_rows(head: model::Header, found: pass_list::Found, work: &mut [u32]) -> Listed
+pub fn found_rows(
+    head: model::Header,
+    found: Option<usize>,
+    work: &mut [u32],
+) -> Result<Listed, Refusal>
     ensures { (result ≡ found_rows head found)
         × (work.new
-        ≡ pick found.full (replicate (length work.old) 0) work.old) }
+        ≡ pick (is_full found) (replicate (length work.old) 0) work.old) }
 {
-    let list = Listed {
-        number: full_number(found.full),
-        place: 0,
-        count: found.count,
-        objectives: head.objectives as usize,
-        variables: head.variables as usize,
-    };
-    if found.full {
-        rows_out::clear(work);
-        return list;
+    match found {
+        Some(count) => Ok(Listed {
+            count,
+            objectives: head.objectives as usize,
+            variables: head.variables as usize,
+        }),
+        None => {
+            rows_out::clear(work);
+            Err(Reason::Full.at(0))
+        }
     }
-    list
 }
 
-// The answer of a list in work memory, which is cleared where nothing was refused.
-pub fn settle(found: Listed, work: &mut [u32]) -> Answer
-    requires { found.count ≤ max_points }
-    ensures { (result ≡ answer_of found)
-        × (work.new
-        ≡ pick (eqb found.number 0) (replicate (length work.old) 0) work.old) }
+// A problem that is read, to be cut by a side list with `memory` numbers of work memory; or what the cut call refuses
+// before it searches.
+pub fn open_cut(problem: &[u8], sides: &[u8], memory: usize) -> Result<Problem, Refusal>
+    ensures verdict { told result ≡ cut_refusal problem.now sides.now memory }
+    ensures problem { IfOk result (λ q. Reads problem.now q) }
 {
-    let count = found.count as u32;
-    let answer = Answer {
-        number: found.number,
-        place: found.place,
-        count,
-    };
-    if found.number == 0 {
-        rows_out::clear(work);
-        return answer;
-    }
-    answer
-}
-
-// What the cut call refuses before it searches, of a problem that was read, with `memory` numbers of work memory:
-// number and place, else 0 and 0.
-pub fn cut_refusal(
-    problem: &[u8],
-    g: problem::Reading,
-    sides: &[u8],
-    memory: usize,
-) -> problem::Refusal
-    requires { ReadSays problem.now g }
-    ensures { RefusalSays (cut_refusal problem.now sides.now memory) result }
-{
-    let early = early_refusal(g, memory);
-    if early.number != 0 {
-        return early;
-    }
-    let head = g.head;
+    let q = open_problem(problem, memory)?;
+    let head = q.head;
     let n = head.variables as usize;
     if !views::sides_ok(sides, n) {
-        return problem::Refusal {
-            number: 13,
-            place: 0,
-        };
+        return Err(Reason::Sides.at(0));
     }
-    let sizes = g.sizes;
     let start = problem::tables_start(head);
-    views::first_linked(problem, start, head.tables, &sizes[..n], sides)
+    views::first_linked(problem, start, head.tables, &q.sizes[..n], sides)?;
+    Ok(q)
 }
 
-// What the cut finds: whether a list is longer than its room, and else how many points it has and how many each half.
+// What the cut finds where no list is longer than its room: how many points the list has, and how many each half.
 #[derive(Clone, Copy)]
 pub struct Lists {
-    pub full: bool,
     pub count: usize,
     pub first: usize,
     pub second: usize,
 }
 
-pub fn no_lists() -> Lists
-    ensures { result ≡ no_lists }
-{
-    Lists {
-        full: true,
-        count: 0,
-        first: 0,
-        second: 0,
-    }
-}
-
-// What the cut call answers: a refusal's number and place,
-// or 0 and 0 with the count of points and how many each half has.
+// What the cut call answers: the count of points, and how many each half has.
 #[derive(Clone, Copy)]
 pub struct Halves {
-    pub number: u8,
-    pub place: u32,
     pub count: u32,
     pub first: u32,
     pub second: u32,
 }
 
-pub fn not_cut(early: problem::Refusal) -> Halves
-    requires { early.place ≤ max_bytes }
-    ensures { result ≡ uncut early.number early.place }
-{
-    Halves {
-        number: early.number,
-        place: early.place as u32,
-        count: 0,
-        first: 0,
-        second: 0,
-    }
-}
-
 // The cut call's answer, by what was found.
-pub fn halves_of(lists: Lists) -> Halves
-    requires { (lists.count ≤ max_points) × (lists.first ≤ max_points) × (lists.second ≤ max_points) }
+pub fn halves_of(lists: Option<Lists>) -> Result<Halves, Refusal>
+    requires { FewEach lists }
     ensures { result ≡ found_halves lists }
 {
-    Halves {
-        number: full_number(lists.full),
-        place: 0,
-        count: lists.count as u32,
-        first: lists.first as u32,
-        second: lists.second as u32,
+    match lists {
+        Some(lists) => Ok(Halves {
+            count: lists.count as u32,
+            first: lists.first as u32,
+            second: lists.second as u32,
+        }),
+        None => Err(Reason::Full.at(0)),
     }
 }
 
-// The cut call's answer for C.
+// The cut call's answer for C: the number is the result, the others go through references.
 pub fn tell_halves(
-    halves: Halves,
+    answer: Result<Halves, Refusal>,
     place: &mut u32,
     count: &mut u32,
     first: &mut u32,
     second: &mut u32,
 ) -> u8
-    ensures { (result ≡ halves.number) × (place.new ≡ halves.place) × (count.new ≡ halves.count)
-        × (first.new ≡ halves.first) × (second.new ≡ halves.second) }
+    ensures number { result ≡ (told answer).number }
+    ensures place { (told answer).place < word_end → place.new ≡ (told answer).place }
+    ensures count { count.new ≡ (value_or no_halves answer).count }
+    ensures first { first.new ≡ (value_or no_halves answer).first }
+    ensures second { second.new ≡ (value_or no_halves answer).second }
 {
-    *place = halves.place;
-    *count = halves.count;
-    *first = halves.first;
-    *second = halves.second;
-    halves.number
+    match answer {
+        Ok(halves) => {
+            *place = 0;
+            *count = halves.count;
+            *first = halves.first;
+            *second = halves.second;
+            0
+        }
+        Err(refusal) => {
+            *count = 0;
+            *first = 0;
+            *second = 0;
+            refusal.tell(place)
+        }
+    }
 }

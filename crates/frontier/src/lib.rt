@@ -1,8 +1,10 @@
 // The public calls, and each as C calls it, with a place for every number of its answer; the version.
 #![tactic(auto)]
 
-ghost use Rattle.std.specs.Prelude.{◌≡◌};
+ghost use Rattle.std.specs.Prelude.{◌≡◌, replicate};
 ghost use Rattle.model.specs.Basics.{when};
+ghost use Rattle.model.specs.Limits.{max_objectives};
+ghost use Rattle.model.specs.Reasons.{told, value_or};
 ghost use Rattle.model.specs.Calls.{solve_outcome, list_outcome, cut_outcome, bound_outcome};
 ghost use Rattle.text_networks.specs.Conversions.{to_text_outcome, from_text_outcome};
 ghost use Rattle.frontier.specs.Says.{as_points, SolveExports, ListExports, CutExports, BoundExports};
@@ -11,6 +13,10 @@ ghost use Rattle.cache_answers.specs.Outcomes.{cached_outcome};
 ghost use Rattle.batch_frames.specs.Outcomes.{batch_outcome};
 ghost use Rattle.frontier.specs.Says.{ConvertExports, CanonicalExports, CachedExports, BatchExports};
 ghost use Rattle.frontier.specs.Version.{version};
+ghost use Rattle.answers.specs.Cuts.{no_halves};
+ghost use Rattle.form_canonical.specs.Says.{no_form};
+
+use model::Refusal;
 
 // The version of the interface; include/frontier.h has the same three numbers.
 const VERSION_MAJOR: u32 = 3;
@@ -36,7 +42,7 @@ fn solve_as(
     ensures { SolveExports problem.now
         (solve_outcome problem.now costs.old choices.old work.old)
         costs.new choices.new work.new
-        result.answer.number result.answer.place result.answer.count }
+        (told result.answer).number (told result.answer).place (value_or 0 result.answer) }
 {
     solve_call::solve_with(problem, costs, choices, work, first_form)
 }
@@ -47,10 +53,10 @@ pub fn solve_problem(
     costs: &mut [u32],
     choices: &mut [u8],
     work: &mut [u32],
-) -> answers::Answer
+) -> Result<u32, Refusal>
     ensures { SolveExports problem.now
         (solve_outcome problem.now costs.old choices.old work.old)
-        costs.new choices.new work.new result.number result.place result.count }
+        costs.new choices.new work.new (told result).number (told result).place (value_or 0 result) }
 {
     let solved = solve_as(problem, costs, choices, work, false);
     solved.answer
@@ -62,10 +68,10 @@ pub fn solve_by_passes(
     costs: &mut [u32],
     choices: &mut [u8],
     work: &mut [u32],
-) -> answers::Answer
+) -> Result<u32, Refusal>
     ensures { SolveExports problem.now
         (solve_outcome problem.now costs.old choices.old work.old)
-        costs.new choices.new work.new result.number result.place result.count }
+        costs.new choices.new work.new (told result).number (told result).place (value_or 0 result) }
 {
     let solved = solve_as(problem, costs, choices, work, true);
     solved.answer
@@ -84,7 +90,7 @@ pub fn frontier_solve(
         costs.new choices.new work.new result place.new count.new }
 {
     let answer = solve_problem(problem, costs, choices, work);
-    answers::tell(answer, place, count)
+    model::tell_count(answer, place, count)
 }
 
 pub fn frontier_solve_by_passes(
@@ -100,7 +106,7 @@ pub fn frontier_solve_by_passes(
         costs.new choices.new work.new result place.new count.new }
 {
     let answer = solve_by_passes(problem, costs, choices, work);
-    answers::tell(answer, place, count)
+    model::tell_count(answer, place, count)
 }
 
 // The plain call, and what its search took, of which nothing is promised: which form answered, plans, those of them
@@ -122,18 +128,23 @@ pub fn frontier_solve_measured(
     let answer = solved.answer;
     let taken = solved.measures;
     solve_call::tell_measures(taken, measures);
-    answers::tell(answer, place, count)
+    model::tell_count(answer, place, count)
 }
 
 // The frontier list as point records.
-pub fn list_points(problem: &[u8], points: &mut [model::Point], work: &mut [u32]) -> answers::Answer
+pub fn list_points(
+    problem: &[u8],
+    points: &mut [model::Point],
+    work: &mut [u32],
+) -> Result<u32, Refusal>
     ensures { ListExports problem.now
         (list_outcome problem.now (as_points points.old) work.old)
-        points.new work.new result.number result.place result.count }
+        points.new work.new (told result).number (told result).place (value_or 0 result) }
 {
-    let found = solve_call::list_rows(problem, points.len(), work);
+    let found = solve_call::list_rows(problem, points.len(), work)?;
     rows_out::copy_points(work, found.count, found.variables, found.objectives, points);
-    answers::settle(found, work)
+    rows_out::clear(work);
+    Ok(found.count as u32)
 }
 
 pub fn frontier_points(
@@ -148,13 +159,13 @@ pub fn frontier_points(
         points.new work.new result place.new count.new }
 {
     let answer = list_points(problem, points, work);
-    answers::tell(answer, place, count)
+    model::tell_count(answer, place, count)
 }
 
 // The bound of a prefix: for each objective the sum of the least entries that agree with it.
-pub fn bound_prefix(problem: &[u8], prefix: &[u8]) -> bound_call::Least
+pub fn bound_prefix(problem: &[u8], prefix: &[u8]) -> Result<[u64; 4], Refusal>
     ensures { BoundExports problem.now (bound_outcome problem.now prefix.now)
-        result.number result.place result.least }
+        (told result).number (told result).place (value_or (replicate max_objectives 0) result) }
 {
     bound_call::bound_of(problem, prefix)
 }
@@ -174,12 +185,13 @@ pub fn solve_cut(
     costs: &mut [u32],
     choices: &mut [u8],
     work: &mut [u32],
-) -> answers::Halves
+) -> Result<answers::Halves, Refusal>
     ensures { CutExports problem.now
         (cut_outcome problem.now sides.now
         costs.old choices.old work.old)
         costs.new choices.new work.new
-        result.number result.place result.count result.first result.second }
+        (told result).number (told result).place (value_or no_halves result).count
+        (value_or no_halves result).first (value_or no_halves result).second }
 {
     cut_call::cut_problem(problem, sides, costs, choices, work)
 }
@@ -206,9 +218,9 @@ pub fn frontier_cut(
 }
 
 // A problem with one objective as WCSP text.
-pub fn problem_to_text(problem: &[u8], text: &mut [u8]) -> text_networks::Converted
+pub fn problem_to_text(problem: &[u8], text: &mut [u8]) -> Result<u32, Refusal>
     ensures { ConvertExports problem.now (to_text_outcome problem.now text.old)
-        text.new result.number result.place result.count }
+        text.new (told result).number (told result).place (value_or 0 result) }
 {
     text_writing::to_text(problem, text)
 }
@@ -218,13 +230,13 @@ pub fn frontier_to_text(problem: &[u8], text: &mut [u8], place: &mut u32, count:
         text.new result place.new count.new }
 {
     let converted = problem_to_text(problem, text);
-    text_networks::tell(converted, place, count)
+    model::tell_count(converted, place, count)
 }
 
 // The records of a WCSP text.
-pub fn problem_from_text(text: &[u8], problem: &mut [u8]) -> text_networks::Converted
+pub fn problem_from_text(text: &[u8], problem: &mut [u8]) -> Result<u32, Refusal>
     ensures { ConvertExports text.now (from_text_outcome text.now problem.old)
-        problem.new result.number result.place result.count }
+        problem.new (told result).number (told result).place (value_or 0 result) }
 {
     text_reading::from_text(text, problem)
 }
@@ -234,14 +246,18 @@ pub fn frontier_from_text(text: &[u8], problem: &mut [u8], place: &mut u32, coun
         problem.new result place.new count.new }
 {
     let converted = problem_from_text(text, problem);
-    text_networks::tell(converted, place, count)
+    model::tell_count(converted, place, count)
 }
 
 // The canonical form of a problem, and its key.
-pub fn problem_canonical(problem: &[u8], form: &mut [u8]) -> form_canonical::Canonical
+pub fn problem_canonical(
+    problem: &[u8],
+    form: &mut [u8],
+) -> Result<form_canonical::Canonical, Refusal>
     ensures { CanonicalExports problem.now
         (canonical_outcome problem.now form.old)
-        form.new result.number result.place result.count result.key }
+        form.new (told result).number (told result).place (value_or no_form result).count
+        (value_or no_form result).key }
 {
     form_call::canonical_form(problem, form)
 }
@@ -273,7 +289,7 @@ pub fn solve_cached(
         (cached_outcome problem.now costs.old choices.old work.old
         store.old)
         costs.new choices.new work.new store.new
-        result.number result.place result.count (when result.hit 1) }
+        (told result.answer).number (told result.answer).place (value_or 0 result.answer) (when result.hit 1) }
 {
     cache_call::solve_cached(problem, costs, choices, work, store)
 }
@@ -305,12 +321,12 @@ pub fn solve_batch(
     choices: &mut [u8],
     results: &mut [u32],
     work: &mut [u32],
-) -> answers::Answer
+) -> Result<u32, Refusal>
     ensures { BatchExports batch.now
         (batch_outcome batch.now costs.old choices.old results.old
         work.old)
         costs.new choices.new results.new work.new
-        result.number result.place result.count }
+        (told result).number (told result).place (value_or 0 result) }
 {
     batch_call::solve_batch(batch, costs, choices, results, work)
 }
@@ -331,5 +347,5 @@ pub fn frontier_batch(
         result place.new count.new }
 {
     let answer = solve_batch(batch, costs, choices, results, work);
-    answers::tell(answer, place, count)
+    model::tell_count(answer, place, count)
 }

@@ -106,7 +106,7 @@ module _ {task : DT.Task} {ds s was : List ℕ} (setting : Setting task 0 ds s w
       listed : ps ≡ core_frontier q
       listed = pass_none q ps u.made.found (rw none at after)
 
-      pub says_done : (room : ℕ) → k ≤ room → CoreFound q room was work (record { full = false; count = k })
+      pub says_done : (room : ℕ) → k ≤ room → CoreFound q room was work (Some k)
       says_done = made_done u.made (core_frontier q) listed
 
     -- a point is found
@@ -117,7 +117,7 @@ module _ {task : DT.Task} {ds s was : List ℕ} (setting : Setting task 0 ds s w
       longer : Prefix (CoreReached q) (ps ++ (x ∷ []))
       longer = pass_some q ps x u.made.found (rw some at after)
 
-      pub says_full : (room : ℕ) → room ≤ k → CoreFound q room was work (record { full = true; count = 0 })
+      pub says_full : (room : ℕ) → room ≤ k → CoreFound q room was work None
       says_full = made_full u.made (core_frontier q) x (found_count q (ps ++ (x ∷ [])) longer)
 
       reached : CoreReached q x

@@ -9,8 +9,10 @@ ghost use Rattle.model.specs.Reading.{table_objective, table_arity, table_scope,
 ghost use Rattle.model.specs.Cuts.{all_sides, has_side, linked_verdict};
 ghost use Rattle.model.specs.Views.{narrowed, within};
 ghost use Rattle.problem.specs.Records.{Headed, Whole, AllWhole};
-ghost use Rattle.problem.specs.Says.{RefusalSays};
+ghost use Rattle.model.specs.Reasons.{told};
 ghost use Rattle.views.specs.Wanted.{wanted, kept_places};
+
+use model::{Reason, Refusal};
 
 // Which records a part of a problem has: those of objectives `low` to below `high` whose scope lies on the side.
 #[derive(Clone, Copy)]
@@ -34,17 +36,7 @@ pub struct Selection {
 pub fn sides_ok(sides: &[u8], n: usize) -> bool
     ensures { result ≡ (eqb (length sides.now) n && all_sides sides.now) }
 {
-    if sides.len() != n {
-        return false;
-    }
-    let mut i: usize = 0;
-    while i < sides.len() {
-        if sides[i] > 1 {
-            return false;
-        }
-        i += 1;
-    }
-    true
+    sides.len() == n && sides.iter().all(|s| *s <= 1)
 }
 
 // The side of number `i` of the variables in the scope of the record at `at`.
@@ -63,12 +55,10 @@ pub fn has_side(s: &[u8], at: usize, sides: &[u8], side: u8) -> bool
     ensures { result ≡ has_side side sides.now (table_scope (drop at s.now)) }
 {
     let a = problem::arity_at(s, at);
-    let mut i: usize = 0;
-    while i < a {
+    for i in 0..a {
         if side_at(s, at, i, sides) == side {
             return true;
         }
-        i += 1;
     }
     false
 }
@@ -82,41 +72,30 @@ pub fn lies_on(s: &[u8], at: usize, sides: &[u8], side: u8) -> bool
     if a == 0 {
         return side == 0;
     }
-    let mut i: usize = 0;
-    while i < a {
+    for i in 0..a {
         if side_at(s, at, i, sides) != side {
             return false;
         }
-        i += 1;
     }
     true
 }
 
-// The first of `r` accepted records from `at` on that has both sides: number 14 and its place, else 0 and 0.
-pub fn first_linked(s: &[u8], at: usize, r: u32, sizes: &[u8], sides: &[u8]) -> problem::Refusal
+// Refuses the first of `r` accepted records from `at` on that has both sides.
+pub fn first_linked(s: &[u8], at: usize, r: u32, sizes: &[u8], sides: &[u8]) -> Result<(), Refusal>
     requires { AllWhole r sizes.now s.now at × All DomainSize sizes.now
         × (length sides.now ≡ length sizes.now) }
-    ensures { RefusalSays (linked_verdict sides.now
-        (tables_at r sizes.now s.now at)
-        (places_at r sizes.now s.now at)) result }
+    ensures { told result ≡ linked_verdict sides.now (tables_at r sizes.now s.now at)
+        (places_at r sizes.now s.now at) }
 {
     let mut here = at;
-    let mut left = r;
-    while left > 0 {
+    for _ in 0..r {
         if has_side(s, here, sides, 0) && has_side(s, here, sides, 1) {
-            return problem::Refusal {
-                number: 14,
-                place: here,
-            };
+            return Err(Reason::Linked.at(here));
         }
         let t = problem::record_at(s, here, sizes);
         here += t.length;
-        left -= 1;
     }
-    problem::Refusal {
-        number: 0,
-        place: 0,
-    }
+    Ok(())
 }
 
 // The domain sizes of one side's variables; the others have one value.
@@ -126,12 +105,10 @@ pub fn narrow(sizes: &[u8], sides: &[u8], side: u8) -> [u8; 24]
 {
     let n = sizes.len();
     let mut sizes_of = [1u8; 24];
-    let mut v: usize = 0;
-    while v < n {
+    for v in 0..n {
         if sides[v] == side {
             sizes_of[v] = sizes[v];
         }
-        v += 1;
     }
     sizes_of
 }
@@ -161,14 +138,12 @@ pub fn keep_records(
     let from = which.from;
     let to = which.to;
     let mut count: usize = 0;
-    let mut i: usize = 0;
-    while i < r {
+    for i in 0..r {
         let at = work[from + i];
         if is_wanted(s, at as usize, sides, part) {
             work[to + count] = at;
             count += 1;
         }
-        i += 1;
     }
     count
 }

@@ -1,0 +1,81 @@
+-- No place that a call tells is past the limit of bytes, so that C is told each one as it is.
+use Rattle.std.proofs.Common.{◌≡◌, ◌≤◌, ◌<◌, ℕ, List, Bool, length, min, eqb, ltb, arith}
+use Rattle.model.specs.Basics.{pick}
+use Rattle.model.specs.Limits.{max_bytes, word_end, work_need}
+use Rattle.model.specs.Refusals.{Verdict, verdict, accepted, refused_at, first}
+use Rattle.model.specs.Reading.{verdict_of}
+use Rattle.model.specs.Frontiers.{Point}
+use Rattle.model.specs.Calls.{work_verdict, room_verdict, solve_verdict, solve_outcome, list_outcome, bound_verdict}
+use Rattle.model.specs.Calls.{bound_outcome}
+use Rattle.model.proofs.Bits.{pick_both}
+use Rattle.model.proofs.Verdicts.{first_has}
+use Rattle.model.proofs.Places.{place_limit}
+use Rattle.text_networks.specs.Conversions.{converted, text_verdict, to_text_verdict, to_text_outcome, from_text_outcome}
+use Rattle.form_canonical.specs.Canonical.{canonical_outcome}
+use Rattle.cache_answers.specs.Outcomes.{early_verdict, store_verdict, cached_outcome}
+use Rattle.batch_frames.specs.Outcomes.{frame_verdict, batch_verdict, batch_outcome}
+
+abbrev Near : Verdict → Type 0
+Near v = v.place ≤ max_bytes
+
+both : (a b : Verdict) → Near a → Near b → Near (first a b)
+both a b h k = first_has Near a b h (λ _. k)
+
+tested : (t : Bool) (n : ℕ) → Near (pick t (verdict n 0) accepted)
+tested t n = pick_both Near t (omega arith) (omega arith)
+
+passed : (t : Bool) (n : ℕ) → Near (pick t accepted (verdict n 0))
+passed t n = pick_both Near t (omega arith) (omega arith)
+
+-- such a place has four bytes
+four_bytes : (v : Verdict) → Near v → v.place < word_end
+four_bytes v h = omega arith
+
+refused_near : (n : ℕ) → Near (refused_at 0 n)
+refused_near n = pick_both Near (eqb n 0) (omega arith) (omega arith)
+
+solve_near : (s work : List ℕ) (room : ℕ) → Near (solve_verdict s work room)
+unfolding solve_verdict work_verdict room_verdict
+solve_near s work room = both (verdict_of s) _ (place_limit s) (both (work_verdict work) _ (tested _ _) (tested _ _))
+
+pub solve_place : (s costs choices work : List ℕ) → (solve_outcome s costs choices work).verdict.place < word_end
+unfolding solve_outcome
+solve_place s costs choices work = four_bytes (solve_outcome s costs choices work).verdict (solve_near s work _)
+
+pub list_place : (s : List ℕ) (points : List Point) (work : List ℕ)
+    → (list_outcome s points work).verdict.place < word_end
+unfolding list_outcome
+list_place s points work = four_bytes (list_outcome s points work).verdict (solve_near s work _)
+
+pub bound_place : (s prefix : List ℕ) → (bound_outcome s prefix).verdict.place < word_end
+unfolding bound_outcome bound_verdict
+bound_place s prefix =
+    four_bytes (bound_outcome s prefix).verdict (both (verdict_of s) _ (place_limit s) (passed _ _))
+
+converted_near : (v : Verdict) (form output : List ℕ) → Near v → Near (converted v form output).verdict
+unfolding converted
+converted_near v form output h = both v _ h (tested _ _)
+
+pub to_text_place : (s output : List ℕ) → (to_text_outcome s output).verdict.place < word_end
+unfolding to_text_outcome to_text_verdict
+to_text_place s output =
+    four_bytes (to_text_outcome s output).verdict
+    (converted_near (to_text_verdict s) _ output (both (verdict_of s) _ (place_limit s) (tested _ _)))
+
+pub from_text_place : (s output : List ℕ) → (from_text_outcome s output).verdict.place < word_end
+unfolding from_text_outcome text_verdict
+from_text_place s output =
+    four_bytes (from_text_outcome s output).verdict (converted_near (text_verdict s) _ output (refused_near _))
+
+pub canonical_place : (s form : List ℕ) → (canonical_outcome s form).verdict.place < word_end
+unfolding canonical_outcome
+canonical_place s form =
+    four_bytes (canonical_outcome s form).verdict (both (verdict_of s) _ (place_limit s) (tested _ _))
+
+pub cached_place : (s costs choices work store : List ℕ)
+    → (cached_outcome s costs choices work store).verdict.place < word_end
+unfolding cached_outcome early_verdict work_verdict store_verdict
+cached_place s costs choices work store =
+    let early = both (verdict_of s) _ (place_limit s) (both (work_verdict work) _ (tested _ _) (tested _ _)) in
+    four_bytes (cached_outcome s costs choices work store).verdict
+    (both (early_verdict s work store) _ early (tested _ _))
