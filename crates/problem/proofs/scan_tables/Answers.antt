@@ -1,5 +1,5 @@
--- What the loop of `scan_tables` leaves to show. Past the branch the record here is good, its length is what `scan_table`
--- says, and the next one starts in the list.
+-- What the loop of `scan_tables` leaves to show. Past the branch the record here is good, its length is what
+-- `scan_table` says, and the next one starts in the list.
 use Rattle.std.proofs.Common.{◌≡◌, sym, ◌∙◌, suc, ◌+◌, ◌-◌, ◌≤◌, length, arith}
 use native.Mathlib.Nat.{sub-zero}
 use Rattle.model.proofs.Reasons.{number_positive}
@@ -25,7 +25,8 @@ returns-in-Err c =
     let more : c.args.r - w.counter ≡ suc (c.args.r - (w.counter + 1)) = omega arith in
     let e = c.in-Err.ensures.number in
     let stop =
-    tables_stop (c.args.r - (w.counter + 1)) c.args.p c.args.sizes.now c.args.s.now w.here (λ z. number_positive _ (e ∙ z))
+    tables_stop (c.args.r - (w.counter + 1)) c.args.p c.args.sizes.now c.args.s.now w.here
+    (λ z. number_positive _ (e ∙ z))
     in
     rw (c.at.ensures.reason, c.at.ensures.place, e) (sym (sym (rw more at w.invariant.rest) ∙ stop))
 
