@@ -1,6 +1,5 @@
 -- Laws that the functions' proofs cite.
 -- lists and arrays
-pub mod Behind
 pub mod Filled
 -- one record
 pub mod Chains

@@ -1,12 +1,12 @@
--- Variables in a row that are read from the front: whether one of them is v, and the rule of a scope, which the next
--- variable keeps if it exists and is not named again. The variables of a scope that keeps the rule exist.
+-- Variables in a row that are read from the front: the rule of a scope, which the next variable keeps if it exists and
+-- is not named again. The variables of a scope that keeps the rule exist.
 use mathlib.Core.Path.{◌≡◌, ap, ◌∙◌}
 use mathlib.Core.Bool.{true, false}
 use mathlib.Core.List.{List, ◌∷◌}
 use Prim.Native.Nat.{ℕ, ◌+◌, ◌-◌, ◌≤◌, ◌<◌}
 use native.Mathlib.Omega.{arith}
 use lib.ListN.{length, get_or, take, drop}
-use borrow.Author.Tests.{lt-ltb, le-ltb, eq-eqb, ne_eqb}
+use borrow.Author.Tests.{lt-ltb, le-ltb}
 use Rattle.model.specs.Problems.{InRange, has_variable, scope_rule}
 use Rattle.model.proofs.Scopes.{scope_distinct, distinct_range}
 use Rattle.model.proofs.Lists.{take_cons}
@@ -27,14 +27,6 @@ module _ (s : List ℕ) (at count i : ℕ) (inside : at + count ≤ length s) (m
       let fewer : count - i - 1 ≡ count - (i + 1) = omega arith in
       let further : at + i + 1 ≡ at + (i + 1) = omega arith in
       rw (fewer, further) at (take_cons 0 (count - i) (at + i) s (omega arith) (omega arith))
-
-  pub named_here : (v : ℕ) → next ≡ v → has_variable v left ≡ true
-  unfolding has_variable
-  named_here v e = ap (has_variable v) left_next ∙ simp (eq-eqb _ _ e)
-
-  pub named_after : (v : ℕ) → (next ≡ v → ⊥) → has_variable v left ≡ has_variable v others
-  unfolding has_variable
-  named_after v e = ap (has_variable v) left_next ∙ simp (ne_eqb _ _ e)
 
   module _ (n : ℕ) where
     pub scope_high : n ≤ next → scope_rule n left ≡ false

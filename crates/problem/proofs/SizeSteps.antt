@@ -29,9 +29,6 @@ module _ (ds s : List ℕ) (total size here left : ℕ) (u : Sizing ds s total s
     first : take left (drop here s) ≡ get_or s here 0 ∷ take (left - 1) (drop (here + 1) s)
     first = take_cons 0 left here s more (omega (arith, u.inside))
 
-    pub sizing_exists : get_or s here 0 < length ds
-    sizing_exists = (rw first at u.range).0
-
     pub sizing_next : Sizing ds s total (size * get_or ds (get_or s here 0) 0) (here + 1) (left - 1)
     unfolding size_of
     sizing_next =

@@ -14,10 +14,11 @@ ghost use Rattle.problem.specs.Says.{HeadSays, start_of, DomainsSays, ScanSays, 
 
 use model::{Reason, Refusal};
 
+// A byte as a number of four bytes. The crates above call it.
 pub fn wide(x: u8) -> u32
     ensures { result ≡ x }
 {
-    x as u32
+    u32::from(x)
 }
 
 // The two-byte number at `at`.
@@ -25,9 +26,7 @@ pub fn two_at(s: &[u8], at: usize) -> u32
     requires { at + 2 ≤ length s.now }
     ensures { (result ≡ word2 0 (drop at s.now)) × (result < short_end) }
 {
-    let low = wide(s[at]);
-    let high = wide(s[at + 1]);
-    low + 256 * high
+    u32::from(u16::from_le_bytes([s[at], s[at + 1]]))
 }
 
 // The four-byte number at `at`.
@@ -35,9 +34,7 @@ pub fn four_at(s: &[u8], at: usize) -> u32
     requires { at + 4 ≤ length s.now }
     ensures { result ≡ word4 (drop at s.now) }
 {
-    let low = two_at(s, at);
-    let high = two_at(s, at + 2);
-    low + 65536 * high
+    u32::from_le_bytes([s[at], s[at + 1], s[at + 2], s[at + 3]])
 }
 
 // Whether one of the `count` variables at `at` is `v`.
@@ -45,14 +42,7 @@ pub fn is_named(s: &[u8], at: usize, count: usize, v: usize) -> bool
     requires { at + count ≤ length s.now }
     ensures { result ≡ has_variable v (take count (drop at s.now)) }
 {
-    let mut i: usize = 0;
-    while i < count {
-        if s[at + i] as usize == v {
-            return true;
-        }
-        i += 1;
-    }
-    false
+    s[at..at + count].iter().any(|w| *w as usize == v)
 }
 
 // The head of the accepted record at `at`: these five alone know where it has its objective, the number of its
@@ -141,10 +131,8 @@ fn read_ceilings(s: &[u8], count: usize) -> [u32; 4]
     ensures { result ≡ padded max_objectives (words_in count (drop 6 s.now)) }
 {
     let mut ceilings = [0u32; 4];
-    let mut i: usize = 0;
-    while i < count {
+    for i in 0..count {
         ceilings[i] = four_at(s, 6 + 4 * i);
-        i += 1;
     }
     ceilings
 }
@@ -209,14 +197,9 @@ pub fn scope_ok(s: &[u8], at: usize, arity: usize, n: usize) -> bool
     requires { at + arity ≤ length s.now }
     ensures { result ≡ scope_rule n (take arity (drop at s.now)) }
 {
-    let mut i: usize = 0;
-    while i < arity {
+    for i in 0..arity {
         let v = s[at + i] as usize;
-        i += 1;
-        if n <= v {
-            return false;
-        }
-        if is_named(s, at + i, arity - i, v) {
+        if n <= v || is_named(s, at + i + 1, arity - i - 1, v) {
             return false;
         }
     }
@@ -230,13 +213,9 @@ pub fn size_of(s: &[u8], at: usize, arity: usize, sizes: &[u8]) -> usize
     ensures { (result ≡ size_of sizes.now (take arity (drop at s.now))) × (result ≤ 512) }
 {
     let mut size: usize = 1;
-    let mut here = at;
-    let mut left = arity;
-    while left > 0 {
-        let v = s[here] as usize;
-        size = size * (sizes[v] as usize);
-        here += 1;
-        left -= 1;
+    for i in 0..arity {
+        let v = s[at + i] as usize;
+        size *= sizes[v] as usize;
     }
     size
 }
@@ -275,7 +254,7 @@ pub fn scan_tables(s: &[u8], at: usize, r: u32, p: u8, sizes: &[u8]) -> Result<(
     ensures { told result ≡ tables_verdict r p sizes.now s.now at }
 {
     let mut here = at;
-    for _i in 0..r {
+    for _ in 0..r {
         match scan_table(s, here, p, sizes) {
             Ok(length) => here += length,
             Err(reason) => return Err(reason.at(here)),
@@ -400,10 +379,8 @@ pub fn keep_places(s: &[u8], at: usize, r: u32, sizes: &[u8], places: &mut [u32]
 {
     let count = r as usize;
     let mut here = at;
-    let mut i: usize = 0;
-    while i < count {
+    for i in 0..count {
         places[i] = here as u32;
         here = place_after(s, here, sizes);
-        i += 1;
     }
 }

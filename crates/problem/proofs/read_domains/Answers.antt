@@ -1,5 +1,5 @@
--- What the loop of `read_domains` leaves to show. Past the branch the record here is good, so the next one starts in the
--- list.
+-- What the loop of `read_domains` leaves to show. Past the branch the record here is good, so the next one starts in
+-- the list.
 use Rattle.std.proofs.Common.{◌≡◌, refl, sym, ◌∙◌, suc, ◌+◌, ◌-◌, arith}
 use native.Mathlib.Nat.{sub-zero}
 use lib.Seq.{get_or-drop}

@@ -1,5 +1,5 @@
--- The loop of `read_domains`: what is left to read has the verdict of the whole, and the array is the sizes read so far,
--- then zeros.
+-- The loop of `read_domains`: what is left to read has the verdict of the whole, and the array is the sizes read so
+-- far, then zeros.
 use Rattle.std.proofs.Common.{◌≡◌, ◌+◌, ◌-◌, ◌*◌, ◌≤◌, length}
 use Rattle.model.specs.Limits.{max_variables}
 use Rattle.model.specs.Reading.{domains_verdict, domains_at}

@@ -54,7 +54,8 @@ scan_tables-requires c =
 pub returns-in_err-scan_tables : goal.returns-in_err-scan_tables
 returns-in_err-scan_tables c =
     let short = leb-true _ _ (sym c.allows_bytes.ensures ∙ c.if-not-allows_bytes.false) in
-    let p = err_from_is_err_and c.from_residual-in_err-scan_tables.result c.from_residual-in_err-scan_tables.ensures.1 in
+    let x = c.from_residual-in_err-scan_tables in
+    let p = err_from_is_err_and x.result x.ensures.1 in
     let b = begun _ _ c.read_head-head.ensures (sym c.in_default.ensures) c.in_ok-sizes.ensures in
     rw (p.1, p.2)
     (tables_refused _ _ c.read_head-head.ensures short (sym c.in_default.ensures) b
