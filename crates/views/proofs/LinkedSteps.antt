@@ -1,5 +1,5 @@
 -- The search for a record that has both sides, one record at a time.
-use mathlib.Core.Path.{◌≡◌, refl, sym, ◌∙◌}
+use mathlib.Core.Path.{◌≡◌, sym, ◌∙◌}
 use mathlib.Core.Logic.{◌⊎◌}
 use mathlib.Core.Bool.{Bool, true, false, ◌&&◌}
 use mathlib.Core.List.{List}
@@ -34,9 +34,6 @@ linked_next ds s ss (suc r) at h =
 pub record Linking (ds s ss : List ℕ) (r at here left : ℕ) : Type 0 where
   pub whole : AllWhole left ds s here
   pub rest : linked_from ds s ss left here ≡ linked_from ds s ss r at
-
-pub linking_start : (ds s ss : List ℕ) (r at : ℕ) → AllWhole r ds s at → Linking ds s ss r at at r
-linking_start ds s ss r at w = record { whole = w; rest = refl }
 
 module _ {ds s ss : List ℕ} {r at here left : ℕ} (u : Linking ds s ss r at here left) where
   pub linking_end : left ≡ 0 → linked_verdict ss (tables_at r ds s at) (places_at r ds s at) ≡ accepted

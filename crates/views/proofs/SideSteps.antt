@@ -1,12 +1,12 @@
--- The sides of a scope's variables and of a side list, one at a time, and a scope that lies on a side.
-use mathlib.Core.Path.{◌≡◌}
+-- The sides of a scope's variables, a scope that lies on a side, and the sides of a side list.
+use mathlib.Core.Path.{◌≡◌, refl, ap}
 use mathlib.Core.Bool.{◌&&◌, and-true}
 use mathlib.Core.List.{List, [], ◌∷◌}
-use Prim.Native.Nat.{ℕ, ◌+◌, ◌<◌}
-use native.Mathlib.Numerals.{add-one}
+use Prim.Native.Nat.{ℕ}
 use lib.Dec.{eqb, leb}
 use lib.ListN.{length, get_or, drop}
-use lib.Seq.{drop-cons}
+use Rattle.std.specs.Prelude.{nat_le}
+use Rattle.std.specs.List.{list_all}
 use Rattle.model.specs.Problems.{InRange}
 use Rattle.model.specs.Reading.{table_scope}
 use Rattle.model.specs.Cuts.{all_sides, in_half}
@@ -30,7 +30,8 @@ pub within_some : (k : ℕ) (ss : List ℕ) (v : ℕ) (vs : List ℕ) → within
 unfolding in_half all_on
 within_some k ss v vs = and_again (eqb (get_or ss v 0) k) (all_on k ss vs)
 
-pub sides_next : (ss : List ℕ) (i : ℕ) → i < length ss
-    → all_sides (drop i ss) ≡ (leb (get_or ss i 0) 1 && all_sides (drop (i + 1) ss))
+-- each side of a list is 0 or 1
+pub sides_all : (ss : List ℕ) → list_all (λ s. nat_le s 1) ss ≡ all_sides ss
 unfolding all_sides
-sides_next ss i h = rw (add-one, drop-cons ss i 0 h)
+sides_all [] = refl
+sides_all (s ∷ ss) = ap (◌&&◌ (leb s 1)) (sides_all ss)

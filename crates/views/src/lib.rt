@@ -34,17 +34,7 @@ pub struct Selection {
 pub fn sides_ok(sides: &[u8], n: usize) -> bool
     ensures { result ≡ (eqb (length sides.now) n && all_sides sides.now) }
 {
-    if sides.len() != n {
-        return false;
-    }
-    let mut i: usize = 0;
-    while i < sides.len() {
-        if sides[i] > 1 {
-            return false;
-        }
-        i += 1;
-    }
-    true
+    sides.len() == n && sides.iter().all(|s| *s <= 1)
 }
 
 // The side of number `i` of the variables in the scope of the record at `at`.
@@ -63,12 +53,10 @@ pub fn has_side(s: &[u8], at: usize, sides: &[u8], side: u8) -> bool
     ensures { result ≡ has_side side sides.now (table_scope (drop at s.now)) }
 {
     let a = problem::arity_at(s, at);
-    let mut i: usize = 0;
-    while i < a {
+    for i in 0..a {
         if side_at(s, at, i, sides) == side {
             return true;
         }
-        i += 1;
     }
     false
 }
@@ -82,12 +70,10 @@ pub fn lies_on(s: &[u8], at: usize, sides: &[u8], side: u8) -> bool
     if a == 0 {
         return side == 0;
     }
-    let mut i: usize = 0;
-    while i < a {
+    for i in 0..a {
         if side_at(s, at, i, sides) != side {
             return false;
         }
-        i += 1;
     }
     true
 }
@@ -101,8 +87,7 @@ pub fn first_linked(s: &[u8], at: usize, r: u32, sizes: &[u8], sides: &[u8]) -> 
         (places_at r sizes.now s.now at)) result }
 {
     let mut here = at;
-    let mut left = r;
-    while left > 0 {
+    for _ in 0..r {
         if has_side(s, here, sides, 0) && has_side(s, here, sides, 1) {
             return problem::Refusal {
                 number: 14,
@@ -111,7 +96,6 @@ pub fn first_linked(s: &[u8], at: usize, r: u32, sizes: &[u8], sides: &[u8]) -> 
         }
         let t = problem::record_at(s, here, sizes);
         here += t.length;
-        left -= 1;
     }
     problem::Refusal {
         number: 0,
@@ -126,12 +110,10 @@ pub fn narrow(sizes: &[u8], sides: &[u8], side: u8) -> [u8; 24]
 {
     let n = sizes.len();
     let mut sizes_of = [1u8; 24];
-    let mut v: usize = 0;
-    while v < n {
+    for v in 0..n {
         if sides[v] == side {
             sizes_of[v] = sizes[v];
         }
-        v += 1;
     }
     sizes_of
 }
@@ -161,14 +143,12 @@ pub fn keep_records(
     let from = which.from;
     let to = which.to;
     let mut count: usize = 0;
-    let mut i: usize = 0;
-    while i < r {
+    for i in 0..r {
         let at = work[from + i];
         if is_wanted(s, at as usize, sides, part) {
             work[to + count] = at;
             count += 1;
         }
-        i += 1;
     }
     count
 }

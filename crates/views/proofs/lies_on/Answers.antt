@@ -1,0 +1,44 @@
+-- What the loop of `lies_on` leaves to show.
+use Rattle.std.proofs.Common.{◌<◌, ◌∙◌, sym, length, arith, eq-eqb, ne_eqb}
+use Rattle.model.specs.Views.{all_on}
+use Rattle.problem.proofs.Scopes.{scope_next, scope_end, scope_each}
+use Rattle.views.proofs.SideSteps.{within_none, within_some}
+use Rattle.views.proofs.lies_on.Goals as goal
+
+pub returns-then-a-eq0 : goal.returns-then-a-eq0
+returns-then-a-eq0 c =
+    rw (scope_end c.args.s.now c.args.at 0 (omega arith)) (sym (within_none c.args.side c.args.sides.now))
+
+pub loop-i-init : goal.loop-i-init
+loop-i-init c =
+    rw (scope_next c.args.s.now c.args.at c.requires.0 0 (omega arith))
+    (sym (within_some c.args.side c.args.sides.now _ _))
+
+pub side_at-requires : goal.side_at-requires
+side_at-requires c =
+    let a = c.args in
+    let head = c.requires.0 in (
+      head,
+      omega arith,
+      scope_each a.s.now a.at head (λ v. v < length a.sides.now) c.requires.1 c.loop-i.i (omega arith),
+    )
+
+pub returns-then-side_at-side : goal.returns-then-side_at-side
+unfolding all_on
+returns-then-side_at-side c =
+    rw (
+      scope_next c.args.s.now c.args.at c.requires.0 c.loop-i.i (omega arith),
+      ne_eqb _ _ (λ e. c.if-side_at-side.true (c.side_at.ensures ∙ e)),
+    ) at c.loop-i.invariant
+
+pub loop-i-preserved : goal.loop-i-preserved
+unfolding all_on
+loop-i-preserved c =
+    rw (
+      scope_next c.args.s.now c.args.at c.requires.0 c.loop-i.i (omega arith),
+      eq-eqb _ _ (sym c.side_at.ensures ∙ c.if-side_at-side.false),
+    ) at c.loop-i.invariant
+
+pub returns : goal.returns
+unfolding all_on
+returns c = rw (scope_end c.args.s.now c.args.at c.loop-i.i (omega arith)) at c.loop-i.invariant
