@@ -1,5 +1,6 @@
 -- Values as they are read, number by number: four to a number, the lowest byte first.
-use Rattle.std.proofs.Common.{◌≡◌, ◌∙◌, refl, sym, ap, ap₂, arith, List, ◌∷◌, ◌++◌, ℕ, ◌+◌, ◌-◌, ◌*◌, ◌/◌, ◌%◌, ◌^◌, ◌<◌, ◌≤◌}
+use Rattle.std.proofs.Common.{◌≡◌, ◌∙◌, refl, sym, ap, ap₂, arith, List, ◌∷◌, ◌++◌, ℕ}
+use Rattle.std.proofs.Common.{◌+◌, ◌-◌, ◌*◌, ◌/◌, ◌%◌, ◌^◌, ◌<◌, ◌≤◌}
 use Rattle.std.proofs.Common.{length, get_or, take, w32}
 use native.Mathlib.Nat.{zero-add}
 use lib.Seq.{length-paste, take_all}
@@ -47,7 +48,8 @@ module _ {work : List ℕ} {at : ℕ} {choice : List ℕ} {k : ℕ} (u : ReadTo 
 
     next_length : length next ≡ max_variables
     next_length =
-        ap length (put_mid-paste (4 * k) (4 * k + 4 - 4 * k) choice ys ys 4 refl (omega arith) (omega (arith, ap length is)))
+        ap length
+        (put_mid-paste (4 * k) (4 * k + 4 - 4 * k) choice ys ys 4 refl (omega arith) (omega (arith, ap length is)))
         ∙ length-paste choice (4 * k) ys 4 (omega (arith, u.long)) (omega (arith, ap length is))
         ∙ u.long
 
