@@ -77,7 +77,7 @@ pub fn bounds_over(
     for i in from..to {
         let at = work[i] as usize;
         let o = problem::objective_at(s, at);
-        sums[o] = sums[o] + costs::least_at(s, at, sizes, prefix);
+        sums[o] += costs::least_at(s, at, sizes, prefix);
     }
     sums
 }

@@ -7,7 +7,6 @@ pub mod RowParts
 pub mod RowPlaces
 pub mod Changing
 pub mod Packing
-pub mod Reading
 pub mod RowWrites
 pub mod RowsKept
 pub mod RowLists

@@ -1,7 +1,7 @@
 -- The numbers that a function gives in turn: how many, each of them, a front of them, and when two such lists are
 -- equal.
 use mathlib.Core.Path.{◌≡◌, refl, sym, ap, ◌∙◌}
-use mathlib.Core.List.{List, ◌∷◌, ◌++◌}
+use mathlib.Core.List.{List, ◌∷◌}
 use Prim.Native.Nat.{ℕ, zero, suc, ◌+◌, ◌≤◌, ◌<◌}
 use native.Mathlib.Omega.{arith}
 use native.Mathlib.Nat.{add-zero, zero-add}
@@ -28,14 +28,6 @@ module _ (f : ℕ → ℕ) where
   tabulated_take zero i k l = refl
   tabulated_take (suc p) i zero l = absurd (omega arith)
   tabulated_take (suc p) i (suc k) l = ap (◌∷◌ (f i)) (tabulated_take p (i + 1) k (omega arith))
-
-  pub tabulated_parts : (i j k : ℕ) → tabulated f i (j + k) ≡ tabulated f i j ++ tabulated f (i + j) k
-  unfolding tabulated
-  tabulated_parts i zero k = rw (add-zero, zero-add) refl
-  tabulated_parts i (suc j) k =
-      let e : i + 1 + j ≡ i + suc j = omega arith in
-      let one : suc j + k ≡ suc (j + k) = omega arith in
-      rw one (ap (◌∷◌ (f i)) (rw e at (tabulated_parts (i + 1) j k)))
 
 -- equal number by number, to another list and to what another function gives
 pub tabulated_is : (f : ℕ → ℕ) (xs : List ℕ) (k : ℕ) → length xs ≡ k → ((j : ℕ) → j < k → f j ≡ get_or xs j 0)

@@ -74,11 +74,16 @@ pub fn row_choice(i: usize, work: &[u32]) -> [u8; 24]
     ensures { result ≡ values_in max_variables work.now i }
 {
     let at = layout::LIST_AT + layout::ROW_WIDTH * i + 8;
-    let mut choice = [0u8; 24];
-    for k in 0..6 {
-        choice[4 * k..4 * k + 4].copy_from_slice(&work[at + k].to_le_bytes());
-    }
-    choice
+    // Number by number, since a loop over the six is slower.
+    let [a, b, c, d] = work[at].to_le_bytes();
+    let [e, f, g, h] = work[at + 1].to_le_bytes();
+    let [i, j, k, l] = work[at + 2].to_le_bytes();
+    let [m, n, o, p] = work[at + 3].to_le_bytes();
+    let [q, r, s, t] = work[at + 4].to_le_bytes();
+    let [u, v, w, x] = work[at + 5].to_le_bytes();
+    [
+        a, b, c, d, e, f, g, h, i, j, k, l, m, n, o, p, q, r, s, t, u, v, w, x,
+    ]
 }
 
 // Whether the first of two choices is earlier in its first `n` values.

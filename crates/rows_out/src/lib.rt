@@ -17,10 +17,8 @@ pub fn copy_costs(work: &[u32], k: usize, n: usize, p: usize, costs: &mut [u32])
         × (k * p ≤ length costs.old) × All WordCosts (list_in p n work.now 0 k) }
     ensures { costs.new ≡ over (flat_costs (list_in p n work.now 0 k)) costs.old }
 {
-    let mut row: usize = 0;
-    while row < k {
+    for row in 0..k {
         put_costs(rows::row_costs(row, work), p, costs, row * p);
-        row += 1;
     }
 }
 
@@ -30,10 +28,8 @@ fn put_costs(row: [u64; 4], count: usize, costs: &mut [u32], to: usize)
     ensures { costs.new
         ≡ take to costs.old ++ take count row ++ drop (to + count) costs.old }
 {
-    let mut i: usize = 0;
-    while i < count {
+    for i in 0..count {
         costs[to + i] = row[i] as u32;
-        i += 1;
     }
 }
 
@@ -44,10 +40,8 @@ pub fn copy_choices(work: &[u32], k: usize, n: usize, p: usize, choices: &mut [u
     ensures { choices.new
         ≡ over (flat_choices (list_in p n work.now 0 k)) choices.old }
 {
-    let mut row: usize = 0;
-    while row < k {
+    for row in 0..k {
         put_choice(rows::row_choice(row, work), n, choices, row * n);
-        row += 1;
     }
 }
 
@@ -57,11 +51,7 @@ fn put_choice(row: [u8; 24], count: usize, choices: &mut [u8], to: usize)
     ensures { choices.new
         ≡ take to choices.old ++ take count row ++ drop (to + count) choices.old }
 {
-    let mut i: usize = 0;
-    while i < count {
-        choices[to + i] = row[i];
-        i += 1;
-    }
+    choices[to..to + count].copy_from_slice(&row[..count]);
 }
 
 // The point in row `row` as a record: its first `p` costs, its first `n` values, and zeros.
@@ -83,11 +73,8 @@ pub fn copy_points(work: &[u32], k: usize, n: usize, p: usize, points: &mut [mod
     ensures { points.new
         ≡ over (records_of (list_in p n work.now 0 k)) points.old }
 {
-    let mut row: usize = 0;
-    while row < k {
-        let t = point_at(work, row, n, p);
-        points[row] = t;
-        row += 1;
+    for row in 0..k {
+        points[row] = point_at(work, row, n, p);
     }
 }
 
@@ -95,11 +82,7 @@ pub fn copy_points(work: &[u32], k: usize, n: usize, p: usize, points: &mut [mod
 pub fn clear(work: &mut [u32])
     ensures { work.new ≡ replicate (length work.old) 0 }
 {
-    let mut i: usize = 0;
-    while i < work.len() {
-        work[i] = 0;
-        i += 1;
-    }
+    work.fill(0);
 }
 
 // Room: how many points buffers of these lengths hold, 64 at most.
@@ -107,21 +90,12 @@ pub fn room_of(costs: usize, choices: usize, p: usize, n: usize) -> usize
     requires { (1 ≤ p) × (1 ≤ n) }
     ensures { result ≡ Prim.Native.Nat.min (divided costs p) (Prim.Native.Nat.min (divided choices n) max_points) }
 {
-    lesser(costs / p, lesser(choices / n, model::Point::MAX_COUNT))
+    (costs / p).min((choices / n).min(model::Point::MAX_COUNT))
 }
 
 // Room: how many points a list of so many records holds, 64 at most.
 pub fn room_for(records: usize) -> usize
     ensures { result ≡ Prim.Native.Nat.min records max_points }
 {
-    lesser(records, model::Point::MAX_COUNT)
-}
-
-fn lesser(a: usize, b: usize) -> usize
-    ensures { result ≡ Prim.Native.Nat.min a b }
-{
-    if a <= b {
-        return a;
-    }
-    b
+    records.min(model::Point::MAX_COUNT)
 }

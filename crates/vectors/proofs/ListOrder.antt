@@ -27,5 +27,6 @@ before_earlier (x ∷ xs) [] h = refl
 before_earlier (x ∷ xs) (y ∷ ys) h = step (nat_lt x y) (x == y) _ (before_earlier xs ys (omega arith))
 
 -- by the first p numbers
-pub front_before : (p : ℕ) (a b : List ℕ) → p ≤ length a → p ≤ length b → before (take p a) (take p b) ≡ front_earlier p a b
+pub front_before : (p : ℕ) (a b : List ℕ) → p ≤ length a → p ≤ length b
+    → before (take p a) (take p b) ≡ front_earlier p a b
 front_before p a b la lb = before_earlier (take p a) (take p b) (fronts p a b la lb)

@@ -1,17 +1,26 @@
--- What the loop of `row_choice` leaves to show.
-use Rattle.std.proofs.Common.{◌∙◌, refl, arith}
-use Rattle.rows.specs.Rows.{values_in, tabulated}
-use Rattle.rows.proofs.Reading.{read_more, read_end}
+-- `row_choice` meets its contract: value 4 k + j is byte j of number k.
+use Rattle.std.proofs.Common.{◌≡◌, ◌/◌, ◌%◌, ℕ, refl, ap₂, ◌∷◌, arith, add-zero}
+use Rattle.rows.specs.Rows.{value_at, values_in, tabulated}
 use Rattle.rows.proofs.row_choice.Goals as goal
 
-pub loop-k-init : goal.loop-k-init
-unfolding tabulated
-loop-k-init c = record { long = refl; read = refl }
-
-pub loop-k-preserved : goal.loop-k-preserved
-loop-k-preserved c =
-    read_more c.loop-k.invariant (omega arith) _ (c.copy_from_slice.ensures.after ∙ c.to_le_bytes.ensures)
+low : (n : ℕ) → n % 256 ≡ n / 1 % 256
+low n = omega arith
 
 pub returns : goal.returns
-unfolding values_in
-returns c = read_end c.loop-k.invariant (omega arith) (omega arith)
+unfolding values_in tabulated value_at
+returns c =
+    rw (
+      add-zero,
+      c.to_le_bytes.ensures,
+      c.to_le_bytes-2.ensures,
+      c.to_le_bytes-3.ensures,
+      c.to_le_bytes-4.ensures,
+      c.to_le_bytes-5.ensures,
+      c.to_le_bytes-6.ensures,
+    )
+    (ap₂ ◌∷◌ (low _) (ap₂ ◌∷◌ refl (ap₂ ◌∷◌ refl (ap₂ ◌∷◌ refl
+    (ap₂ ◌∷◌ (low _) (ap₂ ◌∷◌ refl (ap₂ ◌∷◌ refl (ap₂ ◌∷◌ refl
+    (ap₂ ◌∷◌ (low _) (ap₂ ◌∷◌ refl (ap₂ ◌∷◌ refl (ap₂ ◌∷◌ refl
+    (ap₂ ◌∷◌ (low _) (ap₂ ◌∷◌ refl (ap₂ ◌∷◌ refl (ap₂ ◌∷◌ refl
+    (ap₂ ◌∷◌ (low _) (ap₂ ◌∷◌ refl (ap₂ ◌∷◌ refl (ap₂ ◌∷◌ refl
+    (ap₂ ◌∷◌ (low _) (ap₂ ◌∷◌ refl (ap₂ ◌∷◌ refl (ap₂ ◌∷◌ refl refl))))))))))))))))))))))))

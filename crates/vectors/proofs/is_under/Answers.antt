@@ -1,5 +1,6 @@
 -- What the loop of `is_under` leaves to show.
-use Rattle.std.proofs.Common.{◌≡◌, true, false, sym, ◌∙◌, ◌+◌, ◌≤◌, ◌<◌, ℕ, List, length, get_or, take, drop, lt-ltb, le-ltb, arith}
+use Rattle.std.proofs.Common.{◌≡◌, true, false, sym, ◌∙◌, ◌+◌, ◌≤◌, ◌<◌, ℕ, List, length, get_or, take, drop}
+use Rattle.std.proofs.Common.{lt-ltb, le-ltb, arith}
 use Rattle.model.specs.Core.{under}
 use Rattle.model.proofs.Lists.{front_cons, front_end}
 use Rattle.vectors.specs.Fronts.{front_under}
