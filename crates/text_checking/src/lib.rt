@@ -5,6 +5,7 @@ ghost use Rattle.std.specs.Prelude.{◌≡◌, true, false, [], ℕ, suc, ◌+�
 ghost use Rattle.std.specs.Prelude.{set};
 ghost use Rattle.model.specs.Basics.{All};
 ghost use Rattle.model.specs.Limits.{max_domain};
+ghost use Rattle.model.specs.Reasons.{number_in};
 ghost use Rattle.model.specs.Problems.{DomainSize};
 ghost use Rattle.text_words.specs.Texts.{value_from};
 ghost use Rattle.text_words.specs.Reads.{words_at, cap_end, numeral, DigitsAt};
@@ -18,6 +19,8 @@ ghost use Rattle.text_checking.specs.Steps.{Checked, WordsSkipped, ScopeSays, Co
 ghost use Rattle.text_checking.specs.Steps.{FunctionSays, FunctionsSays, SizeSays, SizesSays, HeadSays};
 ghost use Rattle.text_checking.specs.Steps.{NetworkSays};
 ghost use Rattle.text_checking.specs.Steps.{record_bytes, Plain, FarSays, FrontSays, BodySays};
+
+use model::Reason;
 
 // Entries of at least this number stand for sizes that are too large for an entry.
 const HALF: u64 = 9223372036854775808;
@@ -99,13 +102,6 @@ pub struct Head {
 #[derive(Clone, Copy)]
 pub struct Body {
     pub finding: Found,
-    pub bytes: usize,
-}
-
-// 0, or the number of the refusal; the bytes of all records where it is 0.
-#[derive(Clone, Copy)]
-pub struct Network {
-    pub number: u8,
     pub bytes: usize,
 }
 
@@ -834,31 +830,27 @@ fn check_rest(s: &[u8], at: usize) -> Body
     check_body(s, at, head, &mut index)
 }
 
-// The number of the refusal, 0 where there is none.
+// The reason to refuse what is found.
 #[tactic(auto, unfolding(crate::specs::Codes::number_code))]
-fn number_of(finding: Found) -> u8
-    ensures { result ≡ number_code finding }
+fn refusal(finding: Found) -> Result<(), Reason>
+    ensures { number_in result ≡ number_code finding }
 {
     match finding {
-        Found::Nothing => 0,
-        Found::Dialect | Found::Stop => 18,
-        Found::Fault => 17,
+        Found::Nothing => Ok(()),
+        Found::Dialect | Found::Stop => Err(Reason::Dialect),
+        Found::Fault => Err(Reason::Text),
     }
 }
 
-pub fn check_network(s: &[u8]) -> Network
+// The bytes of all records of a text, or why it is refused.
+pub fn check_network(s: &[u8]) -> Result<usize, Reason>
     ensures { NetworkSays s.now result }
 {
     let name = text_words::next_word(s, 0);
     if name.start == name.end {
-        return Network {
-            number: 17,
-            bytes: 0,
-        };
+        return Err(Reason::Text);
     }
     let body = check_rest(s, name.end);
-    Network {
-        number: number_of(body.finding),
-        bytes: body.bytes,
-    }
+    refusal(body.finding)?;
+    Ok(body.bytes)
 }
