@@ -1,7 +1,8 @@
 // What is refused of a WCSP text, and how long its records are.
 #![tactic(auto)]
 
-ghost use Rattle.std.specs.Prelude.{◌≡◌, true, false, [], ℕ, suc, ◌+◌, ◌-◌, ◌*◌, ◌≤◌, ◌<◌, min, ltb, length, get_or, take};
+ghost use Rattle.std.specs.Prelude.{◌≡◌, true, false, [], ℕ, suc, ◌+◌, ◌-◌, ◌*◌, ◌≤◌, ◌<◌, min, ltb, length};
+ghost use Rattle.std.specs.Prelude.{get_or, take};
 ghost use Rattle.std.specs.Prelude.{set};
 ghost use Rattle.model.specs.Basics.{All};
 ghost use Rattle.model.specs.Limits.{max_domain};
@@ -21,6 +22,7 @@ ghost use Rattle.text_checking.specs.Steps.{NetworkSays};
 ghost use Rattle.text_checking.specs.Steps.{record_bytes, Plain, FarSays, FrontSays, BodySays};
 
 use model::Reason;
+use text_words::{Kind, Number};
 
 // Entries of at least this number stand for sizes that are too large for an entry.
 const HALF: u64 = 9223372036854775808;
@@ -34,7 +36,8 @@ pub enum Found {
     Fault,
 }
 
-// What is found, and the place behind what was read.
+// What is found, and the place behind what was read. The structs that tell more each name what it is, which one
+// generic struct could not.
 #[derive(Clone, Copy)]
 pub struct Step {
     pub finding: Found,
@@ -95,7 +98,7 @@ pub struct Head {
     pub next: usize,
     pub variables: u64,
     pub functions: u64,
-    pub largest: text_words::Number,
+    pub largest: Number,
 }
 
 // What is found, and the bytes of all records where nothing is found.
@@ -126,14 +129,14 @@ fn decides(f: Found) -> bool
 
 // What is found in a field that is to be from `least` to `most`, and `below` where it is negative.
 #[tactic(auto, unfolding(crate::specs::Codes::limited_code))]
-fn limited(x: text_words::Number, least: u64, most: u64, below: Found) -> Found
+fn limited(x: Number, least: u64, most: u64, below: Found) -> Found
     ensures { result ≡ limited_code x.kind x.value least most below }
 {
     match x.kind {
-        text_words::Kind::Natural if x.value < least || most < x.value => Found::Dialect,
-        text_words::Kind::Natural => Found::Nothing,
-        text_words::Kind::Negative => below,
-        text_words::Kind::Other => Found::Fault,
+        Kind::Natural if x.value < least || most < x.value => Found::Dialect,
+        Kind::Natural => Found::Nothing,
+        Kind::Negative => below,
+        Kind::Other => Found::Fault,
     }
 }
 
@@ -160,7 +163,7 @@ fn entry_of(value: u64, place: usize) -> u64
 }
 
 // Whether a number is less than the size that an entry holds.
-fn is_below(s: &[u8], x: text_words::Number, e: u64) -> bool
+fn is_below(s: &[u8], x: Number, e: u64) -> bool
     requires { DigitsAt s.now x }
     ensures { result ≡ ltb (value_from 0 (numeral s.now x)) (size_held s.now e) }
 {
@@ -175,7 +178,7 @@ fn is_below(s: &[u8], x: text_words::Number, e: u64) -> bool
         return false;
     }
     let size = text_words::read_number(s, place);
-    if size.kind != text_words::Kind::Natural {
+    if size.kind != Kind::Natural {
         return false;
     }
     text_words::is_less(s, x, size)
@@ -189,7 +192,7 @@ fn check_value(s: &[u8], at: usize, e: u64) -> Step
 {
     let x = text_words::read_number(s, at);
     let next = x.end;
-    if x.kind != text_words::Kind::Natural {
+    if x.kind != Kind::Natural {
         return Step {
             finding: Found::Fault,
             next,
@@ -256,7 +259,7 @@ fn size_entry(s: &[u8], v: u64, declared: Declared, index: &[u64]) -> u64
     entry_of(x.value, place)
 }
 
-// A number in a list, where the list has the place.
+// A number in a list, where the list has the place. (By `get_mut` the proof did not close.)
 fn put(list: &mut [u64], i: u64, x: u64)
     ensures { list.new ≡ set list.old i x }
 {
@@ -274,7 +277,7 @@ fn check_scope(s: &[u8], at: usize, arity: u64, variables: u64, scope: &mut [u64
     let mut next = at;
     for i in 0..arity {
         let v = text_words::read_number(s, next);
-        if v.kind != text_words::Kind::Natural {
+        if v.kind != Kind::Natural {
             return Step {
                 finding: Found::Fault,
                 next,
@@ -410,14 +413,14 @@ fn check_tuples(
 
 // What is found in the number of tuples: without variables there are none.
 #[tactic(auto, unfolding(crate::specs::Codes::count_code))]
-fn count_code(x: text_words::Number, arity: u64) -> Found
+fn count_code(x: Number, arity: u64) -> Found
     ensures { result ≡ count_code x.kind x.value arity }
 {
     match x.kind {
-        text_words::Kind::Natural if arity == 0 && 0 < x.value => Found::Fault,
-        text_words::Kind::Natural => Found::Nothing,
-        text_words::Kind::Negative => Found::Stop,
-        text_words::Kind::Other => Found::Fault,
+        Kind::Natural if arity == 0 && 0 < x.value => Found::Fault,
+        Kind::Natural => Found::Nothing,
+        Kind::Negative => Found::Stop,
+        Kind::Other => Found::Fault,
     }
 }
 
@@ -661,13 +664,13 @@ fn check_functions(
 }
 
 // A number without its leading zeros, which no comparison walks again.
-fn bare(s: &[u8], x: text_words::Number) -> text_words::Number
+fn bare(s: &[u8], x: Number) -> Number
     requires { DigitsAt s.now x }
     ensures { DigitsAt s.now result × (value_from 0 (numeral s.now result)
         ≡ value_from 0 (numeral s.now x)) }
 {
     let from = text_words::skip_zeros(s, x.from, x.end);
-    text_words::Number {
+    Number {
         kind: x.kind,
         value: x.value,
         from,
@@ -676,14 +679,14 @@ fn bare(s: &[u8], x: text_words::Number) -> text_words::Number
 }
 
 // A domain size, by the largest one that is stated.
-fn check_size(s: &[u8], at: usize, most: text_words::Number) -> Sized
+fn check_size(s: &[u8], at: usize, most: Number) -> Sized
     requires { (at ≤ length s.now) × DigitsAt s.now most }
     ensures { SizeSays s.now at (value_from 0 (numeral s.now most)) result }
 {
     let x = text_words::read_number(s, at);
     let next = x.end;
     let finding = limited(x, 1, 8, Found::Stop);
-    if x.kind != text_words::Kind::Natural {
+    if x.kind != Kind::Natural {
         return Sized {
             finding,
             next,
@@ -709,7 +712,7 @@ fn check_size(s: &[u8], at: usize, most: text_words::Number) -> Sized
 }
 
 // The domain sizes of `n` variables; the index has the entries of the first ones.
-fn check_sizes(s: &[u8], at: usize, n: u64, most: text_words::Number, index: &mut [u64]) -> Sizes
+fn check_sizes(s: &[u8], at: usize, n: u64, most: Number, index: &mut [u64]) -> Sizes
     requires { (at ≤ length s.now) × DigitsAt s.now most }
     ensures { SizesSays s.now at n (value_from 0 (numeral s.now most))
         index.new result }

@@ -47,8 +47,8 @@ returns-in_err-refusal c =
     (record {
       number =
           c.in_err-refusal.ensures
-          ∙ number c.args.s.now c.next_word-name.result c.next_word-name.ensures c.if-name.false c.check_rest-body.result
-          c.check_rest-body.ensures;
+          ∙ number c.args.s.now c.next_word-name.result c.next_word-name.ensures c.if-name.false
+          c.check_rest-body.result c.check_rest-body.ensures;
       bytes = tt;
     })
 
@@ -58,9 +58,9 @@ returns c =
     record {
       number =
           sym none
-          ∙ number c.args.s.now c.next_word-name.result c.next_word-name.ensures c.if-name.false c.check_rest-body.result
-          c.check_rest-body.ensures;
+          ∙ number c.args.s.now c.next_word-name.result c.next_word-name.ensures c.if-name.false
+          c.check_rest-body.result c.check_rest-body.ensures;
       bytes =
-          bytes c.args.s.now c.next_word-name.result c.next_word-name.ensures c.if-name.false c.check_rest-body.result
-          c.check_rest-body.ensures none;
+          bytes c.args.s.now c.next_word-name.result c.next_word-name.ensures c.if-name.false
+          c.check_rest-body.result c.check_rest-body.ensures none;
     }
