@@ -136,7 +136,8 @@ head_decides {s} {at} {head} says h =
     let heavy : 2 ≤ rank (found_of (head_finding (words_at s at))) = omega (arith, ap rank says.finding) in
     record {
       finding = λ name.
-          let one = both_heavy (found_of (head_finding (words_at s at))) (found_of (sizes name (words_at s at))) heavy in
+          let one =
+          both_heavy (found_of (head_finding (words_at s at))) (found_of (sizes name (words_at s at))) heavy in
           says.finding ∙ sym (network_code name (words_at s at) ∙ rw one (both_heavy _ _ heavy));
       bytes = λ z. absurd (omega (arith, ap rank z));
     }

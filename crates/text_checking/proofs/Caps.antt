@@ -26,7 +26,8 @@ module _ (f : Words → Finding) (w : ℕ) (end : 2 ≤ rank (found_of (f []))) 
   unfolding runs
   runs_heavy zero ws h = absurd (omega arith)
   runs_heavy (suc n) [] h =
-      rw (found_both (f []) (runs n f (suc w) []), both_heavy (found_of (f [])) (found_of (runs n f (suc w) [])) end) end
+      rw (found_both (f []) (runs n f (suc w) []), both_heavy (found_of (f [])) (found_of (runs n f (suc w) [])) end)
+      end
   runs_heavy (suc n) (x ∷ ws) h =
       rw (found_both (f (x ∷ ws)) (runs n f (suc w) (drop w ws)))
       (both_later _ _ (runs_heavy n (drop w ws) (omega (arith, length-drop w ws))))

@@ -15,7 +15,8 @@ use Rattle.text_checking.specs.Steps.{Checked}
 use Rattle.text_checking.specs.declared.Step as DS
 use Rattle.text_checking.proofs.Codes.{lt_or_ge, both_heavy, both_none}
 
-pub as_wide : {s : List ℕ} {code : Found} {v w at : ℕ} {r : DS.Step} → v ≡ w → Checked s code v at r → Checked s code w at r
+pub as_wide : {s : List ℕ} {code : Found} {v w at : ℕ} {r : DS.Step} → v ≡ w → Checked s code v at r
+    → Checked s code w at r
 as_wide {s} {code} {v} {w} {at} {r} e c = subst (λ (n : ℕ). Checked s code n at r) e c
 
 pub as_found : {s : List ℕ} {a b : Found} {w at : ℕ} {r : DS.Step} → a ≡ b → Checked s a w at r → Checked s b w at r
@@ -32,7 +33,8 @@ module _ {s : List ℕ} {a : Found} {v at : ℕ} {r : DS.Step} (first : Checked 
       }
 
   -- nothing is found, and another follows
-  pub then : {b : Found} {w : ℕ} {q : DS.Step} → r.finding ≡ Nothing → Checked s b w r.next q → Checked s (both a b) (v + w) at q
+  pub then : {b : Found} {w : ℕ} {q : DS.Step} → r.finding ≡ Nothing → Checked s b w r.next q
+      → Checked s (both a b) (v + w) at q
   then {b} {w} {q} z second =
       let none : a ≡ Nothing = sym first.finding ∙ z in
       record {
@@ -50,4 +52,5 @@ module _ {s : List ℕ} {a : Found} {v at : ℕ} {r : DS.Step} (first : Checked 
       (λ (h : 2 ≤ rank r.finding).
       both_heavy r.finding (g (words_at s r.next)) h
       ∙ first.finding
-      ∙ sym (both_heavy a (g (drop v (words_at s at))) (omega (arith, ap rank first.finding)))) (lt_or_ge (rank r.finding) 2)
+      ∙ sym (both_heavy a (g (drop v (words_at s at))) (omega (arith, ap rank first.finding))))
+      (lt_or_ge (rank r.finding) 2)

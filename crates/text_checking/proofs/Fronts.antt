@@ -16,7 +16,8 @@ use Rattle.text_checking.specs.Codes.{rank, found_of, both}
 use Rattle.text_checking.specs.Steps.{ScopeSays, CountsSays, FrontSays, front_finding}
 use Rattle.text_checking.specs.declared.Step as DS
 use Rattle.text_checking.specs.declared.Counted as DC
-use Rattle.text_checking.proofs.Codes.{lt_or_ge, both_heavy, both_assoc, both_first, both_second, both_either, some_rank}
+use Rattle.text_checking.proofs.Codes.{lt_or_ge, both_heavy, both_assoc, both_first, both_second, both_either}
+use Rattle.text_checking.proofs.Codes.{some_rank}
 use Rattle.text_checking.proofs.Codes.{found_both, test_light}
 use Rattle.text_checking.proofs.Filling.{filled_values}
 

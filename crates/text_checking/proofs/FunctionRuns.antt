@@ -75,7 +75,8 @@ module _ (s : List ℕ) (d : DD.Declared) (n front : ℕ) (before : Found) (at :
         small = λ z. omega arith;
       }
 
-  module _ (i : ℕ) (finding : Found) (next bytes : ℕ) (r : FunctionsRead s d n front before at i finding next bytes) where
+  module _ (i : ℕ) (finding : Found) (next bytes : ℕ)
+      (r : FunctionsRead s d n front before at i finding next bytes) where
     module _ (h : i < n) (one : DU.Function) (says : FunctionSays s finding next d one) where
       all_left : both before (found_of (functions_finding n ds (words_at s at)))
           ≡ both one.finding

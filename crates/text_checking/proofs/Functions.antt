@@ -115,7 +115,8 @@ over_parts : (ds : List ℕ) (a : ℕ) (us : Words)
     ≡ both (both (found_of (runs a (λ ws. declared_finding (length ds) (term_at 0 ws)) 1 us)) x) y)
 unfolding over_finding front_finding
 over_parts ds a us =
-    let y : Found = found_of (tuples_finding (sizes_over ds (values_in a us)) a (value_at (1 + a) us) (drop (2 + a) us)) in
+    let y : Found =
+    found_of (tuples_finding (sizes_over ds (values_in a us)) a (value_at (1 + a) us) (drop (2 + a) us)) in
     (_, y, found_both _ _ ∙ ap (λ (n : Found). both n y) (found_both _ _))
 
 module _ (ds : List ℕ) (a : ℕ) (us : Words) (short : length us < cap_end) where

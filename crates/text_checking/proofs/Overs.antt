@@ -28,7 +28,8 @@ use Rattle.text_checking.specs.declared.Declared as DD
 use Rattle.text_checking.specs.declared.Far as DF
 use Rattle.text_checking.specs.declared.Counted as DC
 use Rattle.text_checking.specs.declared.Function as DU
-use Rattle.text_checking.proofs.Codes.{both_heavy, both_assoc, both_second, both_zero, found_both, found_fine, none_light}
+use Rattle.text_checking.proofs.Codes.{both_heavy, both_assoc, both_second, both_zero, found_both, found_fine}
+use Rattle.text_checking.proofs.Codes.{none_light}
 use Rattle.text_checking.proofs.Entries.{held_at}
 use Rattle.text_checking.proofs.Filling.{values_at, values_split, map_at}
 use Rattle.text_checking.proofs.Caps.{words_short, tuples_capped, tuples_exact}

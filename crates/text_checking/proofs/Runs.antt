@@ -97,7 +97,8 @@ module _ (s : List ℕ) (f : Words → Finding) (w n at : ℕ) where
         → Checked s (found_of (runs n f w (words_at s at))) k at (record { finding = Fault; next = next })
     run_fault k e =
         run_stop i Nothing next h r (record { finding = Fault; next = next })
-        (record { finding = sym e; within = r.within; words = λ l. absurd (omega arith) }) Fault (sym (both_none Fault)) k
+        (record { finding = sym e; within = r.within; words = λ l. absurd (omega arith) }) Fault
+        (sym (both_none Fault)) k
         (omega arith)
 
     pub run_fine : (end : ℕ) → found_of (f (words_at s next)) ≡ Nothing → end ≤ length s
@@ -107,7 +108,8 @@ module _ (s : List ℕ) (f : Words → Finding) (w n at : ℕ) where
         (record { finding = sym e; within = in-s; words = λ _. more }) Nothing (sym (both_none Nothing)) (omega arith)
 
 -- items of one word: the number that the next one is
-pub run_number : (s : List ℕ) (f : Words → Finding) (n at i : ℕ) (finding : Found) (next : ℕ) → RunRead s f 1 n at i finding next
+pub run_number : (s : List ℕ) (f : Words → Finding) (n at i : ℕ) (finding : Found) (next : ℕ)
+    → RunRead s f 1 n at i finding next
     → value_at 0 (words_at s next) ≡ value_at i (words_at s at)
 run_number s f n at i finding next r =
     let here : words_at s next ≡ drop i (words_at s at) = rw mul-one at r.words in

@@ -7,7 +7,6 @@ use native.Mathlib.Omega.{arith}
 use lib.ListN.{length, get_or, take, length-append, length-map}
 use Rattle.model.specs.Basics.{All, pick}
 use Rattle.model.specs.Problems.{DomainSize}
-use Rattle.model.proofs.Numbers.{product_small}
 use Rattle.text_words.specs.Reads.{words_at}
 use Rattle.text_networks.specs.Findings.{Words, fine, dialect, find_if, runs, values_in}
 use Rattle.text_networks.specs.Networks.{repeated_tuple, tuples_of, tuple_finding}

@@ -29,13 +29,15 @@ unfolding values_finding found_of
 values_plain [] ws = inl refl
 values_plain (d ∷ ds) ws =
     ⊎_elim (λ (e : found_of (declared_finding d (term_at 0 ws)) ≡ Nothing).
-    ⊎_elim (λ (f : found_of (values_finding ds (drop 1 ws)) ≡ Nothing). inl (values_cons d ds ws ∙ rw (e, f) (both_none Nothing)))
+    ⊎_elim (λ (f : found_of (values_finding ds (drop 1 ws)) ≡ Nothing).
+    inl (values_cons d ds ws ∙ rw (e, f) (both_none Nothing)))
     (λ (f : found_of (values_finding ds (drop 1 ws)) ≡ Fault). inr (values_cons d ds ws ∙ rw (e, f) (both_none Fault)))
     (values_plain ds (drop 1 ws)))
     (λ (e : found_of (declared_finding d (term_at 0 ws)) ≡ Fault).
     inr (values_cons d ds ws ∙ rw e (both_heavy Fault _ (omega arith)))) (declared_plain d (term_at 0 ws))
 
-pub values_decide : (ds : List ℕ) (ws : Words) (k : Found) → k ≡ found_of (values_finding ds ws) → (k ≡ Nothing → ⊥) → 2 ≤ rank k
+pub values_decide : (ds : List ℕ) (ws : Words) (k : Found) → k ≡ found_of (values_finding ds ws) → (k ≡ Nothing → ⊥)
+    → 2 ≤ rank k
 values_decide ds ws k e n =
     ⊎_elim (λ (z : found_of (values_finding ds ws) ≡ Nothing). absurd (n (e ∙ z)))
     (λ (z : found_of (values_finding ds ws) ≡ Fault). omega (arith, ap rank (e ∙ z))) (values_plain ds ws)

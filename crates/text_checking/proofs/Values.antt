@@ -21,7 +21,8 @@ use Rattle.text_checking.specs.declared.Step as DS
 use Rattle.text_checking.proofs.Codes.{both_heavy, both_none, found_both}
 
 -- what is declared or not is nothing or a fault
-pub declared_plain : (n : ℕ) (t : Term) → (found_of (declared_finding n t) ≡ Nothing) ⊎ (found_of (declared_finding n t) ≡ Fault)
+pub declared_plain : (n : ℕ) (t : Term)
+    → (found_of (declared_finding n t) ≡ Nothing) ⊎ (found_of (declared_finding n t) ≡ Fault)
 unfolding field found_of
 declared_plain n (number x) = go (ltb x n)
   where
@@ -58,7 +59,8 @@ module _ (s es : List ℕ) (at : ℕ) where
   values_begin h = record { few = omega arith; left = refl; within = h; words = refl }
 
   pub values_done : (i next : ℕ) → length es ≤ i → ValuesRead s es at i next
-      → Checked s (found_of (values_finding es (words_at s at))) (length es) at (record { finding = Nothing; next = next })
+      → Checked s (found_of (values_finding es (words_at s at))) (length es) at
+      (record { finding = Nothing; next = next })
   unfolding values_finding found_of
   values_done i next h r =
       let all : i ≡ length es = omega (arith, r.few) in

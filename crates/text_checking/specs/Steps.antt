@@ -1,7 +1,10 @@
 -- What each function of the source finds.
 use Rattle.std.specs.Prelude.{◌≡◌, not, List, ◌∷◌, ℕ, suc, ◌+◌, ◌-◌, ◌*◌, ◌≤◌, ◌<◌, min, eqb, ltb, length, get_or, drop}
+use Rattle.std.specs.Prelude.{Result, IfOk}
 use Rattle.model.specs.Basics.{All}
 use Rattle.model.specs.Problems.{DomainSize}
+use Rattle.model.specs.Reasons.{number_in}
+use Rattle.model.specs.declared.Reason.{Reason}
 use Rattle.model.specs.Encoding.{table_bytes, tables_bytes, encode}
 use Rattle.text_words.specs.Texts.{value_from, words_of}
 use Rattle.text_words.specs.Reads.{words_at, cap_end, numeral, DigitsAt}
@@ -27,7 +30,6 @@ use Rattle.text_checking.specs.declared.Sized as DZ
 use Rattle.text_checking.specs.declared.Sizes as DM
 use Rattle.text_checking.specs.declared.Head as DH
 use Rattle.text_checking.specs.declared.Body as DB
-use Rattle.text_checking.specs.declared.Network as DN
 
 -- this is found from a place on; where it does not decide, so many words are read
 pub record Checked (s : List ℕ) (found : Found) (width at : ℕ) (r : DS.Step) : Type 0 where
@@ -179,6 +181,6 @@ pub record BodySays (s : List ℕ) (at : ℕ) (r : DB.Body) : Type 0 where
   pub finding : (name : List ℕ) → r.finding ≡ found_of (network_finding (name ∷ words_at s at))
   pub bytes : r.finding ≡ Nothing → (name : List ℕ) → r.bytes ≡ length (encode (network_problem (name ∷ words_at s at)))
 
-pub record NetworkSays (s : List ℕ) (r : DN.Network) : Type 0 where
-  pub number : r.number ≡ number_of (network_finding (words_of s))
-  pub bytes : r.number ≡ 0 → r.bytes ≡ length (encode (network_problem (words_of s)))
+pub record NetworkSays (s : List ℕ) (r : Result ℕ Reason) : Type 0 where
+  pub number : number_in r ≡ number_of (network_finding (words_of s))
+  pub bytes : IfOk r (λ n. n ≡ length (encode (network_problem (words_of s))))

@@ -1,10 +1,12 @@
 // What is refused of a WCSP text, and how long its records are.
 #![tactic(auto)]
 
-ghost use Rattle.std.specs.Prelude.{◌≡◌, true, false, [], ℕ, suc, ◌+◌, ◌-◌, ◌*◌, ◌≤◌, ◌<◌, min, ltb, length, get_or, take};
+ghost use Rattle.std.specs.Prelude.{◌≡◌, true, false, [], ℕ, suc, ◌+◌, ◌-◌, ◌*◌, ◌≤◌, ◌<◌, min, ltb, length};
+ghost use Rattle.std.specs.Prelude.{get_or, take};
 ghost use Rattle.std.specs.Prelude.{set};
 ghost use Rattle.model.specs.Basics.{All};
 ghost use Rattle.model.specs.Limits.{max_domain};
+ghost use Rattle.model.specs.Reasons.{number_in};
 ghost use Rattle.model.specs.Problems.{DomainSize};
 ghost use Rattle.text_words.specs.Texts.{value_from};
 ghost use Rattle.text_words.specs.Reads.{words_at, cap_end, numeral, DigitsAt};
@@ -19,6 +21,9 @@ ghost use Rattle.text_checking.specs.Steps.{FunctionSays, FunctionsSays, SizeSay
 ghost use Rattle.text_checking.specs.Steps.{NetworkSays};
 ghost use Rattle.text_checking.specs.Steps.{record_bytes, Plain, FarSays, FrontSays, BodySays};
 
+use model::Reason;
+use text_words::{Kind, Number};
+
 // Entries of at least this number stand for sizes that are too large for an entry.
 const HALF: u64 = 9223372036854775808;
 
@@ -31,7 +36,8 @@ pub enum Found {
     Fault,
 }
 
-// What is found, and the place behind what was read.
+// What is found, and the place behind what was read. The structs that tell more each name what it is, which one
+// generic struct could not.
 #[derive(Clone, Copy)]
 pub struct Step {
     pub finding: Found,
@@ -92,20 +98,13 @@ pub struct Head {
     pub next: usize,
     pub variables: u64,
     pub functions: u64,
-    pub largest: text_words::Number,
+    pub largest: Number,
 }
 
 // What is found, and the bytes of all records where nothing is found.
 #[derive(Clone, Copy)]
 pub struct Body {
     pub finding: Found,
-    pub bytes: usize,
-}
-
-// 0, or the number of the refusal; the bytes of all records where it is 0.
-#[derive(Clone, Copy)]
-pub struct Network {
-    pub number: u8,
     pub bytes: usize,
 }
 
@@ -130,14 +129,14 @@ fn decides(f: Found) -> bool
 
 // What is found in a field that is to be from `least` to `most`, and `below` where it is negative.
 #[tactic(auto, unfolding(crate::specs::Codes::limited_code))]
-fn limited(x: text_words::Number, least: u64, most: u64, below: Found) -> Found
+fn limited(x: Number, least: u64, most: u64, below: Found) -> Found
     ensures { result ≡ limited_code x.kind x.value least most below }
 {
     match x.kind {
-        text_words::Kind::Natural if x.value < least || most < x.value => Found::Dialect,
-        text_words::Kind::Natural => Found::Nothing,
-        text_words::Kind::Negative => below,
-        text_words::Kind::Other => Found::Fault,
+        Kind::Natural if x.value < least || most < x.value => Found::Dialect,
+        Kind::Natural => Found::Nothing,
+        Kind::Negative => below,
+        Kind::Other => Found::Fault,
     }
 }
 
@@ -164,7 +163,7 @@ fn entry_of(value: u64, place: usize) -> u64
 }
 
 // Whether a number is less than the size that an entry holds.
-fn is_below(s: &[u8], x: text_words::Number, e: u64) -> bool
+fn is_below(s: &[u8], x: Number, e: u64) -> bool
     requires { DigitsAt s.now x }
     ensures { result ≡ ltb (value_from 0 (numeral s.now x)) (size_held s.now e) }
 {
@@ -179,7 +178,7 @@ fn is_below(s: &[u8], x: text_words::Number, e: u64) -> bool
         return false;
     }
     let size = text_words::read_number(s, place);
-    if size.kind != text_words::Kind::Natural {
+    if size.kind != Kind::Natural {
         return false;
     }
     text_words::is_less(s, x, size)
@@ -193,7 +192,7 @@ fn check_value(s: &[u8], at: usize, e: u64) -> Step
 {
     let x = text_words::read_number(s, at);
     let next = x.end;
-    if x.kind != text_words::Kind::Natural {
+    if x.kind != Kind::Natural {
         return Step {
             finding: Found::Fault,
             next,
@@ -260,7 +259,7 @@ fn size_entry(s: &[u8], v: u64, declared: Declared, index: &[u64]) -> u64
     entry_of(x.value, place)
 }
 
-// A number in a list, where the list has the place.
+// A number in a list, where the list has the place. (By `get_mut` the proof did not close.)
 fn put(list: &mut [u64], i: u64, x: u64)
     ensures { list.new ≡ set list.old i x }
 {
@@ -278,7 +277,7 @@ fn check_scope(s: &[u8], at: usize, arity: u64, variables: u64, scope: &mut [u64
     let mut next = at;
     for i in 0..arity {
         let v = text_words::read_number(s, next);
-        if v.kind != text_words::Kind::Natural {
+        if v.kind != Kind::Natural {
             return Step {
                 finding: Found::Fault,
                 next,
@@ -414,14 +413,14 @@ fn check_tuples(
 
 // What is found in the number of tuples: without variables there are none.
 #[tactic(auto, unfolding(crate::specs::Codes::count_code))]
-fn count_code(x: text_words::Number, arity: u64) -> Found
+fn count_code(x: Number, arity: u64) -> Found
     ensures { result ≡ count_code x.kind x.value arity }
 {
     match x.kind {
-        text_words::Kind::Natural if arity == 0 && 0 < x.value => Found::Fault,
-        text_words::Kind::Natural => Found::Nothing,
-        text_words::Kind::Negative => Found::Stop,
-        text_words::Kind::Other => Found::Fault,
+        Kind::Natural if arity == 0 && 0 < x.value => Found::Fault,
+        Kind::Natural => Found::Nothing,
+        Kind::Negative => Found::Stop,
+        Kind::Other => Found::Fault,
     }
 }
 
@@ -665,13 +664,13 @@ fn check_functions(
 }
 
 // A number without its leading zeros, which no comparison walks again.
-fn bare(s: &[u8], x: text_words::Number) -> text_words::Number
+fn bare(s: &[u8], x: Number) -> Number
     requires { DigitsAt s.now x }
     ensures { DigitsAt s.now result × (value_from 0 (numeral s.now result)
         ≡ value_from 0 (numeral s.now x)) }
 {
     let from = text_words::skip_zeros(s, x.from, x.end);
-    text_words::Number {
+    Number {
         kind: x.kind,
         value: x.value,
         from,
@@ -680,14 +679,14 @@ fn bare(s: &[u8], x: text_words::Number) -> text_words::Number
 }
 
 // A domain size, by the largest one that is stated.
-fn check_size(s: &[u8], at: usize, most: text_words::Number) -> Sized
+fn check_size(s: &[u8], at: usize, most: Number) -> Sized
     requires { (at ≤ length s.now) × DigitsAt s.now most }
     ensures { SizeSays s.now at (value_from 0 (numeral s.now most)) result }
 {
     let x = text_words::read_number(s, at);
     let next = x.end;
     let finding = limited(x, 1, 8, Found::Stop);
-    if x.kind != text_words::Kind::Natural {
+    if x.kind != Kind::Natural {
         return Sized {
             finding,
             next,
@@ -713,7 +712,7 @@ fn check_size(s: &[u8], at: usize, most: text_words::Number) -> Sized
 }
 
 // The domain sizes of `n` variables; the index has the entries of the first ones.
-fn check_sizes(s: &[u8], at: usize, n: u64, most: text_words::Number, index: &mut [u64]) -> Sizes
+fn check_sizes(s: &[u8], at: usize, n: u64, most: Number, index: &mut [u64]) -> Sizes
     requires { (at ≤ length s.now) × DigitsAt s.now most }
     ensures { SizesSays s.now at n (value_from 0 (numeral s.now most))
         index.new result }
@@ -834,31 +833,27 @@ fn check_rest(s: &[u8], at: usize) -> Body
     check_body(s, at, head, &mut index)
 }
 
-// The number of the refusal, 0 where there is none.
+// The reason to refuse what is found.
 #[tactic(auto, unfolding(crate::specs::Codes::number_code))]
-fn number_of(finding: Found) -> u8
-    ensures { result ≡ number_code finding }
+fn refusal(finding: Found) -> Result<(), Reason>
+    ensures { number_in result ≡ number_code finding }
 {
     match finding {
-        Found::Nothing => 0,
-        Found::Dialect | Found::Stop => 18,
-        Found::Fault => 17,
+        Found::Nothing => Ok(()),
+        Found::Dialect | Found::Stop => Err(Reason::Dialect),
+        Found::Fault => Err(Reason::Text),
     }
 }
 
-pub fn check_network(s: &[u8]) -> Network
+// The bytes of all records of a text, or why it is refused.
+pub fn check_network(s: &[u8]) -> Result<usize, Reason>
     ensures { NetworkSays s.now result }
 {
     let name = text_words::next_word(s, 0);
     if name.start == name.end {
-        return Network {
-            number: 17,
-            bytes: 0,
-        };
+        return Err(Reason::Text);
     }
     let body = check_rest(s, name.end);
-    Network {
-        number: number_of(body.finding),
-        bytes: body.bytes,
-    }
+    refusal(body.finding)?;
+    Ok(body.bytes)
 }

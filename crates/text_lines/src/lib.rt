@@ -19,7 +19,8 @@ fn digit_count(x: u32) -> usize
     count
 }
 
-// Writes the digits of a number from `at` to `end`, the last one first.
+// Writes the digits of a number from `at` to `end`, the last one first. (std's Display is no plainer: it does not
+// measure a number for which there is no room.)
 fn put_digits(x: u32, at: usize, end: usize, out: &mut [u8])
     requires { (end ≡ at + length (decimal x)) × (end ≤ length out.old) }
     ensures { out.new ≡ take at out.old ++ (decimal x ++ drop end out.old) }

@@ -307,11 +307,10 @@ pub fn from_text(text: &[u8], problem: &mut [u8]) -> text_networks::Converted
     ensures { ConvertSays (from_text_outcome text.now problem.old)
         problem.new result }
 {
-    let network = text_checking::check_network(text);
-    if network.number != 0 {
-        return refused(network.number);
-    }
-    let bytes = network.bytes;
+    let bytes = match text_checking::check_network(text) {
+        Ok(bytes) => bytes,
+        Err(reason) => return refused(reason.number()),
+    };
     if 60000 < bytes {
         return refused(18);
     }

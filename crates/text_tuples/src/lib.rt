@@ -16,6 +16,7 @@ pub struct Entry {
     pub end: usize,
 }
 
+// Of the three sizes the first `arity` count: so the callers of other crates hold them.
 pub fn tuple_index(s: &[u8], at: usize, arity: usize, sizes: [u8; 3]) -> Entry
     requires { TupleAt s.now at arity sizes }
     ensures { EntrySays s.now at arity sizes result }

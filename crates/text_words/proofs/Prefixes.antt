@@ -96,6 +96,8 @@ module _ (s : List ℕ) (at n : ℕ) (inside : at ≤ length s) where
         stop = λ l q.
             let here =
             get_or-take (end - at) (drop at s) n 0 (omega arith) ∙ get_or-drop at s n 0 ∙ q in
-            let last = rw (← e) at (prefix_len_stops is_zero (part s at end) 0 (rw (part_length s at end g) (omega arith))) in
+            let stops =
+            prefix_len_stops is_zero (part s at end) 0 (rw (part_length s at end g) (omega arith)) in
+            let last = rw (← e) at stops in
             absurd (true_false (ap is_zero here) last);
       }

@@ -4,7 +4,8 @@
 ghost use Rattle.std.specs.Prelude.{◌≡◌, true, ◌+◌, ◌-◌, ◌*◌, ◌≤◌, min, ltb, length, drop};
 ghost use Rattle.std.specs.List.{prefix_len};
 ghost use Rattle.text_words.specs.Texts.{is_space, is_digit, all_digits, value_from};
-ghost use Rattle.text_words.specs.Reads.{part, is_visible, is_zero, is_break, cap_end, sign_width, Skipped, WordEnds, WordSays};
+ghost use Rattle.text_words.specs.Reads.{part, is_visible, is_zero, is_break, cap_end, sign_width};
+ghost use Rattle.text_words.specs.Reads.{Skipped, WordEnds, WordSays};
 ghost use Rattle.text_words.specs.Reads.{RunSays, numeral, DigitsAt, no_digits, NumberSays, ZerosSkipped};
 
 // Values are told up to this one; a value below a tenth of it takes one more digit.

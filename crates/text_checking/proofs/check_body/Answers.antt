@@ -41,5 +41,6 @@ returns c =
     body_says c.requires.0 c.requires.1 (omega (arith, c.well_formed.0.0)) c.check_sizes-sizes.new.index _
     (c.bare-most.ensures.1 ∙ c.requires.0.largest c.requires.1) c.check_sizes-sizes.result
     c.check_sizes-sizes.ensures c.and_then-finding.result c.and_then-finding.ensures
-    (c.decides.ensures.1 c.if-decides.false) c.front_bytes.result c.front_bytes.ensures (not-false _ c.if-not-sizes.false)
+    (c.decides.ensures.1 c.if-decides.false) c.front_bytes.result c.front_bytes.ensures
+    (not-false _ c.if-not-sizes.false)
     c.check_functions.result c.check_functions.ensures

@@ -26,7 +26,8 @@ returns c =
           c.and_then.ensures
           ∙ ap (both cost.result.finding) (c.count_code.ensures ∙ count_code_lem says a.arity)
           ∙ behind cost.ensures (λ us. found_of (count_finding a.arity (term_at 0 us)))
-          ∙ ap (λ w. both (found_of (cost_finding (term_at 0 ws))) (found_of (count_finding a.arity (term_of w)))) second
+          ∙ ap (λ w. both (found_of (cost_finding (term_at 0 ws))) (found_of (count_finding a.arity (term_of w))))
+          second
           ∙ sym (found_both (cost_finding (term_at 0 ws)) (count_finding a.arity (term_at 1 ws)));
       within = says.within;
       words = λ l. says.rest ∙ rw (cost.ensures.words (light l)) (drop-drop 1 1 ws);

@@ -16,7 +16,8 @@ use Rattle.text_checking.proofs.check_values.Goals as goal
 
 -- the value that was read, by the sizes
 one : (s entries : List ℕ) (i next : ℕ) (step : DS.Step)
-    → Checked s (found_of (declared_finding (size_held s (get_or entries i 0)) (term_at 0 (words_at s next)))) 1 next step
+    → Checked s (found_of (declared_finding (size_held s (get_or entries i 0)) (term_at 0 (words_at s next)))) 1 next
+    step
     → Checked s (found_of (declared_finding (get_or (sizes_held s entries) i 0) (term_at 0 (words_at s next)))) 1 next
     step
 one s entries i next step h =
