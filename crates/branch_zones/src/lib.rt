@@ -253,7 +253,7 @@ pub fn split_zones(
     count
 }
 
-// Each ceiling less one.
+// Each ceiling less one. Written out: with `map` the proof did not close.
 fn lower(ceilings: [u64; 4]) -> [u64; 4]
     ensures { result ≡ lowered ceilings }
 {
