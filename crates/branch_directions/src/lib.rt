@@ -57,8 +57,9 @@ fn row_of(table: [u64; 16], i: usize) -> [u64; 4]
     requires { i < max_sums }
     ensures { result ≡ take 4 (drop (4 * i) table) }
 {
-    let at = 4 * i;
-    [table[at], table[at + 1], table[at + 2], table[at + 3]]
+    let mut row = [0u64; 4];
+    row.copy_from_slice(&table[4 * i..4 * i + 4]);
+    row
 }
 
 // The first costs of `v`, weighted with row `i` of the weights: sum `i`, where there are so many.

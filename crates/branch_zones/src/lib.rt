@@ -31,7 +31,7 @@ pub struct Places {
 fn clamp(x: u64) -> u32
     ensures { result ≡ clamped x }
 {
-    x.min(4294967295) as u32
+    x.min(u64::from(u32::MAX)) as u32
 }
 
 // The first `width` numbers of a bound, clamped, and zeros, than which no number of a row is smaller. Always so many
@@ -253,7 +253,7 @@ pub fn split_zones(
     count
 }
 
-// Each ceiling less one.
+// Each ceiling less one. Written out: with `map` the proof did not close.
 fn lower(ceilings: [u64; 4]) -> [u64; 4]
     ensures { result ≡ lowered ceilings }
 {
