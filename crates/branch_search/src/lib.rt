@@ -427,7 +427,8 @@ pub fn explore(
                 effort,
             };
         }
-        if t.limit == NO_LIMIT {
+        let is_last = t.limit == NO_LIMIT;
+        if is_last {
             branch_archive::sort_points(t.points, d.objectives, work);
             return Explored {
                 decided: true,

@@ -1,8 +1,7 @@
 -- What `open_position` and `try_choice` leave to show: every completion of a partial choice is covered.
-use Rattle.std.proofs.Common.{◌≡◌, ℕ, ◌+◌, ◌-◌, ◌<◌, ◌≤◌, List, length, get_or, take, drop, sym, refl, ◌∙◌, subst}
-use Rattle.std.proofs.Common.{arith, length-take-le, rules}
-use Rattle.model.specs.Limits.{max_objectives, max_domain}
-use Rattle.layout.specs.Layout.{list_end}
+use Rattle.std.proofs.Common.{◌≡◌, ℕ, ◌<◌, List, length, get_or, take, sym, refl, ◌∙◌, subst}
+use Rattle.std.proofs.Common.{arith}
+use Rattle.model.specs.Limits.{max_objectives}
 use Rattle.branch_directions.specs.Directions.{width_of}
 use Rattle.branch_directions.proofs.Widths.{width_few}
 use Rattle.branch_buckets.proofs.ContentRows.{planned_fewer}
@@ -13,12 +12,12 @@ use Rattle.branch_pruning.specs.declared.Progress as DP
 use Rattle.branch_pruning.specs.Tests.{Reached, Searched}
 use Rattle.branch_pruning.proofs.Reaches.{reached_long, reached_rises}
 use Rattle.branch_search.specs.States.{plan_in, Standing}
-use Rattle.branch_search.proofs.Nodes.{choice_long, bound_long, Extends, extends}
+use Rattle.branch_search.proofs.Nodes.{bound_long, Extends, extends}
 use Rattle.branch_search.proofs.Aims.{aim_ceilings}
 use Rattle.branch_search.proofs.Testing.{running_searched, reached_spent, reached_idle}
 use Rattle.branch_search.proofs.Memory.{lent_plan, still_refl}
 use Rattle.branch_search.proofs.Leaving.{opened_same, dead_covers}
-use Rattle.branch_search.proofs.Leaf.{leaf_standing, leaf_opened}
+use Rattle.branch_search.proofs.Leaf.{leaf_opened}
 use Rattle.branch_search.proofs.Trying.{Trying, tried_fewer, spent_standing, spent_opened}
 use Rattle.branch_search.proofs.Trying.{trying_start, trying_standing, trying_next, trying_end}
 use Rattle.branch_search.proofs.Values.{lent_planned, lent_tested, lent_numbers}
@@ -90,9 +89,9 @@ reach_known t c =
     let w = c.loop-leads in
     let Known = Reached c.args.aim.d w.work w.t c.args.node.bound in
     elim c.if-seen-t.branch [
-      open_position-then-seen-t b ↦ (subst Known (sym b.reach-is) b.reach_anew.ensures, b.seen-is)
-    | open_position-else-seen-t b ↦ let same : w.seen ≡ w.t.meets = omega (arith, b.if-seen-t.false) in
-      (subst Known (sym b.reach-is) (w.invariant.4 same), b.seen-is ∙ same)
+      | open_position-then-seen-t b ↦ (subst Known (sym b.reach-is) b.reach_anew.ensures, b.seen-is)
+      | open_position-else-seen-t b ↦ let same : w.seen ≡ w.t.meets = omega (arith, b.if-seen-t.false) in
+          (subst Known (sym b.reach-is) (w.invariant.4 same), b.seen-is ∙ same)
     ]
 
 -- the partial choice with the value that is next

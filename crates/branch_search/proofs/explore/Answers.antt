@@ -1,9 +1,9 @@
 -- What `explore` leaves to show: after a pass the archive is the list, or more than that, or the next pass follows.
-use Rattle.std.proofs.Common.{◌≡◌, ◌≤◌, length, sym, refl, ◌∙◌, arith}
+use Rattle.std.proofs.Common.{◌≡◌, ◌≤◌, length, sym, refl, arith}
 use Rattle.groups.specs.Sources.{source_problem}
 use Rattle.groups.proofs.Tasks.{ceilings_long}
 use Rattle.branch_directions.proofs.Widths.{weights_long}
-use Rattle.branch_search.specs.States.{Ready, Still, Between}
+use Rattle.branch_search.specs.States.{Ready, Between}
 use Rattle.branch_search.proofs.Memory.{still_refl, still_trans, ready_still}
 use Rattle.branch_search.proofs.Archives.{between_source}
 use Rattle.branch_search.proofs.Passes.{passed_between, passed_full, passed_list, explored_still, ended_left}
@@ -62,9 +62,9 @@ sort_points-requires c =
       (ready r).planned.sensible.few,
     )
 
-pub returns-then-t : goal.returns-then-t
-returns-then-t c =
-    let r = (goal.at.returns-then-t c).After-run_pass-t in
+pub returns-then-is_last : goal.returns-then-is_last
+returns-then-is_last c =
+    let r = (goal.at.returns-then-is_last c).After-run_pass-t in
     let order = c.sort_points.ensures in
     let some : 1 ≤ c.run_pass-t.result.left = omega arith in
     let last : c.run_pass-t.result.limit ≡ 18446744073709551615 = omega arith in

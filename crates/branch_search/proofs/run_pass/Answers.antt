@@ -5,7 +5,7 @@ use Rattle.layout.specs.Layout.{list_end}
 use Rattle.groups.proofs.Tasks.{ceilings_long}
 use Rattle.rows.specs.Rows.{EachCost}
 use Rattle.branch_pruning.proofs.Reaches.{reached_full}
-use Rattle.branch_search.specs.States.{Ready, Still}
+use Rattle.branch_search.specs.States.{Ready}
 use Rattle.branch_search.proofs.ArchivedWords.{archived_words}
 use Rattle.branch_search.proofs.Memory.{ready_still, zones_still, lent_plan}
 use Rattle.branch_search.proofs.Passes.{own_between, root_standing, root_passed}

@@ -1,16 +1,15 @@
 -- What `start_zones` leaves to show.
-use Rattle.std.proofs.Common.{◌≡◌, ◌≤◌, ◌++◌, List, ℕ, length, drop, sym, subst, arith, length-take-le, w64}
+use Rattle.std.proofs.Common.{◌≤◌, ◌++◌, List, ℕ, length, drop, sym, subst, arith, length-take-le, w64}
 use Rattle.model.specs.Basics.{All}
 use Rattle.model.specs.Limits.{max_objectives}
 use Rattle.model.specs.Problems.{Word}
 use Rattle.model.specs.Core.{WordCeiling}
 use Rattle.model.proofs.Elements.{all_take}
-use Rattle.rows.specs.Rows.{EachCost}
 use Rattle.rows.proofs.Arrays.{array_length}
 use Rattle.layout.specs.Layout.{zones_end, list_end}
 use Rattle.branch_search.specs.Passes.{ZonesWritten}
 use Rattle.branch_search.proofs.Memory.{zones_costs}
-use Rattle.branch_search.proofs.Zoning.{lent_same, lent_measured, lent_written, first_hold}
+use Rattle.branch_search.proofs.Zoning.{lent_measured, lent_written, first_hold}
 use Rattle.branch_search.proofs.Zoning.{hold_rows, written_trans}
 use Rattle.branch_search.proofs.start_zones.Goals.{After-first_zone-m}
 use Rattle.branch_search.proofs.start_zones.Goals as goal
