@@ -4,7 +4,7 @@ use mathlib.Core.Logic.{inl, inr, ⊎_elim}
 use mathlib.Core.List.{List, [], ◌∷◌, ◌++◌}
 use Prim.Native.Nat.{ℕ, zero, suc, ◌+◌, ◌-◌, ◌*◌, ◌≤◌, ◌<◌}
 use native.Mathlib.Omega.{arith}
-use native.Mathlib.Nat.{add-zero, zero-add, mul-le-mul_right}
+use native.Mathlib.Nat.{add-zero, zero-add}
 use borrow.Author.Tests.{ltb-true, ltb-false}
 use lib.Dec.{ltb}
 use lib.ListN.{length, get_or, take, drop, set, length-append, get_or-append}
@@ -16,12 +16,11 @@ use Rattle.model.specs.Core.{core_sum_end}
 use Rattle.model.specs.Problems.{Table}
 use Rattle.model.specs.Costs.{total, totals_from}
 use Rattle.model.specs.Archive.{weighted}
-use Rattle.model.proofs.Bits.{test, pick_both}
+use Rattle.model.proofs.Bits.{test}
 use Rattle.model.proofs.Lists.{four_read}
-use Rattle.model.proofs.Elements.{all_at, all_take}
+use Rattle.model.proofs.Elements.{all_take}
 use Rattle.model.proofs.Totals.{take_totals}
 use Rattle.model.proofs.Zeros.{behind_zeros}
-use Rattle.branch_archive.specs.Changes.{max_weight}
 use Rattle.branch_directions.specs.Directions.{max_sums, weights_of, sums_from, directions_of}
 use Rattle.branch_directions.specs.declared.Directions as DD
 use Rattle.branch_directions.proofs.SumsOf.{sums_length, sums_at}
@@ -53,14 +52,6 @@ module _ (totals : List ℕ) (a : ℕ) where
       ≡ totals_from max_objectives 0 f ts = sym (four_read 0 totals (4 * a) inside)
       ∙ rw (none, is 1 (omega arith), is 2 (omega arith), is 3 (omega arith)) refl in
       rw all (take_totals f ts p max_objectives 0 few)
-
--- one product with a weight
-pub weight_times : (ws : List ℕ) → All (λ w. w ≤ max_weight) ws → (i t : ℕ) → get_or ws i 0 * t ≤ max_weight * t
-weight_times ws small i t = mul-le-mul_right t (all_at (λ w. w ≤ max_weight) ws small i 0 (omega arith))
-
--- what is not counted stays below every limit that 0 does
-pub counted_small : (o p cost x : ℕ) → x ≡ when (ltb o p) cost → cost < core_sum_end → x < core_sum_end
-counted_small o p cost x e h = rw e (pick_both (λ n. n < core_sum_end) (ltb o p) h (omega arith))
 
 -- four costs, of which the first p are counted
 module _ (x y z u : ℕ) where

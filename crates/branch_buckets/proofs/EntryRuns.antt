@@ -1,11 +1,11 @@
 -- The entry of a record as one variable runs through its values, after the first k variables of the scope.
-use mathlib.Core.Path.{◌≡◌, refl, ap, sym, ◌∙◌}
+use mathlib.Core.Path.{◌≡◌, ap, sym, ◌∙◌}
 use mathlib.Core.Bool.{true}
 use mathlib.Core.List.{List}
 use Prim.Native.Nat.{ℕ, ◌+◌, ◌*◌, ◌^◌, ◌≤◌, ◌<◌}
 use native.Mathlib.Omega.{arith}
 use native.Mathlib.Numerals.{add-one}
-use native.Mathlib.Nat.{mul-zero, mul-one, one-mul, mul-le-mul_left, pow-succ', pow-le-pow_right}
+use native.Mathlib.Nat.{mul-zero, mul-one, mul-le-mul_left, pow-succ', pow-le-pow_right}
 use lib.ListN.{length, get_or, drop, set}
 use Rattle.model.specs.Basics.{All}
 use Rattle.model.specs.Problems.{DomainSize}
@@ -29,18 +29,10 @@ pub record EntrySteps (ds s : List ℕ) (at v : ℕ) (x : List ℕ) (k first str
   pub narrow : stride < 16 ^ k
 
 module _ (ds s : List ℕ) (at v : ℕ) (x : List ℕ) where
-  pub entry_start : EntrySteps ds s at v x 0 0 0
-  entry_start =
-      record {
-        room = λ a h. rw (mul-zero a, one-mul) (omega arith);
-        entry = λ a h. rw (mul-zero a) refl;
-        narrow = omega arith;
-      }
-
   module _ (w : Whole ds s at) (sizes : All DomainSize ds) (exists : v < length ds)
       (choice : is_choice ds x ≡ true) where
     module _ {k first stride : ℕ} (u : EntrySteps ds s at v x k first stride) where
-      pub first_fits : first < length s
+      first_fits : first < length s
       first_fits =
           omega (
             arith,
@@ -48,7 +40,7 @@ module _ (ds s : List ℕ) (at v : ℕ) (x : List ℕ) where
             room_fits ds s at w sizes k (first + 0 * stride) (u.room 0 (domain_size_lem ds sizes v exists).0),
           )
 
-      pub stride_fits : k ≤ table_arity (drop at s) → stride < 4096
+      stride_fits : k ≤ table_arity (drop at s) → stride < 4096
       stride_fits h =
           omega (
             arith,
@@ -57,7 +49,7 @@ module _ (ds s : List ℕ) (at v : ℕ) (x : List ℕ) where
             pow-le-pow_right {n = 16} (omega arith) {i = k} {j = 3} (omega (arith, w.few)),
           )
 
-      pub entry_next :
+      entry_next :
           k < table_arity (drop at s) → (t : DP.Progression) → TermSays (variable_at s at k) 1 v x t
           → EntrySteps ds s at v x (k + 1) (first * get_or ds (variable_at s at k) 0 + t.first)
           (stride * get_or ds (variable_at s at k) 0 + t.stride)

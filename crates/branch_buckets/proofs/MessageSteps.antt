@@ -4,7 +4,7 @@ use mathlib.Core.List.{List}
 use Prim.Native.Nat.{ℕ, ◌+◌, ◌-◌, ◌*◌, ◌≤◌, ◌<◌}
 use native.Mathlib.Omega.{arith}
 use native.Mathlib.Nat.{zero-add}
-use lib.ListN.{length, get_or, set, replicate, get_or-replicate}
+use lib.ListN.{length, get_or, set}
 use Rattle.model.specs.Limits.{word_end}
 use Rattle.layout.specs.Places.{max_messages, children_at, loose_at}
 use Rattle.branch_buckets.specs.Messages.{sum_over, message_at, sent_over, received_over}
@@ -36,12 +36,6 @@ pub record Receiving (w : ℕ) (plan : List ℕ) (span : DS.Span) (v size : ℕ)
       ≡ get_or before (8 * a + j) 0 + received_over w plan span.first span.last (set x v a) j
   pub small : (a j : ℕ) → a < size → j < 8
       → get_or rows (8 * a + j) 0 ≤ get_or before (8 * a + j) 0 + word_end * (i - span.first)
-
-pub receiving_start :
-    (w : ℕ) (plan : List ℕ) (span : DS.Span) (v size : ℕ) (x before : List ℕ) → span.first ≤ span.last
-    → Receiving w plan span v size x before span.first before
-receiving_start w plan span v size x before h =
-    record { behind = omega arith; ahead = h; long = refl; sums = λ a j k l. refl; small = λ a j k l. omega arith }
 
 module _
     {w : ℕ} {plan : List ℕ} {span : DS.Span} {v size : ℕ} {x before : List ℕ} {i : ℕ} {rows : List ℕ}
@@ -78,19 +72,6 @@ pub record Sending (w : ℕ) (plan : List ℕ) (from to : ℕ) (y : List ℕ) (i
   pub long : length t ≡ 8
   pub sums : (j : ℕ) → j < 8 → get_or t j 0 + sent_over w plan i to y j ≡ sent_over w plan from to y j
   pub small : (j : ℕ) → j < 8 → get_or t j 0 ≤ word_end * (i - from)
-
-pub sending_start : (w : ℕ) (plan : List ℕ) (from to : ℕ) (y : List ℕ) → from ≤ to
-    → Sending w plan from to y from (replicate 8 0)
-sending_start w plan from to y h =
-    let none : (j : ℕ) → j < 8
-    → ◌≡◌ {A = ℕ} (get_or (replicate 8 0) j 0) 0 = λ j l. get_or-replicate {A = ℕ} 8 j 0 0 l in
-    record {
-      behind = omega arith;
-      ahead = h;
-      long = refl;
-      sums = λ j l. omega (arith, none j l);
-      small = λ j l. omega (arith, none j l);
-    }
 
 module _ {w : ℕ} {plan : List ℕ} {from to : ℕ} {y : List ℕ} {i : ℕ} {t : List ℕ}
     (u : Sending w plan from to y i t) where

@@ -19,7 +19,7 @@ use Rattle.model.specs.Costs.{cost_of, total}
 use Rattle.costs.specs.Entries.{table_at}
 use Rattle.groups.specs.Groups.{tables_over}
 use Rattle.branch_buckets.specs.Bounds.{places_over}
-use Rattle.branch_buckets.specs.Adding.{RecordAdded, Blank, Totalled}
+use Rattle.branch_buckets.specs.Adding.{RecordAdded, Totalled}
 use Rattle.branch_buckets.specs.declared.Span as DS
 use Rattle.branch_buckets.proofs.Ranges.{places_next, places_none}
 
@@ -30,9 +30,6 @@ pub record AddingRecord (own : ℕ) (f : ℕ → ℕ) (before : List ℕ) (a : �
       → (get_or totals (4 * b + o) 0 ≡ get_or before (4 * b + o) 0 + when (eqb own o) (f b))
       × (get_or totals (4 * b + o) 0 < get_or before (4 * b + o) 0 + entry_end)
   pub rest : (i : ℕ) → 4 * a ≤ i → get_or totals i 0 ≡ get_or before i 0
-
-pub adding_start : (own : ℕ) (f : ℕ → ℕ) (before : List ℕ) → AddingRecord own f before 0 before
-adding_start own f before = record { long = refl; done = λ b h. absurd (omega arith); rest = λ i h. refl }
 
 module _ {own : ℕ} {f : ℕ → ℕ} {before : List ℕ} {a : ℕ} {totals : List ℕ} (u : AddingRecord own f before a totals)
     (cost : ℕ) (exists : own < 4) (inside : 4 * a + own < length before) (is : cost ≡ f a)
@@ -110,18 +107,6 @@ pub record Totalling (ds s plan : List ℕ) (span : DS.Span) (v : ℕ) (x : List
       ≡ total o (cost_of ds (set x v a)) (tables_over ds s (places_over plan span.from span.to))
   pub small : (a o : ℕ) → a < get_or ds v 0 → o < 4
       → get_or totals (4 * a + o) 0 + (i - span.from) ≤ entry_end * (i - span.from)
-
-pub totalling_start :
-    (ds s plan : List ℕ) (span : DS.Span) (v : ℕ) (x totals : List ℕ) → span.from ≤ span.to → 32 ≤ length totals
-    → Blank totals → Totalling ds s plan span v x span.from totals
-totalling_start ds s plan span v x totals h long blank =
-    record {
-      behind = omega arith;
-      ahead = h;
-      long = long;
-      sums = λ a o k l. omega (arith, blank (4 * a + o));
-      small = λ a o k l. omega (arith, blank (4 * a + o));
-    }
 
 module _
     {ds s plan : List ℕ} {span : DS.Span} {v : ℕ} {x : List ℕ} {i : ℕ} {totals : List ℕ}

@@ -7,7 +7,6 @@ use native.Mathlib.Omega.{arith}
 use borrow.Author.Count.{below_more}
 use lib.ListN.{length, get_or, set, length-set}
 use lib.Seq.{get_or-set_same, get_or-set_other}
-use Rattle.branch_buckets.specs.Adding.{PartFilled, RowFilled}
 
 -- j of n numbers from `at` on are f's, the others are as before
 pub record Filling (f : ℕ → ℕ) (at n : ℕ) (before : List ℕ) (j : ℕ) (rows : List ℕ) : Type 0 where
@@ -25,9 +24,6 @@ filling_start f at n before = record {
 }
 
 module _ {f : ℕ → ℕ} {at n : ℕ} {before : List ℕ} {j : ℕ} {rows : List ℕ} (u : Filling f at n before j rows) where
-  pub filling_same : get_or rows (at + j) 0 ≡ get_or before (at + j) 0
-  filling_same = u.rest (at + j) (inr (omega arith))
-
   filling_put : at + n ≤ length before → j < n → (y : ℕ) → y ≡ f j → Filling f at n before (j + 1) (set rows (at + j) y)
   filling_put room more y is =
       let inside : at + j < length rows = omega (arith, u.long) in
@@ -48,31 +44,8 @@ module _ {f : ℕ → ℕ} {at n : ℕ} {before : List ℕ} {j : ℕ} {rows : Li
       → Filling f at n before (j + 1) (set rows i y)
   filling_next room more y is i e = rw e (filling_put room more y is)
 
-  pub filling_end : n ≤ j → PartFilled f at n before rows
-  filling_end h =
-      record {
-        part = λ i l. u.done i (omega arith);
-        lower = λ i l. u.rest i (inl l);
-        higher = λ i l. u.rest i (inr (omega (arith, u.few)));
-      }
-
 -- the rows of the values below a are f's, what follows is as before
 pub record RowsFilled (f : ℕ → ℕ → ℕ) (before : List ℕ) (a : ℕ) (rows : List ℕ) : Type 0 where
   pub long : length rows ≡ length before
   pub done : (b j : ℕ) → b < a → j < 8 → get_or rows (8 * b + j) 0 ≡ f b j
   pub rest : (i : ℕ) → 8 * a ≤ i → get_or rows i 0 ≡ get_or before i 0
-
-pub rows_start : (f : ℕ → ℕ → ℕ) (before : List ℕ) → RowsFilled f before 0 before
-rows_start f before = record { long = refl; done = λ b j h. absurd (omega arith); rest = λ i h. refl }
-
-pub rows_next : {f : ℕ → ℕ → ℕ} {g : ℕ → ℕ} {before : List ℕ} {a : ℕ} {rows rows' : List ℕ} → RowsFilled f before a rows
-    → RowFilled g (8 * a) rows rows' → length rows' ≡ length rows → ((j : ℕ) → j < 8 → g j ≡ f a j)
-    → RowsFilled f before (a + 1) rows'
-rows_next {f} {g} {before} {a} {rows} {rows'} u w long same =
-    record {
-      long = long ∙ u.long;
-      done =
-          λ b j h. below_more (λ b. (j : ℕ) → j < 8 → get_or rows' (8 * b + j) 0 ≡ f b j) a
-          (λ b h j l. w.lower (8 * b + j) (omega arith) ∙ u.done b j h l) (λ j l. w.part j l ∙ same j l) b h j;
-      rest = λ i h. w.higher i (omega arith) ∙ u.rest i (omega arith);
-    }

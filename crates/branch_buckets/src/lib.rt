@@ -64,20 +64,14 @@ struct Totals {
 pub fn byte_at(s: &[u8], i: usize) -> usize
     ensures { (result ≡ get_or s.now i 0) × (result < byte_end) }
 {
-    if i < s.len() {
-        return s[i] as usize;
-    }
-    0
+    s.get(i).map_or(0, |b| *b as usize)
 }
 
 // Number `i` of the plan, or 0 behind the end.
 pub fn number_at(plan: &[u32], i: usize) -> usize
     ensures { (result ≡ get_or plan.now i 0) × (result < word_end) }
 {
-    if i < plan.len() {
-        return plan[i] as usize;
-    }
-    0
+    plan.get(i).map_or(0, |n| *n as usize)
 }
 
 // The variable at position `k`.
@@ -134,7 +128,8 @@ fn term_of(u: usize, t: usize, v: usize, choice: &[u8]) -> Progression
     }
 }
 
-// Message `g` of the plan.
+// Message `g` of the plan. In place at both calls, so that its numbers stay in registers.
+#[inline(always)]
 fn message_of(g: usize, plan: &[u32]) -> Message
     requires { g < word_end }
     ensures { MessageHas plan.now g result }

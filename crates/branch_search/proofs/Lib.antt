@@ -12,4 +12,5 @@ pub mod Zoning
 pub mod Leaf
 pub mod Opening
 pub mod Trying
+pub mod Values
 pub mod Passes

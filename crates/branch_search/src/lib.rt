@@ -19,7 +19,7 @@ ghost use Rattle.branch_search.specs.States.{reaching, unended, Between, Passed,
 ghost use Rattle.branch_search.specs.Passes.{ZonesWritten, ZonesHold};
 
 // The limit while nothing is left out: no leading sum is as large. A value that was tried counts as having this one.
-const NO_LIMIT: u64 = 18446744073709551615;
+const NO_LIMIT: u64 = u64::MAX;
 
 // After so many passes the search is given up.
 const MAX_PASSES: usize = 66;
@@ -77,11 +77,9 @@ impl Node {
         requires { (self.depth < max_variables) × (variable < max_variables) × (value < max_domain) }
         ensures { result ≡ extended self variable value bound }
     {
-        let x = self.choice;
-        let choice = branch_buckets::with_value(x, variable, value);
-        let depth = self.depth + 1;
+        let choice = branch_buckets::with_value(self.choice, variable, value);
         Node {
-            depth,
+            depth: self.depth + 1,
             choice,
             bound,
         }
@@ -94,12 +92,8 @@ fn count_opened(run: branch_pruning::Progress) -> branch_pruning::Progress
     ensures { result ≡ spent run }
 {
     branch_pruning::Progress {
-        points: run.points,
-        zones: run.zones,
-        limit: run.limit,
         left: run.left - 1,
-        done: run.done,
-        meets: run.meets,
+        ..run
     }
 }
 
@@ -117,9 +111,8 @@ fn count_met(
         points,
         zones,
         limit,
-        left: run.left,
-        done: run.done,
         meets: run.meets - 1,
+        ..run
     }
 }
 
@@ -127,14 +120,7 @@ fn count_met(
 fn stop(run: branch_pruning::Progress) -> branch_pruning::Progress
     ensures { result ≡ stopped run }
 {
-    branch_pruning::Progress {
-        points: run.points,
-        zones: run.zones,
-        limit: run.limit,
-        left: 0,
-        done: run.done,
-        meets: run.meets,
-    }
+    branch_pruning::Progress { left: 0, ..run }
 }
 
 // A complete choice is met: it is taken into the archive, and where it is new out of the zones.
@@ -158,7 +144,8 @@ fn take_leaf(
     let p = d.objectives;
     let ceilings = task.ceilings;
     let costs = branch_pruning::front_of(bound);
-    if !vectors::is_under(costs, ceilings, p) {
+    let is_over = !vectors::is_under(costs, ceilings, p);
+    if is_over {
         return run;
     }
     if branch_directions::lead_of(bound, d) >= run.limit {
@@ -188,11 +175,9 @@ fn split_all(c: usize, m: usize, d: branch_directions::Directions, work: &mut [u
         → ZonesHold d c ceilings work.old work.new result) }
 {
     let mut zones = m;
-    let mut i: usize = 0;
-    while i < c {
+    for i in 0..c {
         let costs = rows::row_costs(i, work);
         zones = branch_zones::split_zones(costs, zones, d, &mut work[..layout::ZONES_END]);
-        i += 1;
     }
     zones
 }
@@ -219,7 +204,7 @@ fn add_finished(finished: u64, left: u64) -> u64 {
     if left == 0 {
         return finished;
     }
-    std::num::wrapping_add_u64(finished, WHOLE)
+    finished.wrapping_add(WHOLE)
 }
 
 // Where a pass is given up below a partial choice, it came so far: what is finished of the `size` values of the next
@@ -231,14 +216,9 @@ fn part_done(run: branch_pruning::Progress, finished: u64, size: usize) -> branc
     if run.left > 0 {
         return run;
     }
-    let parts = std::num::wrapping_add_u64(finished, run.done);
     branch_pruning::Progress {
-        points: run.points,
-        zones: run.zones,
-        limit: run.limit,
-        left: run.left,
-        done: parts / size as u64,
-        meets: run.meets,
+        done: finished.wrapping_add(run.done) / size as u64,
+        ..run
     }
 }
 
@@ -429,14 +409,12 @@ pub fn explore(
 {
     let mut points = from.points;
     let mut left = from.budget;
-    let mut pass: usize = 0;
-    while pass < MAX_PASSES {
+    for pass in 0..MAX_PASSES {
         let t = run_pass(points, left, s, sizes, task, d, work);
-        pass += 1;
         let effort = Effort {
             left: t.left,
             done: t.done,
-            passes: pass as u64,
+            passes: pass as u64 + 1,
         };
         if t.left == 0 {
             return given_up(t.points, effort);
@@ -449,7 +427,8 @@ pub fn explore(
                 effort,
             };
         }
-        if t.limit == NO_LIMIT {
+        let is_last = t.limit == NO_LIMIT;
+        if is_last {
             branch_archive::sort_points(t.points, d.objectives, work);
             return Explored {
                 decided: true,
@@ -464,7 +443,7 @@ pub fn explore(
     let effort = Effort {
         left,
         done: 0,
-        passes: pass as u64,
+        passes: MAX_PASSES as u64,
     };
     given_up(points, effort)
 }

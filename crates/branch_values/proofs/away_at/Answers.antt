@@ -6,9 +6,7 @@ use Rattle.branch_values.proofs.away_at.Goals as goal
 
 pub sent-requires : goal.sent-requires
 sent-requires c =
-    let t = c.requires.1 in (
-      t.ends.messages c.args.k c.requires.3,
-      messages_inside t c.args.k (omega (arith, c.requires.3)),
-      width_few c.args.d c.requires.0.sensible,
-      c.requires.0.long,
-    )
+    let t = c.requires.1 in
+    let falls = t.ends.messages c.args.k c.requires.3 in
+    let few = messages_inside t c.args.k (omega (arith, c.requires.3)) in
+    (omega (arith, falls), omega (arith, falls, few), width_few c.args.d c.requires.0.sensible, c.requires.0.long)
