@@ -14,11 +14,13 @@ ghost use Rattle.text_lines.specs.Written.{Written};
 ghost use Rattle.text_networks.specs.Findings.{fine, values_in};
 ghost use Rattle.text_networks.specs.Networks.{function_table, function_tables, network_finding, network_problem};
 ghost use Rattle.text_networks.specs.Conversions.{from_text_outcome};
-ghost use Rattle.text_networks.specs.Says.{answer, ConvertSays};
+ghost use Rattle.text_networks.specs.Says.{ConvertSays};
 ghost use Rattle.text_reading.specs.Heads.{HeadSays, head_form, DomainsSay, domain_list};
 ghost use Rattle.text_reading.specs.Functions.{ScopeAt, ScopeSays, FunctionAt, FunctionSays, table_head};
 ghost use Rattle.text_reading.specs.Functions.{TuplePlace, TuplePut, TuplesPlace, TuplesPut, FunctionPut};
 ghost use Rattle.text_reading.specs.Functions.{FunctionsAt};
+
+use model::{Reason, Refusal};
 
 // The numbers of the first line, with the ceiling for its upper bound, and the place behind them.
 #[derive(Clone, Copy)]
@@ -292,35 +294,21 @@ fn put_records(s: &[u8], out: &mut [u8])
     put_functions(s, domains.end, head.functions, domains, tables, out);
 }
 
-fn refused(number: u8) -> text_networks::Converted
-    ensures { result ≡ answer number 0 0 }
-{
-    text_networks::Converted {
-        number,
-        place: 0,
-        count: 0,
-    }
-}
-
 // The records of a text, over the start of a buffer. All of the text is checked before anything is written.
-pub fn from_text(text: &[u8], problem: &mut [u8]) -> text_networks::Converted
+pub fn from_text(text: &[u8], problem: &mut [u8]) -> Result<u32, Refusal>
     ensures { ConvertSays (from_text_outcome text.now problem.old)
         problem.new result }
 {
     let bytes = match text_checking::check_network(text) {
         Ok(bytes) => bytes,
-        Err(reason) => return refused(reason.number()),
+        Err(reason) => return Err(reason.at(0)),
     };
     if 60000 < bytes {
-        return refused(18);
+        return Err(Reason::Dialect.at(0));
     }
     if problem.len() < bytes {
-        return refused(19);
+        return Err(Reason::Output.at(0));
     }
     put_records(text, problem);
-    text_networks::Converted {
-        number: 0,
-        place: 0,
-        count: bytes as u32,
-    }
+    Ok(bytes as u32)
 }
