@@ -36,7 +36,7 @@ pub fn slots_in(bytes: usize) -> usize
     (bytes / SLOT_SIZE).min(MAX_SLOTS)
 }
 
-// Whether a slot starts with a form.
+// Whether a slot starts with a form: by chunks without a way out in them, so that many bytes go at once.
 fn starts_with(slot: &[u8], form: &[u8]) -> bool
     requires { length form.now ≤ length slot.now }
     ensures { result ≡ same (take (length form.now) slot.now) form.now }
