@@ -70,8 +70,8 @@ fn solve_frame(
         costs.old choices.old results.old work.old
         costs.new choices.new results.new work.new result }
 {
-    let frame = batch_frames::frame_of(rest);
-    let end = batch_frames::FRAME_HEAD + frame.size;
+    let size = batch_frames::frame_of(rest).unwrap_or(0);
+    let end = batch_frames::FRAME_HEAD + size;
     let c = batch_frames::COST_AREA * k;
     let x = batch_frames::CHOICE_AREA * k;
     let solved = solve_call::solve_with(

@@ -1,24 +1,21 @@
 -- What reading the frames of a batch gives, and what stands in a problem's areas.
-use Rattle.std.specs.Prelude.{◌≡◌, true, List, ◌++◌, ℕ, ◌+◌, ◌*◌, ◌≤◌, ltb, length, take, drop}
+use Rattle.std.specs.Prelude.{◌≡◌, true, false, Option, MatchOption, List, ◌++◌, ℕ, ◌+◌, ◌*◌, ◌≤◌, ltb, length}
+use Rattle.std.specs.Prelude.{take, drop}
 use Rattle.model.specs.Basics.{pick, when}
 use Rattle.model.specs.Limits.{work_need}
 use Rattle.model.specs.Refusals.{work_short, Verdict, verdict, accepted, first}
 use Rattle.model.specs.Calls.{answers}
 use Rattle.batch_frames.specs.Batches.{max_batch, frame_ok, frame_size, batch_ok, batch_of}
 use Rattle.batch_frames.specs.Outcomes.{frame_verdict}
-use Rattle.batch_frames.specs.declared.Frame as DF
-use Rattle.batch_frames.specs.declared.Frames as DS
 use Rattle.batch_frames.specs.declared.Judged as DJ
 
--- the frame that starts s
-pub record FrameSays (s : List ℕ) (r : DF.Frame) : Type 0 where
-  pub whole : r.whole ≡ frame_ok s
-  pub size : frame_ok s ≡ true → r.size ≡ frame_size s
+-- the frame that starts s: how many bytes its problem has, where it is whole
+abbrev pub FrameSays : List ℕ → Option ℕ → Type 0
+FrameSays s r = MatchOption r (frame_ok s ≡ false) (λ size. (frame_ok s ≡ true) × (size ≡ frame_size s))
 
--- all frames of s
-pub record FramesSays (s : List ℕ) (r : DS.Frames) : Type 0 where
-  pub whole : r.whole ≡ batch_ok s
-  pub count : batch_ok s ≡ true → r.count ≡ length (batch_of s)
+-- all frames of s: how many they are, where they make up all of it
+abbrev pub FramesSays : List ℕ → Option ℕ → Type 0
+FramesSays s r = MatchOption r (batch_ok s ≡ false) (λ count. (batch_ok s ≡ true) × (count ≡ length (batch_of s)))
 
 -- what is refused before any problem is looked at, by the lengths of the lent buffers: `batch_verdict`
 unfoldable pub judgement : List ℕ → (costs choices results memory : ℕ) → Verdict

@@ -23,65 +23,42 @@ const RESULT_AREA: usize = 3;
 // The least length of a work buffer.
 const LEAST_WORK: usize = 8192;
 
-// What starts with a frame: whether the frame is whole, and then how many bytes its problem has.
-#[derive(Clone, Copy)]
-pub struct Frame {
-    pub whole: bool,
-    pub size: usize,
-}
-
-// The frame that starts some bytes. Its length is compared with the bytes that are left.
-pub fn frame_of(s: &[u8]) -> Frame
+// How many bytes the problem has in the frame that starts some bytes, if that frame is whole. Its length is compared
+// with the bytes that are left.
+pub fn frame_of(s: &[u8]) -> Option<usize>
     ensures { FrameSays s.now result }
 {
-    let broken = Frame {
-        whole: false,
-        size: 0,
-    };
     if s.len() < FRAME_HEAD {
-        return broken;
+        return None;
     }
     if s[0] != b'B' {
-        return broken;
+        return None;
     }
     if s[1] != b'P' {
-        return broken;
+        return None;
     }
     let size = problem::four_at(s, 2) as usize;
     if s.len() - FRAME_HEAD < size {
-        return broken;
+        return None;
     }
-    Frame { whole: true, size }
+    Some(size)
 }
 
-// Whether frames make up all of a batch, 16 at most, and then how many.
-#[derive(Clone, Copy)]
-pub struct Frames {
-    pub whole: bool,
-    pub count: usize,
-}
-
-pub fn frames_of(batch: &[u8]) -> Frames
+// How many frames a batch has, if they make up all of it, 16 at most.
+pub fn frames_of(batch: &[u8]) -> Option<usize>
     ensures { FramesSays batch.now result }
 {
-    let broken = Frames {
-        whole: false,
-        count: 0,
-    };
     let mut at: usize = 0;
     let mut count: usize = 0;
     while at < batch.len() {
         if count == MAX_BATCH {
-            return broken;
+            return None;
         }
-        let frame = frame_of(&batch[at..]);
-        if !frame.whole {
-            return broken;
-        }
-        at += FRAME_HEAD + frame.size;
+        let size = frame_of(&batch[at..])?;
+        at += FRAME_HEAD + size;
         count += 1;
     }
-    Frames { whole: true, count }
+    Some(count)
 }
 
 // Whether buffers of these lengths have areas for so many problems.
@@ -115,20 +92,16 @@ fn refused(number: u8) -> Judged
 pub fn judge(batch: &[u8], costs: usize, choices: usize, results: usize, memory: usize) -> Judged
     ensures { JudgedSays batch.now costs choices results memory result }
 {
-    let frames = frames_of(batch);
-    if !frames.whole {
+    let Some(count) = frames_of(batch) else {
         return refused(21);
-    }
-    if !areas_fit(frames.count, costs, choices, results) {
+    };
+    if !areas_fit(count, costs, choices, results) {
         return refused(21);
     }
     if memory < LEAST_WORK {
         return refused(12);
     }
-    Judged {
-        number: 0,
-        count: frames.count,
-    }
+    Judged { number: 0, count }
 }
 
 // Number, place and count of problem `k` in its area of the result list.
@@ -138,7 +111,7 @@ pub fn put_result(results: &mut [u32], k: usize, number: u8, place: u32, count: 
         ≡ in_area result_area k (number ∷ place ∷ count ∷ []) results.old }
 {
     let at = RESULT_AREA * k;
-    results[at] = problem::wide(number);
+    results[at] = u32::from(number);
     results[at + 1] = place;
     results[at + 2] = count;
 }

@@ -13,16 +13,6 @@ pub struct Cached {
     pub hit: bool,
 }
 
-// 1 for a hit, else 0.
-fn hit_byte(hit: bool) -> u8
-    ensures { result ≡ when hit 1 }
-{
-    if hit {
-        return 1;
-    }
-    0
-}
-
 // The answer for C: the number is the result, the others go through references.
 pub fn tell(cached: Cached, place: &mut u32, count: &mut u32, hit: &mut u8) -> u8
     ensures { (result ≡ cached.number) × (place.new ≡ cached.place)
@@ -30,6 +20,6 @@ pub fn tell(cached: Cached, place: &mut u32, count: &mut u32, hit: &mut u8) -> u
 {
     *place = cached.place;
     *count = cached.count;
-    *hit = hit_byte(cached.hit);
+    *hit = u8::from(cached.hit);
     cached.number
 }

@@ -38,11 +38,10 @@ pub fn solve_cached(
     let mut form = [0u8; 60000];
     form_call::put_form(problem, head, &sizes[..n], &mut form);
     let count = problem.len();
-    let k = cache_store::find_form(store, &form[..count]);
-    if k < cache_store::slots_in(store.len()) {
-        return answer_held(store, k, head, costs, choices, work);
+    match cache_store::find_form(store, &form[..count]) {
+        Some(k) => answer_held(store, k, head, costs, choices, work),
+        None => answer_anew(problem, &form[..count], head, costs, choices, work, store),
     }
-    answer_anew(problem, &form[..count], head, costs, choices, work, store)
 }
 
 fn refused(number: u8, place: u32, hit: bool) -> cache_answers::Cached

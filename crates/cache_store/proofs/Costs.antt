@@ -1,13 +1,15 @@
 -- Costs read from a store one by one, and written to it.
 use mathlib.Core.Path.{◌≡◌, refl, ◌∙◌, ap}
-use mathlib.Core.List.{List, ◌++◌, append_assoc}
-use Prim.Native.Nat.{ℕ, suc, ◌+◌, ◌*◌, ◌/◌, ◌%◌, ◌≤◌, ◌<◌}
+use mathlib.Core.List.{List, [], ◌∷◌, ◌++◌}
+use Prim.Native.Nat.{ℕ, suc, ◌+◌, ◌*◌, ◌/◌, ◌%◌, ◌^◌, ◌≤◌, ◌<◌}
 use native.Mathlib.Numerals.{add-one}
 use native.Mathlib.Omega.{arith}
 use lib.ListN.{length, get_or, take, drop, set, drop_of_length-le}
-use lib.Seq.{drop-cons, drop-drop, sets-eq}
+use lib.Seq.{drop-cons, drop-drop}
 use Rattle.model.specs.Encoding.{four_bytes, two_bytes, word_bytes}
 use Rattle.model.specs.Reading.{word4, words_in}
+use Rattle.std.specs.Int.{to_le_bytes}
+use Rattle.std.proofs.Common.{w32}
 use Rattle.model.specs.Calls.{over}
 use Rattle.problem.proofs.Filled.{over_step, over_end}
 use Rattle.form_canonical.specs.Places.{over_at}
@@ -31,18 +33,15 @@ pub rest_none : (s : List ℕ) (at i : ℕ) (costs : List ℕ) → rest s at 0 i
 unfolding words_in
 rest_none s at i costs = over_end i costs
 
--- four bytes stored one after the other
-pub four_stored : (x at : ℕ) (out : List ℕ) → at + 4 ≤ length out
-    → set (set (set (set out at (x % 65536 % 256)) (at + 1) (x % 65536 / 256)) (at + 2) (x / 65536 % 256))
-    (at + 3) (x / 65536 / 256)
-    ≡ over_at at (four_bytes x) out
+-- std's bytes of a number, the low one first, are its four bytes
+pub four_low_first : (x : ℕ) → x < 2 ^ 32 → to_le_bytes w32 x ≡ four_bytes x
 unfolding four_bytes two_bytes
-four_stored x at out h =
-    let one : at + 1 ≡ suc at = omega arith in
-    let two : at + 2 ≡ suc (suc at) = omega arith in
-    let three : at + 3 ≡ suc (suc (suc at)) = omega arith in
-    rw (one, two, three)
-    (sets-eq (four_bytes x) out at h ∙ append_assoc (take at out) (four_bytes x) (drop (at + 4) out))
+four_low_first x h =
+    let first : x % 256 ≡ x % 65536 % 256 = omega arith in
+    let second : x / 256 % 256 ≡ x % 65536 / 256 = omega arith in
+    let third : x / 65536 % 256 ≡ x / 65536 % 256 = refl in
+    let last : x / 16777216 % 256 ≡ x / 65536 / 256 = omega arith in
+    λ i. first i ∷ second i ∷ third i ∷ last i ∷ []
 
 -- one more cost written behind those before it
 pub cost_written : (costs : List ℕ) (at i : ℕ) (out whole : List ℕ) → i < length costs

@@ -1,7 +1,7 @@
 // A store of solved problems in lent memory: which slot holds a form, loading its answer, and saving one.
 #![tactic(auto)]
 
-ghost use Rattle.std.specs.Prelude.{◌≡◌, ◌+◌, ◌*◌, ◌/◌, ◌≤◌, ◌<◌, min, length, take, drop};
+ghost use Rattle.std.specs.Prelude.{◌≡◌, ◌+◌, ◌*◌, ◌/◌, ◌≤◌, ◌<◌, min, length, take, drop, MatchOption};
 ghost use Rattle.model.specs.Limits.{max_points};
 ghost use Rattle.model.specs.Encoding.{four_bytes, word_bytes};
 ghost use Rattle.model.specs.Reading.{word4, words_in};
@@ -29,34 +29,29 @@ const NEXT_AT: usize = 62568;
 // How many bytes are compared without a test between them.
 const CHUNK: usize = 512;
 
-fn lesser(a: usize, b: usize) -> usize
-    ensures { result ≡ min a b }
-{
-    if a < b { a } else { b }
-}
-
 // How many slots a store of so many bytes has.
 pub fn slots_in(bytes: usize) -> usize
     ensures { result ≡ min (bytes / slot_size) max_slots }
 {
-    lesser(bytes / SLOT_SIZE, MAX_SLOTS)
+    (bytes / SLOT_SIZE).min(MAX_SLOTS)
 }
 
-// Whether a slot starts with a form.
+// Whether a slot starts with a form: by chunks without a way out in them, so that many bytes go at once.
 fn starts_with(slot: &[u8], form: &[u8]) -> bool
     requires { length form.now ≤ length slot.now }
     ensures { result ≡ same (take (length form.now) slot.now) form.now }
 {
-    let mut i: usize = 0;
-    while i < form.len() {
-        let left = form.len() - i;
-        let end = i + lesser(left, CHUNK);
+    let count = form.len();
+    let chunks = count / CHUNK;
+    for k in 0..chunks {
+        let i = k * CHUNK;
+        let end = i + CHUNK;
         if !form_order::is_same(&slot[i..end], &form[i..end]) {
             return false;
         }
-        i = end;
     }
-    true
+    let i = chunks * CHUNK;
+    form_order::is_same(&slot[i..count], &form[i..count])
 }
 
 // Whether a slot holds a form: its length word tells most others apart.
@@ -70,21 +65,21 @@ fn holds_form(slot: &[u8], form: &[u8]) -> bool
     starts_with(slot, form)
 }
 
-// The first slot that holds the form, or the number of slots.
-pub fn find_form(store: &[u8], form: &[u8]) -> usize
+// The first slot that holds the form, if one does: the search ends behind the slots where none does.
+pub fn find_form(store: &[u8], form: &[u8]) -> Option<usize>
     requires { length form.now ≤ costs_at }
-    ensures { result ≡ find_form (slots_in store.now) 0 form.now store.now }
+    ensures { MatchOption result
+        (find_form (slots_in store.now) 0 form.now store.now ≡ slots_in store.now)
+        (λ k. (k ≡ find_form (slots_in store.now) 0 form.now store.now) × (k < slots_in store.now)) }
 {
     let slots = slots_in(store.len());
-    let mut k: usize = 0;
-    while k < slots {
+    for k in 0..slots {
         let at = SLOT_SIZE * k;
         if holds_form(&store[at..], form) {
-            return k;
+            return Some(k);
         }
-        k += 1;
     }
-    k
+    None
 }
 
 // How many points the answer in slot `k` has.
@@ -94,7 +89,7 @@ pub fn count_in(store: &[u8], k: usize) -> usize
 {
     let at = SLOT_SIZE * k;
     let count = problem::four_at(&store[at..], COUNT_AT) as usize;
-    lesser(count, model::Point::MAX_COUNT)
+    count.min(model::Point::MAX_COUNT)
 }
 
 // The first `count` costs of the answer in slot `k`, over the start of a buffer.
@@ -104,10 +99,8 @@ pub fn load_costs(store: &[u8], k: usize, count: usize, costs: &mut [u32])
         ≡ over (words_in count (drop costs_at (slot_at store.now k))) costs.old }
 {
     let at = SLOT_SIZE * k + COSTS_AT;
-    let mut i: usize = 0;
-    while i < count {
+    for i in 0..count {
         costs[i] = problem::four_at(store, at + 4 * i);
-        i += 1;
     }
 }
 
@@ -118,7 +111,7 @@ pub fn load_choices(store: &[u8], k: usize, count: usize, choices: &mut [u8])
         ≡ over (take count (drop choices_at (slot_at store.now k))) choices.old }
 {
     let at = SLOT_SIZE * k + CHOICES_AT;
-    form_order::copy_bytes(store, at, at + count, 0, choices);
+    choices[..count].copy_from_slice(&store[at..at + count]);
 }
 
 // The slot that is written next.
@@ -144,12 +137,7 @@ fn put_four(x: u32, at: usize, out: &mut [u8])
     requires { at + 4 ≤ length out.old }
     ensures { out.new ≡ over_at at (four_bytes x) out.old }
 {
-    let low = x % 65536;
-    let high = x / 65536;
-    out[at] = (low % 256) as u8;
-    out[at + 1] = (low / 256) as u8;
-    out[at + 2] = (high % 256) as u8;
-    out[at + 3] = (high / 256) as u8;
+    out[at..at + 4].copy_from_slice(&x.to_le_bytes());
 }
 
 // The four bytes of each cost, at a place of a buffer.
@@ -157,10 +145,8 @@ fn put_costs(costs: &[u32], at: usize, out: &mut [u8])
     requires { at + 4 * length costs.now ≤ length out.old }
     ensures { out.new ≡ over_at at (word_bytes costs.now) out.old }
 {
-    let mut i: usize = 0;
-    while i < costs.len() {
-        put_four(costs[i], at + 4 * i, out);
-        i += 1;
+    for (i, &cost) in costs.iter().enumerate() {
+        put_four(cost, at + 4 * i, out);
     }
 }
 
@@ -175,9 +161,10 @@ pub fn save(store: &mut [u8], form: &[u8], points: usize, costs: &[u32], choices
     let k = next_slot(store);
     let after = slot_after(slots_in(store.len()), k);
     let at = SLOT_SIZE * k;
-    form_order::copy_bytes(form, 0, form.len(), at, store);
+    store[at..at + form.len()].copy_from_slice(form);
     put_costs(costs, at + COSTS_AT, store);
-    form_order::copy_bytes(choices, 0, choices.len(), at + CHOICES_AT, store);
+    let behind = at + CHOICES_AT;
+    store[behind..behind + choices.len()].copy_from_slice(choices);
     put_four(form.len() as u32, at + LENGTH_AT, store);
     put_four(points as u32, at + COUNT_AT, store);
     put_four(after as u32, NEXT_AT, store);

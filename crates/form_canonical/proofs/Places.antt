@@ -2,13 +2,12 @@
 -- and bytes written behind others.
 use mathlib.Core.Path.{◌≡◌, refl, sym, ap, ◌∙◌}
 use mathlib.Core.Logic.{◌⊎◌, inl, inr}
-use mathlib.Core.List.{List, [], ◌∷◌, ◌++◌, append_assoc}
-use Prim.Native.Nat.{ℕ, suc, ◌+◌, ◌≤◌, ◌<◌}
+use mathlib.Core.List.{List, [], ◌++◌, append_assoc}
+use Prim.Native.Nat.{ℕ, ◌+◌, ◌≤◌}
 use native.Mathlib.Nat.{add-zero}
-use native.Mathlib.Numerals.{add-one}
 use native.Mathlib.Omega.{arith}
-use lib.ListN.{length, get_or, take, drop, set, length-append, length-drop, take-append-drop}
-use lib.Seq.{length-take-le, take-append_seam, take-suc, take_at, drop_at, drop-drop, sets, sets-eq}
+use lib.ListN.{length, take, drop, length-append, length-drop, take-append-drop}
+use lib.Seq.{length-take-le, take-append_seam, take_at, drop_at, drop-drop}
 use Rattle.model.proofs.Lists.{part_same, drop_later}
 use Rattle.form_canonical.specs.Places.{over_at}
 
@@ -83,29 +82,3 @@ over_then at m xs ys out e h =
     (λ i. front i ++ (ys ++ behind i))
     ∙ append_assoc (take at out) xs (ys ++ drop (at + length (xs ++ ys)) out)
     ∙ ap (λ (l : List ℕ). take at out ++ l) (sym (append_assoc xs ys (drop (at + length (xs ++ ys)) out)))
-
--- byte by byte: one, and four of them
-sets_over : (at : ℕ) (xs out : List ℕ) → at + length xs ≤ length out → sets out at xs ≡ over_at at xs out
-sets_over at xs out h = sets-eq xs out at h ∙ append_assoc (take at out) xs (drop (at + length xs) out)
-
-pub over_byte : (at b : ℕ) (out : List ℕ) → at < length out → set out at b ≡ over_at at (b ∷ []) out
-over_byte at b out h = sets_over at (b ∷ []) out (omega arith)
-
-pub over_four : (at a b c d : ℕ) (out : List ℕ) → at + 4 ≤ length out
-    → set (set (set (set out at a) (at + 1) b) (at + 2) c) (at + 3) d ≡ over_at at (a ∷ b ∷ c ∷ d ∷ []) out
-over_four at a b c d out h =
-    let one : at + 1 ≡ suc at = omega arith in
-    let two : at + 2 ≡ suc (suc at) = omega arith in
-    let three : at + 3 ≡ suc (suc (suc at)) = omega arith in
-    rw (one, two, three) (sets_over at (a ∷ b ∷ c ∷ d ∷ []) out h)
-
--- one element of a list more
-pub over_next : (at k : ℕ) (xs out : List ℕ) → k < length xs → at + k < length out
-    → set (over_at at (take k xs) out) (at + k) (get_or xs k 0) ≡ over_at at (take (k + 1) xs) out
-over_next at k xs out h room =
-    let long = length-take-le k xs (omega arith) in
-    let same = over_length at (take k xs) out (omega arith) in
-    let more : take k xs ++ (get_or xs k 0 ∷ []) ≡ take (k + 1) xs = rw add-one (sym (take-suc xs k 0 h)) in
-    over_byte (at + k) (get_or xs k 0) (over_at at (take k xs) out) (omega arith)
-    ∙ over_then at (at + k) (take k xs) (get_or xs k 0 ∷ []) out (omega arith) (omega arith)
-    ∙ ap (λ (l : List ℕ). over_at at l out) more
