@@ -4,6 +4,7 @@ use mathlib.Core.Bool.{Bool, true, false}
 use mathlib.Core.List.{List}
 use Prim.Native.Nat.{ℕ, ◌≤◌, min}
 use native.Mathlib.Omega.{arith}
+use Rattle.std.specs.Prelude.{Option}
 use lib.Dec.{eqb, ltb}
 use lib.ListN.{length, replicate, length-replicate}
 use borrow.Author.Tests.{ne_eqb}
@@ -20,8 +21,7 @@ use Rattle.problem.specs.declared.Refusal as DR
 use Rattle.problem.specs.declared.Reading as DG
 use Rattle.problem.specs.Says.{RefusalSays}
 use Rattle.problem.proofs.Accepted.{AcceptedReading}
-use Rattle.pass_list.specs.declared.Found as DF
-use Rattle.pass_list.specs.Says.{FoundFor}
+use Rattle.pass_list.specs.Says.{FoundFor, is_full, count_of}
 use Rattle.answers.specs.declared.Listed as DI
 use Rattle.answers.specs.Says.{full_number, unlisted, found_rows, list_verdict, ListedSays}
 use Rattle.answers.proofs.Early.{early_verdict, early_limits, early_verdict_lem, room_verdict_lem}
@@ -62,7 +62,7 @@ module _ (s : List ℕ) (room : ℕ) (w : List ℕ) (bytes : All Byte s) where
 
   module _ (g : DG.Reading) (a : AcceptedReading s g) (enough : work_need ≤ length w)
       (none : (early_verdict s (length w)).number ≡ 0) (room' : ℕ) (room_as : room' ≡ min room max_points)
-      (f : DF.Found) (w1 : List ℕ) (says : FoundFor (problem_of s) room' w w1 f) where
+      (f : Option ℕ) (w1 : List ℕ) (says : FoundFor (problem_of s) room' w w1 f) where
     abbrev n : ℕ
     n = g.head.variables
 
@@ -73,28 +73,28 @@ module _ (s : List ℕ) (room : ℕ) (w : List ℕ) (bytes : All Byte s) where
     ps = frontier (problem_of s)
 
     abbrev rows_of : Bool → DI.Listed
-    rows_of t = record { number = full_number t; place = 0; count = f.count; objectives = p; variables = n }
+    rows_of t = record { number = full_number t; place = 0; count = count_of f; objectives = p; variables = n }
 
-    few : f.count ≤ room'
-    few = found_few f.full room' f.count (length ps) says.full says.count
+    few : count_of f ≤ room'
+    few = found_few (is_full f) room' (count_of f) (length ps) says.full says.count
 
-    told : (t : Bool) → f.full ≡ t → list_verdict s room w ≡ pick t (verdict full 0) accepted
+    told : (t : Bool) → is_full f ≡ t → list_verdict s room w ≡ pick t (verdict full 0) accepted
     told t e =
-        let test : f.full ≡ ltb (min room max_points) (length ps) =
+        let test : is_full f ≡ ltb (min room max_points) (length ps) =
         says.full ∙ ap (λ k. ltb k (length ps)) room_as in
-        rw (← e) (room_verdict_lem s w (min room max_points) none f.full test)
+        rw (← e) (room_verdict_lem s w (min room max_points) none (is_full f) test)
 
     -- in memory that is kept, or cleared where the list is too long
-    pub rows_end : (w2 : List ℕ) → w2 ≡ pick f.full (replicate (length w1) 0) w1
+    pub rows_end : (w2 : List ℕ) → w2 ≡ pick (is_full f) (replicate (length w1) 0) w1
         → ListedSays s room w w2 (found_rows g.head f)
     unfolding list_in work_after
-    rows_end w2 e = go f.full refl e
+    rows_end w2 e = go (is_full f) refl e
       where
-        go : (t : Bool) → f.full ≡ t → w2 ≡ pick t (replicate (length w1) 0) w1
+        go : (t : Bool) → is_full f ≡ t → w2 ≡ pick t (replicate (length w1) 0) w1
             → ListedSays s room w w2 (rows_of t)
         go true t z =
             let is : list_verdict s room w ≡ verdict full 0 = told true t in
-            let nothing : f.count ≡ 0 = rw t at says.count in
+            let nothing : count_of f ≡ 0 = rw t at says.count in
             let zero : w2 ≡ replicate (length w) 0 = z ∙ ap (λ k. replicate k 0) says.long in
             record {
               number = rw is refl;
@@ -115,7 +115,7 @@ module _ (s : List ℕ) (room : ℕ) (w : List ℕ) (bytes : All Byte s) where
             }
         go false t z =
             let is : list_verdict s room w ≡ accepted = told false t in
-            let list : list_in p n w1 0 f.count ≡ ps = rows_read s g a w1 f.count ∙ says.list t in
+            let list : list_in p n w1 0 (count_of f) ≡ ps = rows_read s g a w1 (count_of f) ∙ says.list t in
             record {
               number = rw is refl;
               place = rw is refl;
@@ -123,7 +123,7 @@ module _ (s : List ℕ) (room : ℕ) (w : List ℕ) (bytes : All Byte s) where
               fits = omega (arith, room_as, few);
               hold =
                   rw z
-                  (rows_hold s g a bytes w1 f.count false list (omega (arith, room_as, few))
+                  (rows_hold s g a bytes w1 (count_of f) false list (omega (arith, room_as, few))
                   (omega (arith, says.long, enough)));
               left = rw (is, z) (ap (λ k. replicate k 0) says.long);
               long = rw z says.long;

@@ -1,6 +1,6 @@
 -- What listing a problem promises: for every input, what the model's definition of the call says; and what its steps
 -- behind the search ensure.
-use Rattle.std.specs.Prelude.{◌≡◌, Bool, List, [], ℕ, ◌*◌, ◌≤◌, min, length, replicate}
+use Rattle.std.specs.Prelude.{◌≡◌, Bool, List, [], ℕ, ◌*◌, ◌≤◌, min, length, replicate, Option}
 use Rattle.model.specs.Basics.{pick, All}
 use Rattle.model.specs.Limits.{max_points}
 use Rattle.model.specs.Refusals.{full, Verdict}
@@ -12,7 +12,7 @@ use Rattle.model.specs.declared.Header as DM
 use Rattle.layout.specs.Layout.{list_end}
 use Rattle.rows.specs.Rows.{list_in}
 use Rattle.rows_out.specs.Records.{RowsHold}
-use Rattle.pass_list.specs.declared.Found as DF
+use Rattle.pass_list.specs.Says.{is_full, count_of}
 use Rattle.answers.specs.declared.Answer as DA
 use Rattle.answers.specs.declared.Listed as DI
 
@@ -38,8 +38,8 @@ abbrev pub full_number : Bool → ℕ
 full_number b = pick b full 0
 
 -- the answer by what was found
-abbrev pub found_answer : DF.Found → DA.Answer
-found_answer f = record { number = full_number f.full; place = 0; count = f.count }
+abbrev pub found_answer : Option ℕ → DA.Answer
+found_answer f = record { number = full_number (is_full f); place = 0; count = count_of f }
 
 -- what copying k rows to the flat buffers asks of them and of work memory
 pub record CopyAsked (p n k : ℕ) (costs choices work : List ℕ) : Type 0 where
@@ -58,12 +58,12 @@ pub record CopiedOut (p n k : ℕ) (costs choices work costs' choices' work' : L
 abbrev pub unlisted : ℕ → ℕ → DI.Listed
 unlisted number place = record { number = number; place = place; count = 0; objectives = 0; variables = 0 }
 
-abbrev pub found_rows : DM.Header → DF.Found → DI.Listed
+abbrev pub found_rows : DM.Header → Option ℕ → DI.Listed
 found_rows h f =
     record {
-      number = full_number f.full;
+      number = full_number (is_full f);
       place = 0;
-      count = f.count;
+      count = count_of f;
       objectives = h.objectives;
       variables = h.variables;
     }

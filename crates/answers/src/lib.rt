@@ -6,6 +6,7 @@ ghost use Rattle.std.specs.Prelude.{◌≡◌, ◌≤◌, eqb, length, replicate
 ghost use Rattle.model.specs.Basics.{pick};
 ghost use Rattle.model.specs.Limits.{max_bytes, max_points};
 ghost use Rattle.problem.specs.Says.{RefusalSays, ReadSays};
+ghost use Rattle.pass_list.specs.Says.{is_full, count_of};
 ghost use Rattle.answers.specs.Early.{early_of};
 ghost use Rattle.answers.specs.Says.{refusal, room_in, full_number, found_answer, CopyAsked, CopiedOut};
 ghost use Rattle.answers.specs.Says.{unlisted, found_rows, answer_of};
@@ -99,13 +100,13 @@ fn full_number(full: bool) -> u8
 }
 
 // The plain call's answer, by what was found.
-pub fn answer_of(found: pass_list::Found) -> Answer
-    requires { found.count ≤ max_points }
+pub fn answer_of(found: Option<usize>) -> Answer
+    requires { count_of found ≤ max_points }
     ensures { result ≡ found_answer found }
 {
-    let points = found.count as u32;
+    let points = found.unwrap_or(0) as u32;
     Answer {
-        number: full_number(found.full),
+        number: full_number(found.is_none()),
         place: 0,
         count: points,
     }
@@ -147,19 +148,19 @@ pub fn not_listed(early: problem::Refusal) -> Listed
 }
 
 // A list in work memory, by what was found; where it is longer than the room, work memory is cleared.
-pub fn found_rows(head: model::Header, found: pass_list::Found, work: &mut [u32]) -> Listed
+pub fn found_rows(head: model::Header, found: Option<usize>, work: &mut [u32]) -> Listed
     ensures { (result ≡ found_rows head found)
         × (work.new
-        ≡ pick found.full (replicate (length work.old) 0) work.old) }
+        ≡ pick (is_full found) (replicate (length work.old) 0) work.old) }
 {
     let list = Listed {
-        number: full_number(found.full),
+        number: full_number(found.is_none()),
         place: 0,
-        count: found.count,
+        count: found.unwrap_or(0),
         objectives: head.objectives as usize,
         variables: head.variables as usize,
     };
-    if found.full {
+    if found.is_none() {
         rows_out::clear(work);
         return list;
     }

@@ -1,7 +1,6 @@
 -- The passes over the sums: after k of them, work memory holds the first k of the best sums, and the halves' lists as
 -- before.
 use mathlib.Core.Path.{◌≡◌, refl, sym, ap, ◌∙◌}
-use mathlib.Core.Bool.{true, false}
 use mathlib.Core.List.Memᴰ.{append_right as in_right}
 use mathlib.Core.List.Memᴰ.{head as here}
 use mathlib.Core.List.{List, [], ◌∷◌, ◌++◌, Memᴰ as In}
@@ -70,7 +69,7 @@ module _ {p n a b : ℕ} {was : List ℕ} (halved : Halved p n 0 a b was) (ceili
 
     -- no sum is left
     pub merging_done : next ≡ None → (room : ℕ) → k ≤ room
-        → FoundSays p n (best sums) room was work (record { full = false; count = k })
+        → FoundSays p n (best sums) room was work (Some k)
     merging_done none = made_done u (best sums) (merge_none p n sums sized ps u.found (rw none at given))
 
     -- a sum is found
@@ -82,7 +81,7 @@ module _ {p n a b : ℕ} {was : List ℕ} (halved : Halved p n 0 a b was) (ceili
       longer = merge_some p n sums sized ps u.found x (rw some at given)
 
       pub merging_full : (room : ℕ) → room ≤ k
-          → FoundSays p n (best sums) room was work (record { full = true; count = 0 })
+          → FoundSays p n (best sums) room was work None
       merging_full = made_full u (best sums) x (merge_count p n sums sized (ps ++ (x ∷ [])) longer)
 
       wide : length x.costs ≡ p

@@ -150,7 +150,8 @@ pub fn next_sum(
     best
 }
 
-// Passes until no sum is left or the room is full.
+// Passes until no sum is left or the room is full: how many points the list has, or `None` where it is longer than
+// the room.
 pub fn merge_points(
     a: usize,
     b: usize,
@@ -159,30 +160,21 @@ pub fn merge_points(
     ceilings: [u64; 4],
     room: usize,
     work: &mut [u32],
-) -> pass_list::Found
+) -> Option<usize>
     requires { Halved p n 0 a b work.old × (room ≤ max_points) }
     ensures { FoundSays p n (best (sums_in p n ceilings work.old a b)) room
         work.old work.new result }
 {
     for k in 0..room {
         let Some(met) = next_sum(a, b, n, work, k, p, ceilings) else {
-            return pass_list::Found {
-                full: false,
-                count: k,
-            };
+            return Some(k);
         };
         let costs = met.costs;
         let choice = met.choice;
         rows::store_point(costs, choice, p, k, work);
     }
     match next_sum(a, b, n, work, room, p, ceilings) {
-        Some(_) => pass_list::Found {
-            full: true,
-            count: 0,
-        },
-        None => pass_list::Found {
-            full: false,
-            count: room,
-        },
+        Some(_) => None,
+        None => Some(room),
     }
 }

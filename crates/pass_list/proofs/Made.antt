@@ -1,10 +1,10 @@
 -- A list of the best points of a pool while it is made in work memory, one row for each point found.
 use mathlib.Core.Path.{◌≡◌, refl, sym, ap, ◌∙◌}
-use mathlib.Core.Bool.{true, false}
 use mathlib.Core.List.{List, [], ◌∷◌, ◌++◌}
 use Prim.Native.Nat.{ℕ, ◌+◌, ◌≤◌}
 use native.Mathlib.Omega.{arith}
 use lib.ListN.{length, take, drop, length-append}
+use Rattle.std.specs.Prelude.{Some, None}
 use borrow.Author.Tests.{lt-ltb, le-ltb}
 use Rattle.model.specs.Limits.{max_objectives, max_variables, max_points}
 use Rattle.model.specs.Frontiers.{Point, point}
@@ -35,7 +35,7 @@ module _ {P : Pool} {p n : ℕ} {was work : List ℕ} {k : ℕ} (u : Made P p n 
 
   -- it has all points
   pub made_done : (fs : List Point) → ps ≡ fs → (room : ℕ) → k ≤ room
-      → FoundSays p n fs room was work (record { full = false; count = k })
+      → FoundSays p n fs room was work (Some k)
   made_done fs all room h =
       let long : length fs ≡ k = ap length (sym all) ∙ rows_length p n work 0 k in
       record {
@@ -47,7 +47,7 @@ module _ {P : Pool} {p n : ℕ} {was work : List ℕ} {k : ℕ} (u : Made P p n 
 
   -- it has one point more
   pub made_full : (fs : List Point) (x : Point) → length (ps ++ (x ∷ [])) ≤ length fs → (room : ℕ) → room ≤ k
-      → FoundSays p n fs room was work (record { full = true; count = 0 })
+      → FoundSays p n fs room was work None
   made_full fs x more room h =
       record {
         full = sym (lt-ltb room (length fs) (omega (arith, length-append ps (x ∷ []), rows_length p n work 0 k)));

@@ -1,7 +1,6 @@
 -- The passes: after k of them, work memory holds the first k points of the frontier list; the records with their
 -- groups, the gains and what stands behind the list are as before.
 use mathlib.Core.Path.{◌≡◌, refl, sym, ap, ◌∙◌, subst}
-use mathlib.Core.Bool.{true, false}
 use Rattle.std.specs.Prelude.{Option, Some, None}
 use mathlib.Core.List.Memᴰ.{append_right as in_right}
 use mathlib.Core.List.Memᴰ.{head as here}
@@ -106,7 +105,7 @@ module _ {task : DT.Task} {ds s was : List ℕ} (setting : Setting task 0 ds s w
       listed : ps ≡ core_frontier q
       listed = pass_none q ps u.made.found (rw none at after)
 
-      pub says_done : (room : ℕ) → k ≤ room → CoreFound q room was work (record { full = false; count = k })
+      pub says_done : (room : ℕ) → k ≤ room → CoreFound q room was work (Some k)
       says_done = made_done u.made (core_frontier q) listed
 
     -- a point is found
@@ -117,7 +116,7 @@ module _ {task : DT.Task} {ds s was : List ℕ} (setting : Setting task 0 ds s w
       longer : Prefix (CoreReached q) (ps ++ (x ∷ []))
       longer = pass_some q ps x u.made.found (rw some at after)
 
-      pub says_full : (room : ℕ) → room ≤ k → CoreFound q room was work (record { full = true; count = 0 })
+      pub says_full : (room : ℕ) → room ≤ k → CoreFound q room was work None
       says_full = made_full u.made (core_frontier q) x (found_count q (ps ++ (x ∷ [])) longer)
 
       reached : CoreReached q x

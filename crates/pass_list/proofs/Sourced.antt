@@ -20,7 +20,7 @@ use Rattle.groups.specs.Sources.{source_in, source_problem, Source}
 use Rattle.groups.specs.declared.Task as DT
 use Rattle.pass_suffixes.specs.Gained.{Left}
 use Rattle.pass_list.specs.Says.{CoreFound}
-use Rattle.pass_list.specs.declared.Found as DF
+use Rattle.std.specs.Prelude.{Option}
 use Rattle.pass_list.proofs.Since.{says_since}
 
 -- the gains of a problem's records are found
@@ -109,7 +109,7 @@ module _ {task : DT.Task} {ds s was gained : List ℕ} (u : Gained task ds s was
           subst (λ (q : Problem). Gains q (gains_in p work)) (sym same_problem)
           (subst (λ (gs : ℕ → List ℕ). Gains (source_problem task ds s was) gs) e u.known)
 
-      pub grouped_says : (room : ℕ) (work' : List ℕ) (f : DF.Found)
+      pub grouped_says : (room : ℕ) (work' : List ℕ) (f : Option ℕ)
           → CoreFound (problem_in task ds s work) room work work' f
           → CoreFound (source_problem task ds s was) room was work' f
       grouped_says room work' f =

@@ -8,21 +8,15 @@ ghost use Rattle.pass_search.specs.States.{problem_in, gains_in, Setting, Stands
 ghost use Rattle.groups.specs.Sources.{Source, source_problem};
 ghost use Rattle.pass_list.specs.Says.{CoreFound};
 
-// Whether the list is longer than the room, and else how many points it has.
-#[derive(Clone, Copy)]
-pub struct Found {
-    pub full: bool,
-    pub count: usize,
-}
-
-// Passes until no point is left or the room is full.
+// Passes until no point is left or the room is full: how many points the list has, or `None` where it is longer than
+// the room.
 pub fn find_points(
     root: pass_search::Partial,
     s: &[u8],
     sizes: &[u8],
     task: groups::Task,
     work: &mut [u32],
-) -> Found
+) -> Option<usize>
     requires { Setting task 0 sizes.now s.now work.old
         × Stands task.records sizes.now s.now work.old root × (root.len ≡ 0) × (task.room ≤ max_points)
         × Gains (problem_in task sizes.now s.now work.old) (gains_in task.objectives work.old) }
@@ -33,29 +27,20 @@ pub fn find_points(
     let room = task.room;
     for k in 0..room {
         let Some(met) = pass_search::next_point(root, s, sizes, work, task, k) else {
-            return Found {
-                full: false,
-                count: k,
-            };
+            return Some(k);
         };
         let costs = met.costs;
         let choice = met.choice;
         rows::store_point(costs, choice, p, k, work);
     }
     match pass_search::next_point(root, s, sizes, work, task, room) {
-        Some(_) => Found {
-            full: true,
-            count: 0,
-        },
-        None => Found {
-            full: false,
-            count: room,
-        },
+        Some(_) => None,
+        None => Some(room),
     }
 }
 
 // The frontier list of a task whose records' places stand in work memory where a problem's records are.
-pub fn find_source(s: &[u8], sizes: &[u8], task: groups::Task, work: &mut [u32]) -> Found
+pub fn find_source(s: &[u8], sizes: &[u8], task: groups::Task, work: &mut [u32]) -> Option<usize>
     requires { Source task sizes.now s.now work.old × (task.room ≤ max_points) }
     ensures { CoreFound (source_problem task sizes.now s.now work.old)
         task.room work.old work.new result }
