@@ -28,8 +28,8 @@ use Rattle.layout.specs.Layout.{first_row, second_row}
 use Rattle.problem.specs.declared.Reading as DG
 use Rattle.problem.proofs.Accepted.{AcceptedReading}
 use Rattle.problem.proofs.Readings.{ceilings_are, domains_small}
-use Rattle.pass_list.specs.declared.Found as DF
-use Rattle.pass_list.specs.Says.{FoundSays}
+use Rattle.std.specs.Prelude.{Option}
+use Rattle.pass_list.specs.Says.{FoundSays, is_full, count_of}
 use Rattle.cut_sums.specs.Sums.{first_in, second_in, sums_in, SmallCosts, Halved}
 use Rattle.answers.specs.Cuts.{no_lists, CutFound}
 use Rattle.answers.proofs.FoundRows.{rows_read}
@@ -104,8 +104,8 @@ module _ {s : List ℕ} {g : DG.Reading} (a : AcceptedReading s g) (bytes : All 
       ∙ view_size (core_of q) ss core_side core_free k
       ∙ ap length (core_half_list k ss q (weighable q rules))
 
-  half_told : (k : ℕ) {row : ℕ} {before after : List ℕ} {f : DF.Found}
-      → KeptSays p n (list_of k) row before after f → ltb max_points (half_size k q ss) ≡ f.full
+  half_told : (k : ℕ) {row : ℕ} {before after : List ℕ} {f : Option ℕ}
+      → KeptSays p n (list_of k) row before after f → ltb max_points (half_size k q ss) ≡ is_full f
   half_told k h = ap (ltb max_points) (sym (size k)) ∙ sym h.full
 
   -- costs of a half are sums of the core, of which two can be added
@@ -120,28 +120,28 @@ module _ {s : List ℕ} {g : DG.Reading} (a : AcceptedReading s g) (bytes : All 
       ((frontier_best (view k part ss)).listed.sound t m))
 
   -- the first half's list is kept
-  module _ {one : List ℕ} {f : DF.Found} (first : KeptSays p n (list_of 0) first_row was one f) where
-    pub first_full : f.full ≡ true → CutFound q ss room was one no_lists
+  module _ {one : List ℕ} {f : Option ℕ} (first : KeptSays p n (list_of 0) first_row was one f) where
+    pub first_full : is_full f ≡ true → CutFound q ss room was one no_lists
     first_full t = cut_full q ss room was one (rw (half_told 0 first, t)) first.long
 
     -- and the second half's
-    module _ (t : f.full ≡ false) {two : List ℕ} {j : DF.Found}
+    module _ (t : is_full f ≡ false) {two : List ℕ} {j : Option ℕ}
         (second : KeptSays p n (list_of 1) second_row one two j) where
       kept_long : length two ≡ length was
       kept_long = second.long ∙ first.long
 
-      pub second_full : j.full ≡ true → CutFound q ss room was two no_lists
+      pub second_full : is_full j ≡ true → CutFound q ss room was two no_lists
       second_full u = cut_full q ss room was two (rw (half_told 0 first, t, half_told 1 second, u)) kept_long
 
-      module _ (u : j.full ≡ false) where
-        first_is : first_in p n two f.count ≡ list_of 0
-        first_is = first_same p n one two (second.behind (omega arith)) f.count ∙ first.list t
+      module _ (u : is_full j ≡ false) where
+        first_is : first_in p n two (count_of f) ≡ list_of 0
+        first_is = first_same p n one two (second.behind (omega arith)) (count_of f) ∙ first.list t
 
-        second_is : second_in p n two j.count ≡ list_of 1
+        second_is : second_in p n two (count_of j) ≡ list_of 1
         second_is = second.list u
 
         -- the sums of the two
-        pub cut_halved : Halved p n 0 f.count j.count two
+        pub cut_halved : Halved p n 0 (count_of f) (count_of j) two
         cut_halved =
             record {
               long = omega (arith, kept_long, memory);
@@ -155,30 +155,30 @@ module _ {s : List ℕ} {g : DG.Reading} (a : AcceptedReading s g) (bytes : All 
               values = rw (first_is, second_is) (sums_bytes (with_ceilings hs (core_of q)) ss (domains_small s g a));
             }
 
-        module _ {three : List ℕ} {m : DF.Found}
-            (merged : FoundSays p n (best (sums_in p n wide two f.count j.count)) room two three m) where
-          sums_are : best (sums_in p n wide two f.count j.count) ≡ frontier q
+        module _ {three : List ℕ} {m : Option ℕ}
+            (merged : FoundSays p n (best (sums_in p n wide two (count_of f) (count_of j))) room two three m) where
+          sums_are : best (sums_in p n wide two (count_of f) (count_of j)) ≡ frontier q
           sums_are =
               rw (first_is, second_is, ceilings_same)
               (sums_best (core_of q) ss core_side core_free (core_of q).ceilings (λ c under. under))
               ∙ core_frontier_lem q (weighable q rules)
 
-          merged_told : ltb room (length (frontier q)) ≡ m.full
+          merged_told : ltb room (length (frontier q)) ≡ is_full m
           merged_told = ap (λ ps. ltb room (length ps)) (sym sums_are) ∙ sym merged.full
 
-          pub merged_full : m.full ≡ true → CutFound q ss room was three no_lists
+          pub merged_full : is_full m ≡ true → CutFound q ss room was three no_lists
           merged_full v =
               cut_full q ss room was three (rw (half_told 0 first, t, half_told 1 second, u, merged_told, v))
               (merged.long ∙ kept_long)
 
-          pub cut_end : m.full ≡ false → CutFound q ss room was three
-              (record { full = false; count = m.count; first = f.count; second = j.count })
+          pub cut_end : is_full m ≡ false → CutFound q ss room was three
+              (record { full = false; count = count_of m; first = count_of f; second = count_of j })
           cut_end v =
               record {
                 full = rw (half_told 0 first, t, half_told 1 second, u, merged_told, v) refl;
                 count = rw v at merged.count ∙ ap length sums_are;
                 first = rw t at first.count ∙ size 0;
                 second = rw u at second.count ∙ size 1;
-                list = λ e. sym (rows_read s g a three m.count) ∙ merged.list v ∙ sums_are;
+                list = λ e. sym (rows_read s g a three (count_of m)) ∙ merged.list v ∙ sums_are;
                 long = merged.long ∙ kept_long;
               }

@@ -13,16 +13,16 @@ use Rattle.layout.specs.Layout.{list_at, search_end, row_width, first_row, secon
 use Rattle.groups.proofs.Overwritten.{over, over_length, over_behind, over_here}
 use Rattle.rows.specs.Rows.{row_at, list_in}
 use Rattle.rows.proofs.RowsKept.{behind_rows, copied_rows}
-use Rattle.pass_list.specs.declared.Found as DF
-use Rattle.pass_list.specs.Says.{FoundSays}
+use Rattle.std.specs.Prelude.{Option}
+use Rattle.pass_list.specs.Says.{FoundSays, is_full, count_of}
 use Rattle.cut_sums.specs.Sums.{first_in}
 use Rattle.answers.proofs.FoundRows.{found_few}
 use Rattle.cut_halves.specs.Says.{KeptSays}
 
 -- a list that is not longer than its room
-pub kept_few : {p n row : ℕ} {fs : List Point} {was work : List ℕ} {f : DF.Found} → KeptSays p n fs row was work f
-    → f.count ≤ max_points
-kept_few {fs = fs} {f = f} h = found_few f.full max_points f.count (length fs) h.full h.count
+pub kept_few : {p n row : ℕ} {fs : List Point} {was work : List ℕ} {f : Option ℕ} → KeptSays p n fs row was work f
+    → count_of f ≤ max_points
+kept_few {fs = fs} {f = f} h = found_few (is_full f) max_points (count_of f) (length fs) h.full h.count
 
 -- the rows of the first half, where nothing from them on changed
 pub first_same : (p n : ℕ) (was work : List ℕ) → drop (row_at first_row) work ≡ drop (row_at first_row) was → (a : ℕ)
@@ -30,7 +30,7 @@ pub first_same : (p n : ℕ) (was work : List ℕ) → drop (row_at first_row) w
 first_same p n was work e a = behind_rows (row_at first_row) work was e p n first_row a (omega arith)
 
 -- the list that was found in the front part of memory is copied to a row behind it
-module _ {p n : ℕ} {fs : List Point} (was : List ℕ) {front : List ℕ} {f : DF.Found}
+module _ {p n : ℕ} {fs : List Point} (was : List ℕ) {front : List ℕ} {f : Option ℕ}
     (says : FoundSays p n fs max_points (take search_end was) front f) (long : work_need ≤ length was) (row : ℕ)
     (low : second_row ≤ row) (high : row ≤ first_row) where
   abbrev work : List ℕ
@@ -43,10 +43,10 @@ module _ {p n : ℕ} {fs : List Point} (was : List ℕ) {front : List ℕ} {f : 
   work_length = length-append front (drop search_end was) ∙ omega (arith, front_length, length-drop search_end was)
 
   abbrev size : ℕ
-  size = row_width * f.count
+  size = row_width * count_of f
 
-  pub copied_count : f.count ≤ max_points
-  copied_count = found_few f.full max_points f.count (length fs) says.full says.count
+  pub copied_count : count_of f ≤ max_points
+  copied_count = found_few (is_full f) max_points (count_of f) (length fs) says.full says.count
 
   pub copied_asked :
       (list_at + size ≤ length work) × (row_at row + size ≤ length work)
@@ -66,15 +66,15 @@ module _ {p n : ℕ} {fs : List Point} (was : List ℕ) {front : List ℕ} {f : 
     ends = omega (arith, part_size)
 
     -- the list lies in the front part
-    front_rows : list_in p n work 0 f.count ≡ list_in p n front 0 f.count
+    front_rows : list_in p n work 0 (count_of f) ≡ list_in p n front 0 (count_of f)
     front_rows =
-        copied_rows p n few values work front 0 0 f.count
+        copied_rows p n few values work front 0 0 (count_of f)
         (part_same search_end size list_at work front (omega (arith, copied_count))
         (take-append-le search_end front (drop search_end was) (omega (arith, front_length))))
 
-    same_rows : list_in p n copied row f.count ≡ list_in p n work 0 f.count
+    same_rows : list_in p n copied row (count_of f) ≡ list_in p n work 0 (count_of f)
     same_rows =
-        copied_rows p n few values copied work row 0 f.count
+        copied_rows p n few values copied work row 0 (count_of f)
         (rw is
         (rw part_size
         at (over_here work (row_at row) (take size (drop list_at work)) (row_at row + size) ends copied_asked.1)))

@@ -21,7 +21,7 @@ fn keep_half(
     ceilings: [u64; 4],
     row: usize,
     work: &mut [u32],
-) -> pass_list::Found
+) -> Option<usize>
     requires { ReadSays s.now g × (g.number ≡ 0) × (length (problem_of s.now).domains ≡ length sides.now)
         × (second_row ≤ row) × (row ≤ first_row) × (work_need ≤ length work.old) }
     ensures { KeptSays g.head.objectives g.head.variables
@@ -32,7 +32,12 @@ fn keep_half(
 {
     let found = listing::find_half(s, g, sides, side, ceilings, &mut work[..layout::SEARCH_END]);
     let to = layout::LIST_AT + layout::ROW_WIDTH * row;
-    groups::copy_numbers(layout::LIST_AT, to, layout::ROW_WIDTH * found.count, work);
+    groups::copy_numbers(
+        layout::LIST_AT,
+        to,
+        layout::ROW_WIDTH * found.unwrap_or(0),
+        work,
+    );
     found
 }
 
@@ -53,24 +58,21 @@ pub fn cut_lists(
     let head = g.head;
     let ceilings = head.ceilings;
     let wide = listing::widened(ceilings);
-    let first = keep_half(s, g, sides, 0, wide, layout::FIRST_ROW, work);
-    if first.full {
+    let Some(first) = keep_half(s, g, sides, 0, wide, layout::FIRST_ROW, work) else {
         return answers::no_lists();
-    }
-    let second = keep_half(s, g, sides, 1, wide, layout::SECOND_ROW, work);
-    if second.full {
+    };
+    let Some(second) = keep_half(s, g, sides, 1, wide, layout::SECOND_ROW, work) else {
         return answers::no_lists();
-    }
+    };
     let n = head.variables as usize;
     let p = head.objectives as usize;
-    let merged = cut_sums::merge_points(first.count, second.count, n, p, wide, room, work);
-    if merged.full {
+    let Some(count) = cut_sums::merge_points(first, second, n, p, wide, room, work) else {
         return answers::no_lists();
-    }
+    };
     answers::Lists {
         full: false,
-        count: merged.count,
-        first: first.count,
-        second: second.count,
+        count,
+        first,
+        second,
     }
 }

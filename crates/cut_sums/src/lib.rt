@@ -29,6 +29,7 @@ fn choice_sum(x: [u8; 24], y: [u8; 24], n: usize) -> [u8; 24]
 }
 
 // The first `p` costs of two vectors added, which are sums of the core; zeros behind them.
+// Not one function with `choice_sum`: a width, a bound and the addition as parameters would be no plainer.
 fn costs_sum(x: [u64; 4], y: [u64; 4], p: usize) -> [u64; 4]
     requires { (p ≤ max_objectives) × All (λ c. c < core_sum_end) (take p x)
         × All (λ c. c < core_sum_end) (take p y) }
@@ -150,8 +151,10 @@ pub fn next_sum(
     best
 }
 
-// Passes until no sum is left or the room is full: how many points the list has, or `None` where it is longer than the
-// room.
+// Passes until no sum is left or the room is full: how many points the list has, or `None` where it is longer than
+// the room.
+// Not one function with `pass_list::find_points`: a pass as a closure would need, as ghost parameters, the points that
+// it may give and the memory that it needs as it was, which is no plainer.
 pub fn merge_points(
     a: usize,
     b: usize,

@@ -9,7 +9,7 @@ use Rattle.layout.specs.Layout.{source_at}
 use Rattle.groups.specs.Sources.{source_in, Source, source_problem}
 use Rattle.groups.specs.declared.Task as DT
 use Rattle.pass_list.specs.Says.{CoreFound}
-use Rattle.pass_list.specs.declared.Found as DF
+use Rattle.std.specs.Prelude.{Option}
 use Rattle.pass_list.proofs.Since.{says_since}
 use Rattle.listing.specs.Says.{Plannable, Kept}
 use Rattle.listing.proofs.PlacesKept.{behind_at}
@@ -79,7 +79,7 @@ module _ {task : DT.Task} {ds s work : List ℕ} (source : Source task ds s work
     same_problem : source_problem task ds s work' ≡ source_problem task ds s work
     same_problem = rw kept.source
 
-    pub first_after : (after : List ℕ) (f : DF.Found)
+    pub first_after : (after : List ℕ) (f : Option ℕ)
         → CoreFound (source_problem task ds s work') task.room work' after f
         → CoreFound (source_problem task ds s work) task.room work after f
     first_after after f = says_since kept.long (ap core_frontier same_problem)

@@ -21,7 +21,7 @@ use Rattle.groups.specs.Sources.{source_in, source_problem, Source}
 use Rattle.groups.specs.declared.Task as DT
 use Rattle.listing.specs.Says.{problem_at, Accepted}
 use Rattle.pass_list.specs.Says.{FoundSays, CoreFound}
-use Rattle.pass_list.specs.declared.Found as DF
+use Rattle.std.specs.Prelude.{Option}
 use Rattle.pass_list.proofs.Since.{says_since}
 use Rattle.listing.proofs.PlacesKept.{places_tables, core_owners, behind_at, written}
 use Rattle.listing.proofs.PlacesKept.{written_places, written_length}
@@ -124,7 +124,7 @@ module _
         unfolding view
         side_problem = rw (sizes, after_places, side_tables)
 
-        pub side_says : (work' : List ℕ) (f : DF.Found)
+        pub side_says : (work' : List ℕ) (f : Option ℕ)
             → CoreFound (source_problem task narrow s after) max_points after work' f
             → FoundSays p (length ds) (core_frontier half) max_points work work' f
         side_says work' f h =

@@ -19,7 +19,7 @@ use Rattle.groups.specs.Sources.{source_problem, Source}
 use Rattle.groups.specs.declared.Task as DT
 use Rattle.listing.specs.Says.{problem_at, Accepted}
 use Rattle.pass_list.specs.Says.{FoundSays, CoreFound}
-use Rattle.pass_list.specs.declared.Found as DF
+use Rattle.std.specs.Prelude.{Option}
 use Rattle.pass_list.proofs.Since.{says_since}
 
 module _ (ds s : List ℕ) where
@@ -98,7 +98,7 @@ module _
         long = omega (arith, written_length r at ds s work source_at inside kept says, a.memory);
       }
 
-  pub kept_says : (work' : List ℕ) (f : DF.Found) → CoreFound (source_problem task ds s after) room after work' f
+  pub kept_says : (work' : List ℕ) (f : Option ℕ) → CoreFound (source_problem task ds s after) room after work' f
       → FoundSays p (length ds) (core_frontier (core_of (problem_at p ceilings ds s at r))) room work work' f
   kept_says work' f =
       let read = written_places r at ds s work source_at inside kept says in

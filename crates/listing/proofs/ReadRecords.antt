@@ -16,7 +16,7 @@ use Rattle.problem.specs.declared.Reading as DG
 use Rattle.problem.specs.Says.{start_of}
 use Rattle.problem.proofs.Accepted.{AcceptedReading}
 use Rattle.problem.proofs.Readings.{sized, objectives_are, domains_are, ceilings_are, tables_are}
-use Rattle.pass_list.specs.declared.Found as DF
+use Rattle.std.specs.Prelude.{Option}
 use Rattle.pass_list.specs.Says.{FoundSays, FoundFor}
 use Rattle.listing.specs.Says.{problem_at, Accepted}
 use Rattle.listing.proofs.PlacesKept.{behind_at}
@@ -75,7 +75,7 @@ module _ (s : List ℕ) (g : DG.Reading) (a : AcceptedReading s g) where
       }
 
   -- the core's list is the frontier list
-  pub list_found : All Byte s → {room : ℕ} {w w1 : List ℕ} {f : DF.Found}
+  pub list_found : All Byte s → {room : ℕ} {w w1 : List ℕ} {f : Option ℕ}
       → FoundSays p (length sizes_of) (core_frontier (core_of searched)) room w w1 f
       → FoundFor (problem_of s) room w w1 f
   list_found bytes {room} {w} {w1} {f} says =
@@ -90,7 +90,7 @@ module _ (s : List ℕ) (g : DG.Reading) (a : AcceptedReading s g) where
     abbrev half_of : Problem → List Point
     half_of q = core_frontier (view side (with_ceilings (take p ceilings) (core_of q)) ss)
 
-    pub half_found : {room : ℕ} {w w1 : List ℕ} {f : DF.Found}
+    pub half_found : {room : ℕ} {w w1 : List ℕ} {f : Option ℕ}
         → FoundSays p (length sizes_of) (half_of searched) room w w1 f
         → FoundSays p n (half_of (problem_of s)) room w w1 f
     half_found {room} {w} {w1} {f} says =

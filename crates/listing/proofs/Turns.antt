@@ -1,5 +1,7 @@
 -- The turns of the second form: what one needs and leaves, and that the next may go on from there.
 use Rattle.std.proofs.Common.{◌≡◌, ℕ, ◌≤◌, List, length, sym, refl, ◌∙◌, subst, arith}
+use Rattle.std.specs.Prelude.{Bool, true, false, not, ltb, Some, None}
+use Rattle.model.specs.Basics.{pick, when}
 use Rattle.model.specs.Limits.{max_objectives}
 use Rattle.model.specs.Frontiers.{Point}
 use Rattle.model.specs.Core.{core_frontier}
@@ -7,6 +9,7 @@ use Rattle.model.proofs.Bits.{true_false}
 use Rattle.groups.specs.Sources.{source_in, source_problem}
 use Rattle.groups.specs.declared.Task as DT
 use Rattle.pass_list.specs.Says.{FoundSays}
+use Rattle.rows.specs.Rows.{list_in}
 use Rattle.plan_spreads.specs.LargestCosts.{Reaches}
 use Rattle.plan_spreads.specs.Ceilings.{Fitted}
 use Rattle.branch_directions.specs.declared.Directions as DD
@@ -104,6 +107,15 @@ module _ {task : DT.Task} {ds s work : List ℕ} (h : Explorable task ds s work)
           long = omega (arith, kept.long, h.source.long);
         }
 
+-- what was found, told by a flag and a count
+found_told :
+    {p n : ℕ} {fs : List Point} {room : ℕ} {was after : List ℕ} (b : Bool) (k : ℕ) →
+    b ≡ ltb room (length fs) → k ≡ when (not b) (length fs) → (b ≡ false → list_in p n after 0 k ≡ fs) →
+    length after ≡ length was → FoundSays p n fs room was after (pick b None (Some k))
+found_told true k full count list long =
+    record { full = full; count = refl; list = λ t. absurd (true_false refl t); long = long }
+found_told false k full count list long = record { full = full; count = count; list = λ t. list refl; long = long }
+
 -- what a search says and leaves is what a turn does
 pub explored_turned :
     (task : DT.Task) (ds s work after : List ℕ) (e : DE.Explored) (budget : ℕ) →
@@ -112,7 +124,6 @@ pub explored_turned :
 explored_turned task ds s work after e budget says left =
     record {
       kept = record { long = says.still.long; source = says.still.source };
-      found = λ t.
-          record { full = says.full t; count = says.count t; list = says.list t; long = says.still.long };
+      found = λ t. found_told e.full e.count (says.full t) (says.count t) (says.list t) says.still.long;
       between = left.between;
     }

@@ -1,6 +1,6 @@
 -- What finding the list of a problem relies on and ensures.
-use Rattle.std.specs.Prelude.{◌≡◌, ℕ, ◌≤◌, true, false, List, length, take}
-use Rattle.model.specs.Basics.{All}
+use Rattle.std.specs.Prelude.{◌≡◌, ℕ, ◌≤◌, true, false, List, length, take, Option, Some, None}
+use Rattle.model.specs.Basics.{All, pick}
 use Rattle.model.specs.Limits.{max_bytes, max_objectives, max_points, max_tables, max_variables}
 use Rattle.model.specs.Problems.{Problem, DomainSize}
 use Rattle.model.specs.Reading.{tables_at}
@@ -12,7 +12,6 @@ use Rattle.layout.specs.Layout.{search_end}
 use Rattle.groups.specs.Sources.{source_in, source_problem, Source}
 use Rattle.groups.specs.declared.Task as DT
 use Rattle.pass_list.specs.Says.{CoreFound}
-use Rattle.pass_list.specs.declared.Found as DF
 use Rattle.branch_directions.specs.declared.Directions as DD
 use Rattle.branch_buckets.specs.Content.{Planned}
 use Rattle.branch_buckets.specs.Sound.{Sound}
@@ -67,8 +66,8 @@ pub record PlanSays (d : DD.Directions) (r : ℕ) (ds s work work' : List ℕ) :
   pub sound : Sound d r ds s (source_in work' r) (plan_in work')
 
 -- what the second form found where it is decided, as a finding of the first
-abbrev pub found_of : DE.Explored → DF.Found
-found_of e = record { full = e.full; count = e.count }
+abbrev pub found_of : DE.Explored → Option ℕ
+found_of e = pick e.full None (Some e.count)
 
 -- what turns of the second form leave: the list, or an archive from which the next may go on
 pub record Turned (task : DT.Task) (ds s work work' : List ℕ) (e : DE.Explored) : Type 0 where

@@ -11,7 +11,7 @@ ghost use Rattle.groups.specs.Sources.{Source, source_problem};
 ghost use Rattle.pass_list.specs.Says.{FoundSays, CoreFound, FoundFor};
 ghost use Rattle.branch_directions.specs.Directions.{Sensible};
 ghost use Rattle.branch_search.specs.States.{rows_in, Between, unended};
-ghost use Rattle.listing.specs.Says.{Searchable, Plannable, Kept, PlanSays, Explorable, Turned, Ended};
+ghost use Rattle.listing.specs.Says.{Searchable, Plannable, Kept, PlanSays, Explorable, Turned, Ended, found_of};
 
 // A search of the second form has so many turns: the first four try a kind of plan each, and the last goes on with the
 // kind that came furthest, as long as it takes.
@@ -46,7 +46,7 @@ pub struct Taken {
 // What a search found, and what it took.
 #[derive(Clone, Copy)]
 pub struct Searched {
-    pub found: pass_list::Found,
+    pub found: Option<usize>,
     pub measures: Measures,
 }
 
@@ -357,6 +357,16 @@ fn explore_source(s: &[u8], sizes: &[u8], task: groups::Task, work: &mut [u32]) 
     take_turns(s, sizes, near, ranges, work)
 }
 
+// What the second form found where it is decided, as a finding of the first.
+fn found_of(e: branch_search::Explored) -> Option<usize>
+    ensures { result ≡ found_of e }
+{
+    if e.full {
+        return None;
+    }
+    Some(e.count)
+}
+
 // The frontier list of a task whose records' places stand in work memory where a problem's records are: by the second
 // form, and where that gives up by the first; or only by the first.
 pub fn find_source(
@@ -379,10 +389,7 @@ pub fn find_source(
     let e = t.explored;
     let measures = t.measures;
     if e.decided {
-        let found = pass_list::Found {
-            full: e.full,
-            count: e.count,
-        };
+        let found = found_of(e);
         return Searched { found, measures };
     }
     let found = pass_list::find_source(s, sizes, task, work);
@@ -428,7 +435,7 @@ pub fn find_half(
     side: u8,
     ceilings: [u64; 4],
     work: &mut [u32],
-) -> pass_list::Found
+) -> Option<usize>
     requires { Searchable s.now g work.old × (length (problem_of s.now).domains ≡ length sides.now) }
     ensures { FoundSays g.head.objectives g.head.variables
         (core_frontier (view side

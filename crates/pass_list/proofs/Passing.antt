@@ -1,7 +1,6 @@
 -- The passes: after k of them, work memory holds the first k points of the frontier list; the records with their
 -- groups, the gains and what stands behind the list are as before.
 use mathlib.Core.Path.{◌≡◌, refl, sym, ap, ◌∙◌, subst}
-use mathlib.Core.Bool.{true, false}
 use Rattle.std.specs.Prelude.{Option, Some, None}
 use mathlib.Core.List.Memᴰ.{append_right as in_right}
 use mathlib.Core.List.Memᴰ.{head as here}

@@ -8,8 +8,8 @@ ghost use Rattle.pass_search.specs.States.{problem_in, gains_in, Setting, Stands
 ghost use Rattle.groups.specs.Sources.{Source, source_problem};
 ghost use Rattle.pass_list.specs.Says.{CoreFound};
 
-// Passes until no point is left or the room is full: how many points the list has, or `None` where it is longer than the
-// room.
+// Passes until no point is left or the room is full: how many points the list has, or `None` where it is longer than
+// the room.
 pub fn find_points(
     root: pass_search::Partial,
     s: &[u8],

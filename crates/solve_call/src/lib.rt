@@ -37,7 +37,7 @@ pub fn solve_with(
     let searched = listing::find_list(problem, g, room, by_passes, work);
     let found = searched.found;
     let measures = searched.measures;
-    answers::copy_out(head, found.count, costs, choices, work);
+    answers::copy_out(head, found.unwrap_or(0), costs, choices, work);
     let answer = answers::answer_of(found);
     Solved { answer, measures }
 }

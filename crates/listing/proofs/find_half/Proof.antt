@@ -132,7 +132,7 @@ find-source-requires c κs =
 
 returns : tie.Need-returns
 returns c =
-    let found : tie.After-find_source-searched = c.before.before.before in
+    let found : tie.After-find_source-searched = c.before.before in
     let chosen : tie.After-slice_known-3-1 = found.before.before.before in
     let narrow = narrowing (sided chosen) in
     let placed = kept narrow in
