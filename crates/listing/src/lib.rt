@@ -73,12 +73,7 @@ pub fn widened(ceilings: [u32; 4]) -> [u64; 4]
 fn are_short(ceilings: [u64; 4]) -> bool
     ensures { result ≡ true → All WordCeiling ceilings }
 {
-    let low = branch_directions::larger(ceilings[0], ceilings[1]);
-    let high = branch_directions::larger(ceilings[2], ceilings[3]);
-    if 4294967296 < branch_directions::larger(low, high) {
-        return false;
-    }
-    true
+    ceilings.iter().all(|&ceiling| ceiling <= 4294967296)
 }
 
 // How the plan of a turn is made. All but the first are wide: most problems end with the first, which costs less to
@@ -297,8 +292,7 @@ fn take_turns(
     let mut best = Best { kind: 0, done: 0 };
     let mut measures = unmeasured(false);
     let mut points: usize = 0;
-    let mut turn: usize = 0;
-    while turn < TURNS {
+    for turn in 0..TURNS {
         let making = making_of(turn, best);
         let budget = budget_of(turn);
         let from = branch_search::Resume { points, budget };
@@ -310,7 +304,6 @@ fn take_turns(
         }
         points = explored.count;
         best = best_after(best, turn, making.kind, effort.done);
-        turn += 1;
     }
     let explored = branch_search::not_made(points);
     Taken { explored, measures }
