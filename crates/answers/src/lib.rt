@@ -10,7 +10,7 @@ ghost use Rattle.problem.specs.Says.{Reads};
 ghost use Rattle.pass_list.specs.Says.{is_full, count_of};
 ghost use Rattle.answers.specs.Early.{early_of};
 ghost use Rattle.answers.specs.Says.{room_in, found_answer, CopyAsked, CopiedOut, found_rows};
-ghost use Rattle.answers.specs.Cuts.{cut_refusal, FewEach, no_halves, found_halves};
+ghost use Rattle.answers.specs.Cuts.{cut_refusal, points_in, FewEach, no_halves, found_halves};
 
 use model::{Reason, Refusal};
 use problem::Problem;
@@ -127,6 +127,16 @@ pub struct Lists {
     pub count: usize,
     pub first: usize,
     pub second: usize,
+}
+
+// How many points the cut found: none where a list is too long.
+pub fn points_in(lists: Option<Lists>) -> usize
+    ensures { result ≡ points_in lists }
+{
+    match lists {
+        Some(lists) => lists.count,
+        None => 0,
+    }
 }
 
 // What the cut call answers: the count of points, and how many each half has.

@@ -4,6 +4,8 @@
 ghost use Rattle.model.specs.Calls.{cut_outcome};
 ghost use Rattle.answers.specs.Cuts.{CutSays};
 
+use model::Refusal;
+
 // The frontier list by the cut: that of the uncut problem, for any side list that no record has on both sides.
 pub fn cut_problem(
     problem: &[u8],
@@ -11,20 +13,16 @@ pub fn cut_problem(
     costs: &mut [u32],
     choices: &mut [u8],
     work: &mut [u32],
-) -> answers::Halves
+) -> Result<answers::Halves, Refusal>
     ensures { CutSays
         (cut_outcome problem.now sides.now
         costs.old choices.old work.old)
         costs.new choices.new work.new result }
 {
-    let g = problem::read_problem(problem);
-    let early = answers::cut_refusal(problem, g, sides, work.len());
-    if early.number != 0 {
-        return answers::not_cut(early);
-    }
-    let head = g.head;
+    let q = answers::open_cut(problem, sides, work.len())?;
+    let head = q.head;
     let room = answers::flat_room(head, costs.len(), choices.len());
-    let lists = cut_halves::cut_lists(problem, g, sides, room, work);
-    answers::copy_out(head, lists.count, costs, choices, work);
+    let lists = cut_halves::cut_lists(problem, q, sides, room, work);
+    answers::copy_out(head, answers::points_in(lists), costs, choices, work);
     answers::halves_of(lists)
 }
