@@ -8,3 +8,4 @@ pub mod NewPoint
 pub mod Exchanging
 pub mod SortSteps
 pub mod SortedRows
+pub mod WeightedSums

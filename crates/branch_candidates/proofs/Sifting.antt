@@ -2,11 +2,10 @@
 use mathlib.Core.Path.{◌≡◌, ◌∙◌, subst}
 use mathlib.Core.Logic.{◌⊎◌, inl, inr, ⊎_elim}
 use mathlib.Core.List.{List}
-use Prim.Native.Nat.{ℕ, ◌+◌, ◌≤◌, ◌<◌}
+use Prim.Native.Nat.{ℕ, ◌≤◌, ◌<◌}
 use native.Mathlib.Omega.{arith}
 use lib.ListN.{length, get_or, set, length-set}
 use lib.Seq.{get_or-set_same, get_or-set_other}
-use borrow.Author.Count.{below_more}
 use Rattle.branch_candidates.specs.Sifted.{max_rows, list_width, count_in, Among, Sifted, Sifting}
 
 -- what is out by one reason is out by another that follows from it
@@ -55,49 +54,6 @@ pub sifted_all : {m : ℕ} (rows : List ℕ) → m ≤ max_rows → length rows 
     → ((j : ℕ) → j < m → get_or rows j 0 ≡ j) → Sifted m (λ _. ⊥) (set rows max_rows m)
 sifted_all rows few long own =
     counted_sifted rows long few (λ j l. omega (arith, own j l)) (λ i l. inl (i, l, own i l))
-
-pub sifting_start : (m : ℕ) (out : ℕ → Type 0) (old rows : List ℕ) → length rows ≡ list_width
-    → Sifting m out old 0 rows 0
-sifting_start m out old rows long =
-    record {
-      long = long;
-      fewer = omega arith;
-      inside = λ k l. absurd (omega arith);
-      rest = λ k l. absurd (omega arith);
-    }
-
-module _ {m : ℕ} {out : ℕ → Type 0} {old : List ℕ} {j : ℕ} {rows : List ℕ} {kept : ℕ}
-    (h : Sifting m out old j rows kept) where
-  -- the next one is kept
-  pub sifting_kept : (x : ℕ) → x ≡ get_or old j 0 → x < m → kept < max_rows
-      → Sifting m out old (j + 1) (set rows kept x) (kept + 1)
-  sifting_kept x is below room =
-      record {
-        long = length-set rows kept x ∙ h.long;
-        fewer = omega (arith, h.fewer);
-        inside = below_more (λ k. get_or (set rows kept x) k 0 < m) kept
-            (λ k l. rw (get_or-set_other rows kept k x 0 (λ e. omega arith)) (h.inside k l))
-            (rw here below);
-        rest = below_more (λ k. Among (set rows kept x) (kept + 1) (get_or old k 0) ⊎ out (get_or old k 0)) j
-            (λ k l. ⊎_elim
-            (λ (a : Among rows kept (get_or old k 0)).
-            inl (a.0, omega (arith, a.1), get_or-set_other rows kept a.0 x 0 (λ e. omega (arith, a.1)) ∙ a.2))
-            (λ (o : out (get_or old k 0)). inr o) (h.rest k l))
-            (inl (kept, omega arith, here ∙ is));
-      }
-    where
-      here : get_or (set rows kept x) kept 0 ≡ x
-      here = get_or-set_same rows kept x 0 (omega (arith, h.long))
-
-  -- the next one is out
-  pub sifting_out : out (get_or old j 0) → Sifting m out old (j + 1) rows kept
-  sifting_out o =
-      record {
-        long = h.long;
-        fewer = omega (arith, h.fewer);
-        inside = h.inside;
-        rest = below_more (λ k. Among rows kept (get_or old k 0) ⊎ out (get_or old k 0)) j h.rest (inr o);
-      }
 
 -- all candidates were looked at, and those that are left out are out for a reason that suffices
 pub sifting_end : {m : ℕ} {out out' : ℕ → Type 0} {old rows : List ℕ} {kept : ℕ} → Sifted m out' old

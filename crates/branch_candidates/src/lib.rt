@@ -15,10 +15,8 @@ pub fn all_rows(m: usize, to: &mut [u8])
     requires { (m ≤ max_rows) × (length to.old ≡ list_width) }
     ensures { Sifted m (λ _. ⊥) to.new }
 {
-    let mut i: usize = 0;
-    while i < m {
+    for i in 0..m {
         to[i] = i as u8;
-        i += 1;
     }
     to[MAX_ROWS] = m as u8;
 }

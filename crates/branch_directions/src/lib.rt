@@ -48,11 +48,7 @@ fn with_costs(v: [u64; 4], p: usize) -> [u64; 8]
     ensures { result ≡ padded max_directions (take p v) }
 {
     let mut all = [0u64; 8];
-    let mut i: usize = 0;
-    while i < p {
-        all[i] = v[i];
-        i += 1;
-    }
+    all[..p].copy_from_slice(&v[..p]);
     all
 }
 
@@ -93,12 +89,9 @@ pub fn directions_of(v: [u64; 4], d: Directions) -> [u64; 8]
     ensures { result ≡ padded max_directions (directions_of d (take d.objectives v)) }
 {
     let p = d.objectives;
-    let sums = d.sums;
     let mut all = with_costs(v, p);
-    let mut i: usize = 0;
-    while i < sums {
+    for i in 0..d.sums {
         all[p + i] = sum_at(v, i, d);
-        i += 1;
     }
     all
 }
@@ -131,47 +124,24 @@ pub fn lead_weights(d: Directions) -> [u64; 4]
 pub fn lesser(a: u64, b: u64) -> u64
     ensures { (result ≤ a) × (result ≤ b) }
 {
-    if a < b {
-        return a;
-    }
-    b
+    a.min(b)
 }
 
 // The larger of two numbers.
 pub fn larger(a: u64, b: u64) -> u64
     ensures { (a ≤ result) × (b ≤ result) }
 {
-    if a < b {
-        return b;
-    }
-    a
+    a.max(b)
 }
 
 // The least share that an objective has in sum `i`. The first sum leads, so it leaves none out.
 fn least_share(i: usize) -> u64
     ensures { (result ≤ max_share) × (i ≡ 0 → 1 ≤ result) }
 {
-    if 0 < i {
-        return 0;
-    }
-    1
+    if i == 0 { 1 } else { 0 }
 }
 
-// A share that counts: at least `least`, and not above the largest.
-fn clamped(share: u64, least: u64) -> u64
-    requires { least ≤ max_share }
-    ensures { (result ≤ max_share) × (least ≤ result) }
-{
-    if share < least {
-        return least;
-    }
-    if MAX_SHARE < share {
-        return MAX_SHARE;
-    }
-    share
-}
-
-// The shares of the objectives in sum `i`.
+// The shares of the objectives in sum `i`, as far as they count.
 fn shares_at(sums: Sums, i: usize) -> [u64; 4]
     requires { i < max_sums }
     ensures { All (λ s. s ≤ max_share) result × (i ≡ 0 → All (λ s. 1 ≤ s) result) }
@@ -180,10 +150,10 @@ fn shares_at(sums: Sums, i: usize) -> [u64; 4]
     let row = row_of(shares, i);
     let least = least_share(i);
     [
-        clamped(row[0], least),
-        clamped(row[1], least),
-        clamped(row[2], least),
-        clamped(row[3], least),
+        row[0].clamp(least, MAX_SHARE),
+        row[1].clamp(least, MAX_SHARE),
+        row[2].clamp(least, MAX_SHARE),
+        row[3].clamp(least, MAX_SHARE),
     ]
 }
 
@@ -195,10 +165,7 @@ fn range_of(range: u64) -> u64
     if range == 0 {
         return MAX_RANGE;
     }
-    if MAX_RANGE < range {
-        return MAX_RANGE;
-    }
-    range
+    range.min(MAX_RANGE)
 }
 
 // What the weight of an objective is in proportion to: its share, divided by its range.
@@ -217,14 +184,7 @@ fn weight_of(rate: u64, unit: u64) -> u64
     if rate == 0 {
         return 0;
     }
-    let weight = rate / unit;
-    if weight == 0 {
-        return 1;
-    }
-    if branch_archive::MAX_WEIGHT < weight {
-        return branch_archive::MAX_WEIGHT;
-    }
-    weight
+    (rate / unit).clamp(1, branch_archive::MAX_WEIGHT)
 }
 
 // The weights of a sum, from the shares of the objectives in it.
@@ -238,8 +198,8 @@ fn sum_weights(shares: [u64; 4], ranges: [u64; 4]) -> [u64; 4]
     let b = rate_of(shares[1], ranges[1]);
     let c = rate_of(shares[2], ranges[2]);
     let d = rate_of(shares[3], ranges[3]);
-    let most = larger(larger(a, b), larger(c, d));
-    let unit = larger(most / branch_archive::MAX_WEIGHT + 1, RATE_UNIT);
+    let most = a.max(b).max(c).max(d);
+    let unit = (most / branch_archive::MAX_WEIGHT + 1).max(RATE_UNIT);
     [
         weight_of(a, unit),
         weight_of(b, unit),
@@ -254,33 +214,15 @@ fn weights_for(sums: Sums) -> [u64; 16]
 {
     let ranges = sums.ranges;
     let mut weights = [0u64; 16];
-    let mut i: usize = 0;
-    while i < 4 {
+    for i in 0..4 {
         let row = sum_weights(shares_at(sums, i), row_of(ranges, i));
-        let at = 4 * i;
-        weights[at] = row[0];
-        weights[at + 1] = row[1];
-        weights[at + 2] = row[2];
-        weights[at + 3] = row[3];
-        i += 1;
+        weights[4 * i..4 * i + 4].copy_from_slice(&row);
     }
     weights
 }
 
-// So many sums as there may be: one to four.
-fn some_sums(count: usize) -> usize
-    ensures { (1 ≤ result) × (result ≤ max_sums) }
-{
-    if 4 < count {
-        return 4;
-    }
-    if 0 < count {
-        return count;
-    }
-    1
-}
-
-// Directions for `p` objectives with these sums, of which one objective has none. Only the speed depends on them.
+// Directions for `p` objectives with these sums, one to four of them, of which one objective has none. Only the speed
+// depends on them.
 pub fn choose_directions(p: usize, sums: Sums) -> Directions
     requires { (1 ≤ p) × (p ≤ max_objectives) }
     ensures { Sensible result × (result.objectives ≡ p) }
@@ -296,7 +238,7 @@ pub fn choose_directions(p: usize, sums: Sums) -> Directions
     let weights = weights_for(sums);
     Directions {
         objectives: p,
-        sums: some_sums(sums.count),
+        sums: sums.count.clamp(1, 4),
         weights,
     }
 }

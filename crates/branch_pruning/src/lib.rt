@@ -86,12 +86,10 @@ fn is_tied(
     ensures { result ≡ false → (i : ℕ) → i < c → Untied d n work.now x b i }
 {
     let count = from[branch_candidates::MAX_ROWS] as usize;
-    let mut j: usize = 0;
-    while j < count {
+    for j in 0..count {
         if is_tied_at(from[j] as usize, x, b, n, d, work) {
             return true;
         }
-        j += 1;
     }
     false
 }
@@ -125,14 +123,12 @@ fn points_above(
 {
     let count = from[branch_candidates::MAX_ROWS] as usize;
     let mut kept: usize = 0;
-    let mut j: usize = 0;
-    while j < count {
+    for j in 0..count {
         let i = from[j];
         if is_above_at(i as usize, b, d, work) {
             to[kept] = i;
             kept += 1;
         }
-        j += 1;
     }
     to[branch_candidates::MAX_ROWS] = kept as u8;
 }

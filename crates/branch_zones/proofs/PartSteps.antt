@@ -97,16 +97,6 @@ module _ {d : DD.Directions} (t z : List ℕ) (j : ℕ) {zones : List ℕ} {s : 
             );
       }
 
--- no row is free
-pub closed_none : {d : DD.Directions} {zones : List ℕ} {s : DP.Places} → Measured d zones s.count
-    → s.free ≡ s.count → Closed d zones s zones s.count
-closed_none old e = record {
-  measured = old;
-  long = refl;
-  least = omega arith;
-  kept = λ u (k, l, n, h). (k, l, (λ q. omega arith), h);
-}
-
 -- the last zone moves to the free row
 module _ {d : DD.Directions} {zones : List ℕ} {s : DP.Places} {zones' : List ℕ} (sensible : Sensible d)
     (old : Measured d zones s.count) (inside : s.free < s.count)

@@ -31,17 +31,7 @@ pub struct Places {
 fn clamp(x: u64) -> u32
     ensures { result ≡ clamped x }
 {
-    if x < 4294967296 {
-        return x as u32;
-    }
-    4294967295
-}
-
-// A row's number in eight bytes, as costs and bounds are.
-fn wide(x: u32) -> u64
-    ensures { result ≡ x }
-{
-    x as u64
+    x.min(4294967295) as u32
 }
 
 // The first `width` numbers of a bound, clamped, and zeros, than which no number of a row is smaller. Always so many
@@ -52,12 +42,10 @@ fn clamp_bound(b: [u64; 8], width: usize) -> [u64; 8]
         × ((j : ℕ) → width ≤ j → get_or result j 0 ≡ 0) }
 {
     let mut least = [0u64; 8];
-    let mut i: usize = 0;
-    while i < ZONE_WIDTH {
+    for i in 0..ZONE_WIDTH {
         if i < width {
-            least[i] = wide(clamp(b[i]));
+            least[i] = u64::from(clamp(b[i]));
         }
-        i += 1;
     }
     least
 }
@@ -90,14 +78,12 @@ pub fn reached_zones(
     let least = clamp_bound(b, d.objectives + d.sums);
     let count = from[branch_candidates::MAX_ROWS] as usize;
     let mut kept: usize = 0;
-    let mut j: usize = 0;
-    while j < count {
+    for j in 0..count {
         let i = from[j];
         if is_under(least, ZONE_WIDTH * i as usize, zones) {
             to[kept] = i;
             kept += 1;
         }
-        j += 1;
     }
     to[branch_candidates::MAX_ROWS] = kept as u8;
 }
@@ -115,12 +101,10 @@ pub fn is_reached(
 {
     let least = clamp_bound(b, d.objectives + d.sums);
     let count = from[branch_candidates::MAX_ROWS] as usize;
-    let mut j: usize = 0;
-    while j < count {
+    for j in 0..count {
         if is_under(least, ZONE_WIDTH * from[j] as usize, zones) {
             return true;
         }
-        j += 1;
     }
     false
 }
@@ -141,10 +125,8 @@ fn put_zone(i: usize, corner: [u64; 4], d: branch_directions::Directions, zones:
 {
     let all = branch_directions::directions_of(corner, d);
     let at = ZONE_WIDTH * i;
-    let mut j: usize = 0;
-    while j < ZONE_WIDTH {
+    for j in 0..ZONE_WIDTH {
         zones[at + j] = clamp(all[j]);
-        j += 1;
     }
 }
 
@@ -166,14 +148,10 @@ fn is_held(t: [u64; 4], z: [u64; 4], free: usize, m: usize, p: usize, zones: &[u
     requires { (zones_end ≤ length zones.now) × (m ≤ max_zones) × (p ≤ max_objectives) }
     ensures { result ≡ true → Held p zones.now m free (take p t) }
 {
-    let mut k: usize = 0;
-    while k < m {
-        if k != free {
-            if is_part_of(t, z, k, p, zones) {
-                return true;
-            }
+    for k in 0..m {
+        if k != free && is_part_of(t, z, k, p, zones) {
+            return true;
         }
-        k += 1;
     }
     false
 }
@@ -250,10 +228,8 @@ fn split_zone(
         return m;
     }
     let mut s = Places { count: m, free: i };
-    let mut j: usize = 0;
-    while j < p {
+    for j in 0..p {
         s = add_part(t, z, j, s, d, zones);
-        j += 1;
     }
     close_row(s, d, zones)
 }
@@ -271,37 +247,10 @@ pub fn split_zones(
         (corners_in d.objectives zones.new 0 result) }
 {
     let mut count = m;
-    let mut i = m;
-    while 0 < i {
-        i -= 1;
+    for i in (0..m).rev() {
         count = split_zone(z, i, count, d, zones);
     }
     count
-}
-
-// The first objective whose ceiling is 0, or `p`.
-fn find_zero(ceilings: [u64; 4], p: usize) -> usize
-    requires { p ≤ max_objectives }
-    ensures { result < p → get_or ceilings result 0 ≡ 0 }
-{
-    let mut i: usize = 0;
-    while i < p {
-        if ceilings[i] == 0 {
-            return i;
-        }
-        i += 1;
-    }
-    p
-}
-
-// One less, and at least 0.
-fn less_one(x: u64) -> u64
-    ensures { result ≡ x - 1 }
-{
-    if x == 0 {
-        return 0;
-    }
-    x - 1
 }
 
 // Each ceiling less one.
@@ -309,10 +258,10 @@ fn lower(ceilings: [u64; 4]) -> [u64; 4]
     ensures { result ≡ lowered ceilings }
 {
     [
-        less_one(ceilings[0]),
-        less_one(ceilings[1]),
-        less_one(ceilings[2]),
-        less_one(ceilings[3]),
+        ceilings[0].saturating_sub(1),
+        ceilings[1].saturating_sub(1),
+        ceilings[2].saturating_sub(1),
+        ceilings[3].saturating_sub(1),
     ]
 }
 
@@ -322,8 +271,7 @@ pub fn first_zone(ceilings: [u64; 4], d: branch_directions::Directions, zones: &
     ensures { Measured d zones.new result × (length zones.new ≡ length zones.old)
         × FirstZone d.objectives ceilings zones.new result }
 {
-    let p = d.objectives;
-    if find_zero(ceilings, p) < p {
+    if ceilings[..d.objectives].contains(&0) {
         return 0;
     }
     put_zone(0, lower(ceilings), d, zones);
