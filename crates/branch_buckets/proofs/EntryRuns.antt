@@ -97,3 +97,13 @@ module _ (ds s : List ℕ) (at v : ℕ) (x : List ℕ) where
             sym (rw (← e, scope_end ds s at w) at (u.entry a h)),
             room_index ds s at w sizes k (first + a * stride) (u.room a h),
           )
+
+    -- one variable more, from what was read of it: nothing wraps
+    pub entry_step : {k first stride : ℕ} → EntrySteps ds s at v x k first stride → k < table_arity (drop at s)
+        → (u : ℕ) → u ≡ variable_at s at k → (t : DP.Progression) → TermSays u 1 v x t
+        → EntrySteps ds s at v x (k + 1) (first * get_or ds u 0 + t.first) (stride * get_or ds u 0 + t.stride)
+        × (first * get_or ds u 0 + t.first < length s) × (stride * get_or ds u 0 + t.stride < 4096)
+    entry_step {k} {first} {stride} steps more u e t says =
+        let next : EntrySteps ds s at v x (k + 1) (first * get_or ds u 0 + t.first) (stride * get_or ds u 0 + t.stride) =
+        rw e (entry_next steps more t (rw e at says)) in
+        (next, first_fits next, stride_fits next (omega arith))

@@ -1,13 +1,13 @@
 -- Adding messages one at a time: those in slots, and those sent. What is left is still to be added.
 use mathlib.Core.Path.{◌≡◌, refl}
-use mathlib.Core.List.{List, ◌∷◌}
-use Prim.Native.Nat.{ℕ, suc, ◌+◌, ◌-◌, ◌*◌, ◌≤◌, ◌<◌}
+use mathlib.Core.List.{List}
+use Prim.Native.Nat.{ℕ, ◌+◌, ◌-◌, ◌*◌, ◌≤◌, ◌<◌}
 use native.Mathlib.Omega.{arith}
 use native.Mathlib.Nat.{zero-add}
 use lib.ListN.{length, get_or, set, replicate, get_or-replicate}
 use Rattle.model.specs.Limits.{word_end}
 use Rattle.layout.specs.Places.{max_messages, children_at, loose_at}
-use Rattle.branch_buckets.specs.Messages.{sum_over, count_from, message_at, sent_over, children_over, received_over}
+use Rattle.branch_buckets.specs.Messages.{sum_over, message_at, sent_over, received_over}
 use Rattle.branch_buckets.specs.Content.{Summed}
 use Rattle.branch_buckets.specs.Adding.{message_start, RowAdded, RowsAdded, Received}
 use Rattle.branch_buckets.specs.declared.Span as DS

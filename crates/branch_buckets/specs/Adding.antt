@@ -9,9 +9,10 @@ use Rattle.costs.specs.Entries.{table_at, scope_at, entries_at}
 use Rattle.groups.specs.Groups.{tables_over}
 use Rattle.branch_directions.specs.Directions.{directions_of}
 use Rattle.branch_directions.specs.declared.Directions as DD
-use Rattle.layout.specs.Places.{max_messages, field_in}
+use Rattle.layout.specs.Places.{max_messages, messages_at, message_width, field_in}
 use Rattle.branch_buckets.specs.Messages.{message_entry, received_over}
 use Rattle.branch_buckets.specs.Bounds.{places_over}
+use Rattle.branch_buckets.specs.declared.Message as DM
 use Rattle.branch_buckets.specs.declared.Progression as DP
 use Rattle.branch_buckets.specs.declared.Span as DS
 use Rattle.branch_buckets.specs.declared.Totals as DT
@@ -23,6 +24,20 @@ add_end = 9223372036854775808
 -- where the numbers of message g at a choice start
 abbrev pub message_start : ℕ → List ℕ → ℕ → List ℕ → ℕ
 message_start w plan g y = field_in plan g 0 + w * message_entry plan g y
+
+-- message g of the plan
+pub record MessageHas (plan : List ℕ) (g : ℕ) (m : DM.Message) : Type 0 where
+  pub start : m.start ≡ get_or plan (messages_at + message_width * g) 0
+  pub one : m.one ≡ field_in plan g 1
+  pub one_stride : m.one_stride ≡ field_in plan g 2
+  pub two : m.two ≡ field_in plan g 3
+  pub two_stride : m.two_stride ≡ field_in plan g 4
+  pub three : m.three ≡ field_in plan g 5
+  pub three_stride : m.three_stride ≡ field_in plan g 6
+  pub low : m.start < word_end
+  pub narrow : m.one_stride < word_end
+  pub narrow_two : m.two_stride < word_end
+  pub narrow_three : m.three_stride < word_end
 
 -- the variable u's value, times t, as the variable v runs through its values
 pub record TermSays (u t v : ℕ) (x : List ℕ) (r : DP.Progression) : Type 0 where

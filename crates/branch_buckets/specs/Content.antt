@@ -1,13 +1,12 @@
 -- What adding up a bucket asks for and ensures.
-use Rattle.std.specs.Prelude.{◌≡◌, true, List, ℕ, ◌+◌, ◌-◌, ◌*◌, ◌≤◌, ◌<◌, length, get_or, take, set}
+use Rattle.std.specs.Prelude.{◌≡◌, List, ℕ, ◌+◌, ◌*◌, ◌≤◌, ◌<◌, length, get_or, take, set}
 use Rattle.model.specs.Basics.{All}
 use Rattle.model.specs.Limits.{max_variables, max_tables}
 use Rattle.model.specs.Problems.{DomainSize}
-use Rattle.model.specs.Costs.{is_choice}
 use Rattle.problem.specs.Records.{Whole}
-use Rattle.branch_directions.specs.Directions.{width_of, Sensible, direction_end}
+use Rattle.branch_directions.specs.Directions.{width_of, Sensible}
 use Rattle.branch_directions.specs.declared.Directions as DD
-use Rattle.layout.specs.Places.{max_messages, loose_at, children_at}
+use Rattle.layout.specs.Places.{max_messages, loose_at}
 use Rattle.branch_buckets.specs.Messages.{sent_over}
 use Rattle.branch_buckets.specs.Bounds.{content_over}
 use Rattle.branch_buckets.specs.declared.Span as DS

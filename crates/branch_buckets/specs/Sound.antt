@@ -1,6 +1,6 @@
 -- What the search relies on of a plan. Most of it is tested before the search (crate plan_test), so that nothing
 -- depends on how the plan was made.
-use Rattle.std.specs.Prelude.{◌≡◌, ◌⊎◌, true, List, ℕ, ◌+◌, ◌-◌, ◌≤◌, ◌<◌, length, get_or, take, drop}
+use Rattle.std.specs.Prelude.{◌≡◌, ◌⊎◌, true, List, ℕ, ◌+◌, ◌-◌, ◌≤◌, ◌<◌, length, take, drop}
 use Rattle.model.specs.Basics.{All}
 use Rattle.model.specs.Costs.{is_choice}
 use Rattle.model.specs.Reading.{table_scope}

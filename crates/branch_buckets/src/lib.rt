@@ -16,7 +16,8 @@ ghost use Rattle.layout.specs.Places.{max_messages, loose_at, numbers_at, order_
 ghost use Rattle.branch_buckets.specs.Messages.{message_at};
 ghost use Rattle.branch_buckets.specs.Bounds.{span_at};
 ghost use Rattle.branch_buckets.specs.Content.{Planned, Ranged, Filled, Summed};
-ghost use Rattle.branch_buckets.specs.Adding.{add_end, message_start, TermSays, MessageSays, EntrySays, PartFilled};
+ghost use Rattle.branch_buckets.specs.Adding.{add_end, message_start, MessageHas, TermSays, MessageSays};
+ghost use Rattle.branch_buckets.specs.Adding.{EntrySays, PartFilled};
 ghost use Rattle.branch_buckets.specs.Adding.{RowFilled, RowAdded, Addable, RowsAdded, Received, RecordAdded};
 ghost use Rattle.branch_buckets.specs.Adding.{Blank};
 ghost use Rattle.branch_buckets.specs.Adding.{Totalled, Small, four_sum, Directed};
@@ -36,6 +37,18 @@ pub struct Span {
     pub to: usize,
     pub first: usize,
     pub last: usize,
+}
+
+// Where a message's numbers start, and the variables that it reads, each with the stride of its values.
+#[derive(Clone, Copy)]
+struct Message {
+    start: usize,
+    one: usize,
+    one_stride: usize,
+    two: usize,
+    two_stride: usize,
+    three: usize,
+    three_stride: usize,
 }
 
 // What a value costs in each of four objectives.
@@ -121,23 +134,33 @@ fn term_of(u: usize, t: usize, v: usize, choice: &[u8]) -> Progression
     }
 }
 
+// Message `g` of the plan.
+fn message_of(g: usize, plan: &[u32]) -> Message
+    requires { g < word_end }
+    ensures { MessageHas plan.now g result }
+{
+    let at = layout::MESSAGES_AT + layout::MESSAGE_WIDTH * g;
+    Message {
+        start: number_at(plan, at),
+        one: number_at(plan, at + 1),
+        one_stride: number_at(plan, at + 2),
+        two: number_at(plan, at + 3),
+        two_stride: number_at(plan, at + 4),
+        three: number_at(plan, at + 5),
+        three_stride: number_at(plan, at + 6),
+    }
+}
+
 // Where the numbers of message `g` start, as `v` runs through its values.
 fn message_run(g: usize, v: usize, choice: &[u8], width: usize, plan: &[u32]) -> Progression
     requires { (g < word_end) × (width ≤ 8) × (v < length choice.now) }
     ensures { MessageSays width plan.now g v choice.now result }
 {
-    let at = layout::MESSAGES_AT + layout::MESSAGE_WIDTH * g;
-    let start = number_at(plan, at);
-    let one = number_at(plan, at + 1);
-    let one_stride = number_at(plan, at + 2);
-    let two = number_at(plan, at + 3);
-    let two_stride = number_at(plan, at + 4);
-    let three = number_at(plan, at + 5);
-    let three_stride = number_at(plan, at + 6);
-    let a = term_of(one, one_stride, v, choice);
-    let b = term_of(two, two_stride, v, choice);
-    let c = term_of(three, three_stride, v, choice);
-    let first = start + width * (a.first + b.first + c.first);
+    let m = message_of(g, plan);
+    let a = term_of(m.one, m.one_stride, v, choice);
+    let b = term_of(m.two, m.two_stride, v, choice);
+    let c = term_of(m.three, m.three_stride, v, choice);
+    let first = m.start + width * (a.first + b.first + c.first);
     let stride = width * (a.stride + b.stride + c.stride);
     Progression { first, stride }
 }
@@ -147,16 +170,9 @@ pub fn message_start(g: usize, choice: &[u8], width: usize, plan: &[u32]) -> usi
     requires { (g < word_end) × (width ≤ 8) }
     ensures { (result ≡ message_start width plan.now g choice.now) × (result < add_end) }
 {
-    let at = layout::MESSAGES_AT + layout::MESSAGE_WIDTH * g;
-    let start = number_at(plan, at);
-    let one = number_at(plan, at + 1);
-    let one_stride = number_at(plan, at + 2);
-    let two = number_at(plan, at + 3);
-    let two_stride = number_at(plan, at + 4);
-    let three = number_at(plan, at + 5);
-    let three_stride = number_at(plan, at + 6);
-    let two_terms = byte_at(choice, one) * one_stride + byte_at(choice, two) * two_stride;
-    start + width * (two_terms + byte_at(choice, three) * three_stride)
+    let m = message_of(g, plan);
+    let two_terms = byte_at(choice, m.one) * m.one_stride + byte_at(choice, m.two) * m.two_stride;
+    m.start + width * (two_terms + byte_at(choice, m.three) * m.three_stride)
 }
 
 // Adds eight numbers of the plan, all of which exist, to the row at `at`.
@@ -165,10 +181,8 @@ fn add_inside(start: usize, at: usize, plan: &[u32], rows: &mut [u64])
         × ((j : ℕ) → j < 8 → get_or rows.old (at + j) 0 < add_end) }
     ensures { RowAdded plan.now start at rows.old rows.new }
 {
-    let mut j: usize = 0;
-    while j < 8 {
+    for j in 0..8 {
         rows[at + j] = rows[at + j] + (plan[start + j] as u64);
-        j += 1;
     }
 }
 
@@ -178,10 +192,8 @@ fn add_partly(start: usize, at: usize, plan: &[u32], rows: &mut [u64])
         × ((j : ℕ) → j < 8 → get_or rows.old (at + j) 0 < add_end) }
     ensures { RowAdded plan.now start at rows.old rows.new }
 {
-    let mut j: usize = 0;
-    while j < 8 {
+    for j in 0..8 {
         rows[at + j] = rows[at + j] + (number_at(plan, start + j) as u64);
-        j += 1;
     }
 }
 
@@ -217,10 +229,8 @@ fn add_message(
     let r = message_run(g, v, choice, width, plan);
     let first = r.first;
     let stride = r.stride;
-    let mut a: usize = 0;
-    while a < size {
+    for a in 0..size {
         add_row(first + a * stride, 8 * a, plan, rows);
-        a += 1;
     }
 }
 
@@ -240,11 +250,9 @@ fn add_received(
     ensures { Received width plan.now span v size choice.now
         rows.old rows.new }
 {
-    let mut i = span.first;
-    while i < span.last {
+    for i in span.first..span.last {
         let g = plan[layout::CHILDREN_AT + i] as usize;
         add_message(g, v, size, choice, width, plan, rows);
-        i += 1;
     }
 }
 
@@ -257,14 +265,12 @@ fn entry_run(s: &[u8], at: usize, v: usize, sizes: &[u8], choice: &[u8]) -> Prog
     let a = problem::arity_at(s, at);
     let mut first: usize = 0;
     let mut stride: usize = 0;
-    let mut k: usize = 0;
-    while k < a {
+    for k in 0..a {
         let u = problem::scope_at(s, at, k);
         let d = sizes[u] as usize;
         let t = term_of(u, 1, v, choice);
         first = first * d + t.first;
         stride = stride * d + t.stride;
-        k += 1;
     }
     Progression { first, stride }
 }
@@ -282,11 +288,9 @@ fn add_record(s: &[u8], at: usize, v: usize, sizes: &[u8], choice: &[u8], totals
     let r = entry_run(s, at, v, sizes, choice);
     let first = r.first;
     let stride = r.stride;
-    let mut a: usize = 0;
-    while a < size {
+    for a in 0..size {
         let place = 4 * a + o;
         totals[place] = totals[place] + costs::table_entry(s, at, first + a * stride, sizes);
-        a += 1;
     }
 }
 
@@ -307,11 +311,9 @@ fn fill_totals(
     ensures { Totalled sizes.now s.now plan.now span v choice.now
         totals.new }
 {
-    let mut i = span.from;
-    while i < span.to {
+    for i in span.from..span.to {
         let at = plan[i] as usize;
         add_record(s, at, v, sizes, choice, totals);
-        i += 1;
     }
 }
 
@@ -343,10 +345,8 @@ fn put_sums(at: usize, sums: usize, weights: &[u64], t: Totals, rows: &mut [u64]
         × (at + sums ≤ length rows.old) }
     ensures { PartFilled (four_sum weights.now t) at sums rows.old rows.new }
 {
-    let mut i: usize = 0;
-    while i < sums {
+    for i in 0..sums {
         rows[at + i] = sum_at(i, weights, t);
-        i += 1;
     }
 }
 
@@ -397,10 +397,8 @@ fn put_rows(totals: &[u64], size: usize, d: branch_directions::Directions, rows:
     let p = d.objectives;
     let sums = d.sums;
     let weights = d.weights;
-    let mut a: usize = 0;
-    while a < size {
+    for a in 0..size {
         put_directions(a, totals, p, sums, &weights, rows);
-        a += 1;
     }
 }
 
@@ -436,10 +434,8 @@ pub fn sent(from: usize, to: usize, choice: &[u8], width: usize, plan: &[u32]) -
     ensures { Summed width plan.now from to choice.now result }
 {
     let mut t = [0u64; 8];
-    let mut g = from;
-    while g < to {
+    for g in from..to {
         add_row(message_start(g, choice, width, plan), 0, plan, &mut t);
-        g += 1;
     }
     t
 }

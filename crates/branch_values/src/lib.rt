@@ -57,12 +57,10 @@ pub fn row_of(rows: &[u64; 64], a: usize, acc: [u64; 8], away: [u64; 8], w: usiz
 {
     let at = 8 * a;
     let mut b = [0u64; 8];
-    let mut j: usize = 0;
-    while j < 8 {
+    for j in 0..8 {
         if j < w {
             b[j] = acc[j] + (rows[at + j] - away[j]);
         }
-        j += 1;
     }
     b
 }
@@ -81,10 +79,8 @@ pub fn leads_of(
 {
     let lead = branch_directions::lead_at(d);
     let mut leads = [0u64; 8];
-    let mut a: usize = 0;
-    while a < size {
+    for a in 0..size {
         leads[a] = acc[lead] + (rows[8 * a + lead] - away[lead]);
-        a += 1;
     }
     leads
 }
@@ -96,12 +92,10 @@ pub fn least_value(leads: &[u64; 8], size: usize) -> usize
         × ((b : ℕ) → b < size → get_or leads.now result 0 ≤ get_or leads.now b 0) }
 {
     let mut least: usize = 0;
-    let mut a: usize = 1;
-    while a < size {
+    for a in 1..size {
         if leads[a] < leads[least] {
             least = a;
         }
-        a += 1;
     }
     least
 }

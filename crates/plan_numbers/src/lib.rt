@@ -2,7 +2,7 @@
 // at least, and what they leave of it.
 #![tactic(auto)]
 
-ghost use Rattle.std.specs.Prelude.{◌≤◌};
+ghost use Rattle.std.specs.Prelude.{ℕ, ◌<◌, ◌≤◌};
 ghost use Rattle.branch_buckets.specs.Content.{Planned};
 ghost use Rattle.plan_memory.specs.Arranged.{Loose};
 
@@ -10,7 +10,7 @@ ghost use Rattle.plan_memory.specs.Arranged.{Loose};
 const MOST_REST: u64 = 1152921504606846976;
 
 // No sum is as large.
-const NO_SUM: u64 = 18446744073709551615;
+const NO_SUM: u64 = u64::MAX;
 
 // A part of a bucket: the bucket's variable, the records and slots of the part, its message, and what the parts before
 // it left for each value of the variable.
@@ -32,33 +32,31 @@ pub struct Laid {
     pub to: usize,
 }
 
-// How the parts of a bucket share what they have at least: whether they do, how many are still to get a share, what
-// is still to be shared, and what the parts before left.
+// What the parts of a bucket share: how many of them are still to get a share, and what is still to be shared.
 #[derive(Clone, Copy)]
-struct Sharing {
-    is_shared: bool,
+struct Shares {
     senders: usize,
     total: [u64; 64],
+}
+
+// What the parts before left, and what the next ones share, if they do.
+#[derive(Clone, Copy)]
+struct Sharing {
+    shares: Option<Shares>,
     rest: [u64; 64],
 }
 
 // The choice of zeros, but for the variables of a part: combination `c` of their values, the last of them fastest.
 fn choice_of(scope: plan_shapes::Scope, c: usize) -> [u8; 24] {
     let zeros = [0u8; 24];
-    let u = scope.u;
-    let v = scope.v;
-    let w = scope.w;
-    let dv = v.values;
-    let dw = w.values;
-    if dv == 0 {
+    let dv = scope.v.values;
+    let dw = scope.w.values;
+    if dv == 0 || dw == 0 {
         return zeros;
     }
-    if dw == 0 {
-        return zeros;
-    }
-    let x = branch_buckets::with_value(zeros, w.number, c % dw % 8);
-    let y = branch_buckets::with_value(x, v.number, c / dw % dv % 8);
-    branch_buckets::with_value(y, u.number, c / dw / dv % 8)
+    let x = branch_buckets::with_value(zeros, scope.w.number, c % dw % 8);
+    let y = branch_buckets::with_value(x, scope.v.number, c / dw % dv % 8);
+    branch_buckets::with_value(y, scope.u.number, c / dw / dv % 8)
 }
 
 // What a part holds for each value of the bucket's variable, at a choice of the others.
@@ -73,47 +71,33 @@ fn content_of(
 ) -> [u64; 64]
     requires { Planned d r sizes.now s.now plan.now }
 {
-    let part_span = part.span;
-    let from = part_span.from;
-    let to = plan_shapes::at_most(part_span.to, r);
-    let first = part_span.first;
-    let last = plan_shapes::at_most(part_span.last, layout::MAX_MESSAGES);
+    let from = part.span.from;
+    let to = part.span.to.min(r);
+    let first = part.span.first;
+    let last = part.span.last.min(layout::MAX_MESSAGES);
     let own = part.own;
     let n = sizes.len();
     let choice = &x[..n];
-    if from <= to {
-        if first <= last {
-            if own < n {
-                if costs::prefix_ok(sizes, choice) {
-                    let span = branch_buckets::Span {
-                        from,
-                        to,
-                        first,
-                        last,
-                    };
-                    return branch_buckets::content(s, sizes, span, own, choice, d, plan);
-                }
-            }
-        }
+    if from <= to && first <= last && own < n && costs::prefix_ok(sizes, choice) {
+        let span = branch_buckets::Span {
+            from,
+            to,
+            first,
+            last,
+        };
+        return branch_buckets::content(s, sizes, span, own, choice, d, plan);
     }
     [0u64; 64]
 }
 
-// The lesser of each number and of what two others make together, for the first `count`. No such sum wraps; were it to,
-// the plan would fail its test.
-fn lowered(low: [u64; 64], rest: [u64; 64], rows: [u64; 64], count: usize) -> [u64; 64]
-    requires { count ≤ 64 }
+// The lesser of each number and of what `other` gives for its index, for the first `count`.
+fn lowered<F: Fn(usize) -> u64>(mut low: [u64; 64], count: usize, other: F) -> [u64; 64]
+    requires { (count ≤ 64) × ((i : ℕ) → i < 64 → F.pre other i) }
 {
-    let mut least = low;
-    let mut i: usize = 0;
-    while i < count {
-        least[i] = branch_directions::lesser(
-            least[i],
-            std::num::wrapping_add_u64(rest[i], rows[i]),
-        );
-        i += 1;
+    for i in 0..count {
+        low[i] = low[i].min(other(i));
     }
-    least
+    low
 }
 
 // Entry `e` of a message for each value of the bucket's variable:
@@ -130,18 +114,15 @@ fn entry_rows(
     requires { Planned d r sizes.now s.now plan.now × (e ≤ 512) }
 {
     let count = 8 * plan_shapes::size_of(part.own, sizes);
-    let shape = part.shape;
     let rest = part.rest;
-    let scope = shape.scope;
-    let share = plan_shapes::at_most(shape.share, plan_shapes::MOST_ENTRIES);
+    let share = part.shape.share.min(plan_shapes::MOST_ENTRIES);
     let mut low = [NO_SUM; 64];
-    let mut t: usize = 0;
-    while t < share {
-        let x = choice_of(scope, e * share + t);
+    for t in 0..share {
+        let x = choice_of(part.shape.scope, e * share + t);
         let rows = content_of(s, sizes, r, part, x, d, plan);
-        let next = lowered(low, rest, rows, count);
+        // no such sum wraps; were it to, the plan would fail its test
+        let next = lowered(low, count, |i| rest[i].wrapping_add(rows[i]));
         low = next;
-        t += 1;
     }
     low
 }
@@ -150,30 +131,12 @@ fn entry_rows(
 pub fn least_numbers(rows: [u64; 64], count: usize) -> [u64; 8]
     requires { count ≤ 64 }
 {
-    let mut numbers = [4294967295u64; 8];
-    let mut i: usize = 0;
-    while i < count {
+    let mut numbers = [u32::MAX as u64; 8];
+    for i in 0..count {
         let j = i % 8;
-        numbers[j] = branch_directions::lesser(numbers[j], rows[i]);
-        i += 1;
+        numbers[j] = numbers[j].min(rows[i]);
     }
     numbers
-}
-
-// The lesser of what was left and of what the numbers, none of which is larger, leave of the rows.
-fn left_over(left: [u64; 64], rows: [u64; 64], numbers: [u64; 8], count: usize) -> [u64; 64]
-    requires { count ≤ 64 }
-{
-    let mut least = left;
-    let mut i: usize = 0;
-    while i < count {
-        least[i] = branch_directions::lesser(
-            least[i],
-            std::num::wrapping_sub_u64(rows[i], numbers[i % 8]),
-        );
-        i += 1;
-    }
-    least
 }
 
 // The numbers of an entry: zeros at the place of what is worth nothing.
@@ -191,11 +154,9 @@ pub fn put_entry(e: usize, place: usize, numbers: [u64; 8], width: usize, plan: 
     requires { (e ≤ 512) × (width ≤ 8) }
     ensures { Loose plan.old plan.new }
 {
-    let at = plan_shapes::at_most(place, plan_memory::MOST_NUMBER) + width * e;
-    let mut j: usize = 0;
-    while j < width {
+    let at = place.min(plan_memory::MOST_NUMBER) + width * e;
+    for j in 0..width {
         plan_memory::put(at + j, numbers[j] as usize, plan);
-        j += 1;
     }
 }
 
@@ -213,39 +174,33 @@ fn put_entries(
 {
     let count = 8 * plan_shapes::size_of(part.own, sizes);
     let width = plan_shapes::width_of(d);
-    let shape = part.shape;
-    let place = shape.place;
-    let entries = plan_shapes::at_most(shape.entries, plan_shapes::MOST_ENTRIES);
+    let place = part.shape.place;
+    let entries = part.shape.entries.min(plan_shapes::MOST_ENTRIES);
     let mut left = [MOST_REST; 64];
-    let mut e: usize = 0;
-    while e < entries {
+    for e in 0..entries {
         let rows = entry_rows(s, sizes, r, part, e, d, plan);
         let numbers = numbers_at(place, rows, count);
         put_entry(e, place, numbers, width, plan);
-        let next = left_over(left, rows, numbers, count);
+        // none of the numbers is larger than the rows'
+        let next = lowered(left, count, |i| rows[i].wrapping_sub(numbers[i % 8]));
         left = next;
-        e += 1;
     }
     left
 }
 
 // The part of message `g`: its records and slots stand behind those of the part before.
 fn part_at(g: usize, own: usize, before: branch_buckets::Span, sizes: &[u8], plan: &[u32]) -> Part {
-    let at = layout::MESSAGES_AT
-        + layout::MESSAGE_WIDTH * plan_shapes::at_most(g, layout::MAX_MESSAGES);
-    let from = before.to;
-    let first = before.last;
+    let at = layout::MESSAGES_AT + layout::MESSAGE_WIDTH * g.min(layout::MAX_MESSAGES);
     let span = branch_buckets::Span {
-        from,
+        from: before.to,
         to: branch_buckets::number_at(plan, at + 7),
-        first,
+        first: before.last,
         last: branch_buckets::number_at(plan, at + 8),
     };
-    let shape = plan_shapes::shape_at(g, sizes, plan);
     Part {
         own,
         span,
-        shape,
+        shape: plan_shapes::shape_at(g, sizes, plan),
         rest: [0u64; 64],
     }
 }
@@ -262,50 +217,32 @@ fn part_least(
 ) -> [u64; 64]
     requires { Planned d r sizes.now s.now plan.now }
 {
-    let own = part.own;
-    let span = part.span;
-    let shape = part.shape;
-    let all = plan_shapes::shape_over(shape.scope, 0, shape.place);
     let whole = Part {
-        own,
-        span,
-        shape: all,
+        shape: plan_shapes::shape_over(part.shape.scope, 0, part.shape.place),
         rest: [0u64; 64],
+        ..part
     };
     entry_rows(s, sizes, r, whole, 0, d, plan)
 }
 
-// 1 for a message with variables, 0 for another.
-fn sender_of(shape: plan_shapes::Shape) -> usize
-    ensures { result ≤ 1 }
-{
-    if 1 < shape.entries {
-        return 1;
-    }
-    0
-}
-
 // How many of the parts send a message with variables.
 fn count_senders(laid: Laid, sizes: &[u8], plan: &[u32]) -> usize {
-    let to = plan_shapes::at_most(laid.to, layout::MAX_MESSAGES);
-    let mut senders: usize = 0;
-    let mut g = laid.from;
-    while g < to {
-        senders += sender_of(plan_shapes::shape_at(g, sizes, plan));
-        g += 1;
+    let to = laid.to.min(layout::MAX_MESSAGES);
+    let mut senders = 0;
+    for g in laid.from..to {
+        if 1 < plan_shapes::shape_at(g, sizes, plan).entries {
+            senders += 1;
+        }
     }
     senders
 }
 
 // Sums of the numbers of two lists.
-fn added(a: [u64; 64], b: [u64; 64]) -> [u64; 64] {
-    let mut sums = a;
-    let mut i: usize = 0;
-    while i < 64 {
-        sums[i] = std::num::wrapping_add_u64(sums[i], b[i]);
-        i += 1;
+fn added(mut a: [u64; 64], b: [u64; 64]) -> [u64; 64] {
+    for i in 0..64 {
+        a[i] = a[i].wrapping_add(b[i]);
     }
-    sums
+    a
 }
 
 // What all parts have at least.
@@ -319,74 +256,47 @@ fn total_least(
 ) -> [u64; 64]
     requires { Planned d r sizes.now s.now plan.now }
 {
-    let own = laid.own;
-    let to = plan_shapes::at_most(laid.to, layout::MAX_MESSAGES);
+    let to = laid.to.min(layout::MAX_MESSAGES);
     let mut before = laid.before;
     let mut total = [0u64; 64];
-    let mut g = laid.from;
-    while g < to {
-        let part = part_at(g, own, before, sizes, plan);
+    for g in laid.from..to {
+        let part = part_at(g, laid.own, before, sizes, plan);
         let next = added(total, part_least(s, sizes, r, part, d, plan));
         total = next;
         before = part.span;
-        g += 1;
     }
     total
 }
 
-// Nothing is left yet, and the parts share what they have at least, if several send a message with variables.
-fn start_sharing(
+// The parts share what they have at least, if several send a message with variables.
+fn start_shares(
     s: &[u8],
     sizes: &[u8],
     r: usize,
     laid: Laid,
     d: branch_directions::Directions,
     plan: &[u32],
-) -> Sharing
+) -> Option<Shares>
     requires { Planned d r sizes.now s.now plan.now }
 {
     let senders = count_senders(laid, sizes, plan);
     if senders < 2 {
-        return Sharing {
-            is_shared: false,
-            senders,
-            total: [0u64; 64],
-            rest: [0u64; 64],
-        };
+        return None;
     }
     let total = total_least(s, sizes, r, laid, d, plan);
-    Sharing {
-        is_shared: true,
-        senders,
-        total,
-        rest: [0u64; 64],
-    }
-}
-
-// A share of a number among so many; none where there is nobody.
-fn share_of(number: u64, among: u64) -> u64 {
-    if among == 0 {
-        return 0;
-    }
-    number / among
+    Some(Shares { senders, total })
 }
 
 // What a part starts with: what the parts before it left, its share among so many of what all have at least, less what
-// it has itself. A number may be less than 0, but not with what the part holds.
-fn with_share(sharing: Sharing, least: [u64; 64], among: u64) -> Sharing {
-    let mut total = sharing.total;
-    let mut rest = sharing.rest;
-    let mut i: usize = 0;
-    while i < 64 {
-        let share = share_of(total[i], among);
-        total[i] = std::num::wrapping_sub_u64(total[i], share);
-        rest[i] = std::num::wrapping_sub_u64(std::num::wrapping_add_u64(rest[i], share), least[i]);
-        i += 1;
+// it has itself; no share where there is nobody. A number may be less than 0, but not with what the part holds.
+fn with_share(mut shares: Shares, mut rest: [u64; 64], least: [u64; 64], among: u64) -> Sharing {
+    for i in 0..64 {
+        let share = shares.total[i].checked_div(among).unwrap_or(0);
+        shares.total[i] = shares.total[i].wrapping_sub(share);
+        rest[i] = rest[i].wrapping_add(share).wrapping_sub(least[i]);
     }
     Sharing {
-        is_shared: true,
-        senders: sharing.senders,
-        total,
+        shares: Some(shares),
         rest,
     }
 }
@@ -403,26 +313,18 @@ fn start_part(
 ) -> Sharing
     requires { Planned d r sizes.now s.now plan.now }
 {
-    if !sharing.is_shared {
+    let Some(shares) = sharing.shares else {
         return sharing;
-    }
-    let shape = part.shape;
+    };
     let least = part_least(s, sizes, r, part, d, plan);
-    if shape.entries < 2 {
-        return with_share(sharing, least, 0);
+    if part.shape.entries < 2 || shares.senders == 0 {
+        return with_share(shares, sharing.rest, least, 0);
     }
-    if sharing.senders == 0 {
-        return with_share(sharing, least, 0);
-    }
-    let given = with_share(sharing, least, sharing.senders as u64);
-    let total = given.total;
-    let rest = given.rest;
-    Sharing {
-        is_shared: true,
-        senders: sharing.senders - 1,
-        total,
-        rest,
-    }
+    let others = Shares {
+        senders: shares.senders - 1,
+        ..shares
+    };
+    with_share(others, sharing.rest, least, shares.senders as u64)
 }
 
 // Writes the numbers of a part's message.
@@ -438,23 +340,11 @@ fn put_part(
     requires { Planned d r sizes.now s.now plan.old }
     ensures { Loose plan.old plan.new }
 {
-    let own = part.own;
-    let span = part.span;
-    let shape = part.shape;
     let start = start_part(s, sizes, r, part, d, sharing, plan);
     let rest = start.rest;
-    let started = Part {
-        own,
-        span,
-        shape,
-        rest,
-    };
-    let left = put_entries(s, sizes, r, started, d, plan);
-    let total = start.total;
+    let left = put_entries(s, sizes, r, Part { rest, ..part }, d, plan);
     Sharing {
-        is_shared: start.is_shared,
-        senders: start.senders,
-        total,
+        shares: start.shares,
         rest: left,
     }
 }
@@ -471,16 +361,16 @@ pub fn put_parts(
     requires { Planned d r sizes.now s.now plan.old }
     ensures { Loose plan.old plan.new }
 {
-    let own = laid.own;
-    let to = plan_shapes::at_most(laid.to, layout::MAX_MESSAGES);
-    let mut sharing = start_sharing(s, sizes, r, laid, d, plan);
+    let to = laid.to.min(layout::MAX_MESSAGES);
+    let mut sharing = Sharing {
+        shares: start_shares(s, sizes, r, laid, d, plan),
+        rest: [0u64; 64],
+    };
     let mut before = laid.before;
-    let mut g = laid.from;
-    while g < to {
-        let part = part_at(g, own, before, sizes, plan);
+    for g in laid.from..to {
+        let part = part_at(g, laid.own, before, sizes, plan);
         sharing = put_part(s, sizes, r, part, d, sharing, plan);
         before = part.span;
-        g += 1;
     }
     sharing.rest
 }
