@@ -39,22 +39,6 @@ pub record Testing (n r : ℕ) (s plan marks : List ℕ) (to last k : ℕ) : Typ
   pub sent : (m : ℕ) → m < k
       → All (ReadsBefore plan m) (count_from (message_end plan (m + 1)) (message_end plan m - message_end plan (m + 1)))
 
-pub testing_start : (n r : ℕ) (s plan : List ℕ) → Ends n r plan → Testing n r s plan (replicate 24 0) r max_messages 0
-testing_start n r s plan e =
-    record {
-      few = omega arith;
-      long = refl;
-      marked = λ v h. absurd (none_marked 24 v h);
-      records = (e.records_first, omega arith);
-      children = (e.children_first, omega arith);
-      behind = record { records = rw (places_none plan r r (omega arith)) tt; children = tt };
-      done = below_none (λ m. BucketIn (Before plan m) s plan (behind_span plan r m));
-      sent =
-          below_none (λ m.
-          All (ReadsBefore plan m)
-          (count_from (message_end plan (m + 1)) (message_end plan m - message_end plan (m + 1))));
-    }
-
 module _ {n r : ℕ} {s plan marks : List ℕ} {to last k : ℕ} (t : Testing n r s plan marks to last k) where
   abbrev tested : DS.Span
   tested = record { from = record_end plan k; to = to; first = child_end plan k; last = last }

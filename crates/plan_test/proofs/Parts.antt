@@ -112,24 +112,6 @@ module _ {d : DD.Directions} {ds s plan : List ℕ} {p : DP.Part} where
   }
 
   module _ {c : ℕ} {left : List ℕ} (t : PartSteps d ds s plan p c left) where
-    pub part_next :
-        c < 64 → (left' : List ℕ) → length left' ≡ length left → Lowered left left'
-        → PairLeaves d ds s plan p (c / 8) (c % 8) left' → PartSteps d ds s plan p (c + 1) left'
-    part_next more left' same less pair =
-        record {
-          few = omega arith;
-          rows = record { long = same ∙ t.rows.long; small = λ i. omega (arith, less i, t.rows.small i) };
-          pairs = λ i j l h.
-              ⊎_elim
-              (λ (q : ltb (8 * i + j) c ≡ true).
-              λ m. values_lowered d ds s plan p i j m left left' less (t.pairs i j l (ltb-true (8 * i + j) c q) m))
-              (λ (q : ltb (8 * i + j) c ≡ false).
-              let first : c / 8 ≡ i = omega (arith, ltb-false (8 * i + j) c q) in
-              let second : c % 8 ≡ j = omega (arith, ltb-false (8 * i + j) c q) in
-              rw (first, second) at pair)
-              (test (ltb (8 * i + j) c));
-        }
-
     pub part_end :
         All DomainSize ds → 64 ≤ c → (h : DH.Held) → h.span ≡ p.span → h.rest ≡ left → PartLeaves d ds s plan p h
     part_end sizes all h span is =
