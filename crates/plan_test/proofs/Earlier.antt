@@ -4,8 +4,8 @@ use mathlib.Core.Logic.{⊎_elim}
 use mathlib.Core.List.{List}
 use Prim.Native.Nat.{ℕ, ◌+◌, ◌-◌, ◌≤◌, ◌<◌}
 use native.Mathlib.Omega.{arith}
-use borrow.Author.Count.{below_more, below_none}
-use lib.ListN.{length, set, replicate, length-set}
+use borrow.Author.Count.{below_more}
+use lib.ListN.{length, set, length-set}
 use Rattle.model.specs.Basics.{All}
 use Rattle.model.proofs.Elements.{all_map}
 use Rattle.layout.specs.Places.{max_messages, order_in, position_in, record_end, child_end, message_end}
@@ -15,8 +15,7 @@ use Rattle.branch_buckets.proofs.Reading.{Reads}
 use Rattle.plan_test.specs.Marks.{Marked, BucketIn}
 use Rattle.branch_buckets.specs.Content.{Ranged}
 use Rattle.branch_buckets.specs.declared.Span as DS
-use Rattle.branch_buckets.proofs.Ranges.{places_none}
-use Rattle.plan_test.proofs.Marking.{none_marked, mark_cases, reads_map, bucket_map, bucket_join}
+use Rattle.plan_test.proofs.Marking.{mark_cases, reads_map, bucket_map, bucket_join}
 
 -- v stands before position k
 abbrev pub Before : List ℕ → ℕ → ℕ → Type 0

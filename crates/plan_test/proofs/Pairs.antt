@@ -1,15 +1,11 @@
 -- A pair of values of a message's first two variables, with the values of the third one after the other.
-use mathlib.Core.Path.{◌≡◌, refl, ◌∙◌}
+use mathlib.Core.Path.{◌≡◌}
 use mathlib.Core.List.{List}
-use Prim.Native.Nat.{ℕ, ◌+◌, ◌*◌, ◌/◌, ◌%◌, ◌≤◌, ◌<◌}
-use native.Mathlib.Omega.{arith}
-use borrow.Author.Count.{below_more}
+use Prim.Native.Nat.{ℕ, ◌≤◌, ◌<◌}
 use lib.ListN.{length}
 use Rattle.branch_directions.specs.declared.Directions as DD
 use Rattle.plan_test.specs.declared.Part as DP
-use Rattle.plan_test.specs.Parts.{Lowered, Counted, three_of, Exist, ValuesLeave, PairLeaves}
-use Rattle.plan_test.proofs.Lowering.{lowered_twice}
-use Rattle.plan_test.proofs.Parts.{values_lowered}
+use Rattle.plan_test.specs.Parts.{Lowered, ValuesLeave}
 
 -- the first l values of the third variable are done
 pub record PairSteps (d : DD.Directions) (ds s plan : List ℕ) (p : DP.Part) (i j size : ℕ) (before : List ℕ) (l : ℕ)

@@ -2,6 +2,7 @@
 #![tactic(auto)]
 
 ghost use Rattle.std.specs.Prelude.{◌≡◌, ◌⊎◌, true, false, ℕ, ◌+◌, ◌-◌, ◌/◌, ◌%◌, ◌≤◌, ◌<◌, length, get_or, drop};
+ghost use Rattle.std.specs.Prelude.{IfSome};
 ghost use Rattle.model.specs.Basics.{All};
 ghost use Rattle.model.specs.Limits.{max_variables, max_tables};
 ghost use Rattle.model.specs.Problems.{DomainSize};
@@ -38,7 +39,6 @@ struct Part {
 // The last part of a bucket that was looked at, and what it left over.
 #[derive(Clone, Copy)]
 struct Held {
-    pub ok: bool,
     pub span: branch_buckets::Span,
     pub rest: [u64; 64],
 }
@@ -391,52 +391,29 @@ fn part_fits(s: &[u8], p: Part, plan: &[u32]) -> bool
     is_bucket_marked(s, p.span, &marks, plan)
 }
 
-// Nothing: a test has failed.
-fn none_held() -> Held
-    ensures { result.ok ≡ false }
-{
-    let span = branch_buckets::Span {
-        from: 0,
-        to: 0,
-        first: 0,
-        last: 0,
-    };
-    let rest = [0u64; 64];
-    Held {
-        ok: false,
-        span,
-        rest,
-    }
-}
-
-// What the part's message leaves over, least over all values of its variables.
+// What the part's message leaves over, least over all values of its variables; none where the part holds less than it.
 fn part_rest(
     s: &[u8],
     sizes: &[u8],
     p: Part,
     d: branch_directions::Directions,
     plan: &[u32],
-) -> Held
+) -> Option<Held>
     requires { Planned d p.span.to sizes.now s.now plan.now × (numbers_at ≤ length plan.now)
         × PartOf (length sizes.now) p × Fits s.now plan.now p }
-    ensures { result.ok ≡ true
-        → PartLeaves d sizes.now s.now plan.now p result }
+    ensures { IfSome result (λ held. PartLeaves d sizes.now s.now plan.now p held) }
 {
     let mut left = [MOST_REST; 64];
     for c in 0..64 {
         if !lower_pair(s, sizes, p, c, d, plan, &mut left) {
-            return none_held();
+            return None;
         }
     }
     let span = p.span;
-    Held {
-        ok: true,
-        span,
-        rest: left,
-    }
+    Some(Held { span, rest: left })
 }
 
-// What the bucket of position `k` holds after message `g`.
+// What the bucket of position `k` holds after message `g`; none where a test fails.
 // A message whose numbers lie outside the plan is worth nothing.
 fn after_message(
     s: &[u8],
@@ -446,15 +423,14 @@ fn after_message(
     d: branch_directions::Directions,
     plan: &[u32],
     held: Held,
-) -> Held
+) -> Option<Held>
     requires { BucketOf d sizes.now s.now plan.now k × (numbers_at ≤ length plan.now) × (g < max_messages)
         × (message_end plan.now (k + 1) ≤ g) × Holding d sizes.now s.now plan.now k g held }
-    ensures { result.ok ≡ true
-        → Holding d sizes.now s.now plan.now k (g + 1) result }
+    ensures { IfSome result (λ next. Holding d sizes.now s.now plan.now k (g + 1) next) }
 {
     let at = layout::MESSAGES_AT + layout::MESSAGE_WIDTH * g;
     if plan.len() <= plan[at] as usize {
-        return held;
+        return Some(held);
     }
     let taken = held.span;
     let from = taken.to;
@@ -462,10 +438,10 @@ fn after_message(
     let to = from.max(plan[at + 7] as usize);
     let last = first.max(plan[at + 8] as usize);
     if (plan[layout::RECORD_ENDS_AT + k] as usize) < to {
-        return none_held();
+        return None;
     }
     if (plan[layout::CHILD_ENDS_AT + k] as usize) < last {
-        return none_held();
+        return None;
     }
     let own = branch_buckets::variable_at(k, plan);
     let span = branch_buckets::Span {
@@ -482,7 +458,7 @@ fn after_message(
         rest,
     };
     if !part_fits(s, p, plan) {
-        return none_held();
+        return None;
     }
     part_rest(s, sizes, p, d, plan)
 }
@@ -523,17 +499,13 @@ fn holds_at(
         last: first,
     };
     let rest = [REST_BASE; 64];
-    let mut held = Held {
-        ok: true,
-        span,
-        rest,
-    };
+    let mut held = Held { span, rest };
     let begin = plan[layout::MESSAGE_ENDS_AT + (k + 1)] as usize;
     for g in begin..end {
-        held = after_message(s, sizes, k, g, d, plan, held);
-        if !held.ok {
+        let Some(next) = after_message(s, sizes, k, g, d, plan, held) else {
             return false;
-        }
+        };
+        held = next;
     }
     let left = held.rest;
     is_kept(left)

@@ -17,8 +17,8 @@ loop-g-init c =
     holding_start a.d a.sizes.now a.s.now a.plan.now a.k a.r _ q.4 q.2
     (ap (λ (u : DS.Span). u.from) bucket) (ap (λ (u : DS.Span). u.first) bucket) refl
 
-pub after_message-held-requires : goal.after_message-held-requires
-after_message-held-requires c =
+pub after_message-requires : goal.after_message-requires
+after_message-requires c =
     let k = c.args.k in
     let q = c.requires in
     let few = message_limit q.4 k (omega (arith, q.2)) in

@@ -9,4 +9,4 @@ loop-c-init c =
 
 pub returns : goal.returns
 returns c =
-    λ _. part_end c.loop-c.invariant c.requires.0.small (omega arith) _ refl refl
+    part_end c.loop-c.invariant c.requires.0.small (omega arith) _ refl refl
