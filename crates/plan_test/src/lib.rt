@@ -233,10 +233,10 @@ fn count_values(u: usize, sizes: &[u8]) -> usize
     requires { All DomainSize sizes.now }
     ensures { Counted sizes.now u result }
 {
-    if u < sizes.len() {
-        return sizes[u] as usize;
+    match sizes.get(u) {
+        Some(&size) => size as usize,
+        None => 1,
     }
-    1
 }
 
 // Takes a row's numbers from what is there, and lowers what is left to that, unless there is too little.
@@ -361,10 +361,7 @@ fn lower_pair(
     if u == v && i != j {
         return true;
     }
-    if count_values(u, sizes) <= i {
-        return true;
-    }
-    if count_values(v, sizes) <= j {
+    if count_values(u, sizes) <= i || count_values(v, sizes) <= j {
         return true;
     }
     let size = count_values(plan[at + 5] as usize, sizes);
@@ -437,10 +434,9 @@ fn after_message(
     let first = taken.last;
     let to = from.max(plan[at + 7] as usize);
     let last = first.max(plan[at + 8] as usize);
-    if (plan[layout::RECORD_ENDS_AT + k] as usize) < to {
-        return None;
-    }
-    if (plan[layout::CHILD_ENDS_AT + k] as usize) < last {
+    if to > plan[layout::RECORD_ENDS_AT + k] as usize
+        || last > plan[layout::CHILD_ENDS_AT + k] as usize
+    {
         return None;
     }
     let own = branch_buckets::variable_at(k, plan);

@@ -16,7 +16,7 @@ returns-then-plan-at c =
 pub part_fits-requires : goal.part_fits-requires
 part_fits-requires c =
     let q = c.requires in
-    let planned = planned_fewer q.0.planned c.max-to.result c.if-plan-k.false in (
+    let planned = planned_fewer q.0.planned c.max-to.result (omega arith) in (
       q.2,
       record { records = omega arith; children = omega arith; children_end = omega (arith, q.0.slots) },
       planned.few,
@@ -27,7 +27,7 @@ part_fits-requires c =
 pub part_rest-requires : goal.part_rest-requires
 part_rest-requires c =
     let q = c.requires in (
-      planned_fewer q.0.planned c.max-to.result c.if-plan-k.false,
+      planned_fewer q.0.planned c.max-to.result (omega arith),
       q.1,
       record {
         variable = rw c.variable_at-own.ensures.0 q.0.variable;
@@ -54,4 +54,4 @@ returns c =
     (λ next. holding_next a.d a.sizes.now a.s.now a.plan.now a.k a.g q.3 held q.4 p next refl
     c.variable_at-own.ensures.0 refl refl refl
     (record { records = omega arith; children = omega arith; children_end = omega (arith, q.0.slots) })
-    c.if-plan-k.false c.if-plan-k-2.false)
+    (omega arith) (omega arith))
