@@ -201,7 +201,7 @@ fn weighted(weight: u64, number: u64) -> u64
     weight.min(branch_archive::MAX_WEIGHT) * number.min(MOST_TOP)
 }
 
-// The first sum of four numbers.
+// The first sum of four numbers. It is written out: std's `sum` asks for a bound that only the terms have.
 fn sum_of(d: branch_directions::Directions, v: [u64; 4]) -> u64
     ensures { result ≤ max_sum }
 {
