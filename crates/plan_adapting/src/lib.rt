@@ -138,13 +138,7 @@ fn least_value(rows: [u64; 64], j: usize, size: usize) -> usize
     requires { (j < 8) × (size ≤ max_domain) }
     ensures { result < max_domain }
 {
-    let mut least = 0;
-    for a in 1..size {
-        if rows[8 * a + j] < rows[8 * least + j] {
-            least = a;
-        }
-    }
-    least
+    (0..size).min_by_key(|&a| rows[8 * a + j]).unwrap_or(0)
 }
 
 // The choice that follows the least values of the sum, in search order. What a position sent on ahead is the same for
