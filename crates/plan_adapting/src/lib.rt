@@ -31,7 +31,7 @@ const MOST_TOP: u64 = 4294967296;
 const MOST_FAR: u64 = 1125899906842624;
 
 // No bound falls so far short.
-const NO_SHORT: u64 = 18446744073709551615;
+const NO_SHORT: u64 = u64::MAX;
 
 // Records and slots whose content is asked for, and the variable for each of whose values.
 #[derive(Clone, Copy)]
@@ -52,18 +52,18 @@ struct Trial {
 
 // Equal shares of `p` objectives; others have none.
 fn equal_shares(p: usize) -> [u64; 4] {
-    if p <= 2 {
-        return [MOST_SHARE, MOST_SHARE, 0, 0];
+    match p {
+        0..=2 => [MOST_SHARE, MOST_SHARE, 0, 0],
+        3 => [MOST_SHARE, MOST_SHARE, MOST_SHARE, 0],
+        _ => [MOST_SHARE; 4],
     }
-    if p == 3 {
-        return [MOST_SHARE, MOST_SHARE, MOST_SHARE, 0];
-    }
-    [MOST_SHARE; 4]
 }
 
 // A table with four numbers in its first row, and zeros.
 fn first_row(v: [u64; 4]) -> [u64; 16] {
-    [v[0], v[1], v[2], v[3], 0, 0, 0, 0, 0, 0, 0, 0, 0, 0, 0, 0]
+    let mut row = [0u64; 16];
+    row[..4].copy_from_slice(&v);
+    row
 }
 
 // The objectives, and one sum with these shares by slacks.
@@ -93,28 +93,21 @@ fn content_of(
 ) -> [u64; 64]
     requires { Planned d r sizes.now s.now plan.now }
 {
-    let all = asked.span;
-    let from = all.from;
-    let to = plan_shapes::at_most(all.to, r);
-    let first = all.first;
-    let last = plan_shapes::at_most(all.last, layout::MAX_MESSAGES);
+    let from = asked.span.from;
+    let to = asked.span.to.min(r);
+    let first = asked.span.first;
+    let last = asked.span.last.min(layout::MAX_MESSAGES);
     let own = asked.own;
     let n = sizes.len();
     let choice = &x[..n];
-    if from <= to {
-        if first <= last {
-            if own < n {
-                if costs::prefix_ok(sizes, choice) {
-                    let span = branch_buckets::Span {
-                        from,
-                        to,
-                        first,
-                        last,
-                    };
-                    return branch_buckets::content(s, sizes, span, own, choice, d, plan);
-                }
-            }
-        }
+    if from <= to && first <= last && own < n && costs::prefix_ok(sizes, choice) {
+        let span = branch_buckets::Span {
+            from,
+            to,
+            first,
+            last,
+        };
+        return branch_buckets::content(s, sizes, span, own, choice, d, plan);
     }
     [0u64; 64]
 }
@@ -145,15 +138,7 @@ fn least_value(rows: [u64; 64], j: usize, size: usize) -> usize
     requires { (j < 8) × (size ≤ max_domain) }
     ensures { result < max_domain }
 {
-    let mut least: usize = 0;
-    let mut a: usize = 1;
-    while a < size {
-        if rows[8 * a + j] < rows[8 * least + j] {
-            least = a;
-        }
-        a += 1;
-    }
-    least
+    (0..size).min_by_key(|&a| rows[8 * a + j]).unwrap_or(0)
 }
 
 // The choice that follows the least values of the sum, in search order. What a position sent on ahead is the same for
@@ -170,15 +155,13 @@ fn follow(
     let n = sizes.len();
     let sum = branch_directions::lead_at(d) % 8;
     let mut x = [0u8; 24];
-    let mut k: usize = 0;
-    while k < n {
+    for k in 0..n {
         let own = branch_buckets::variable_at(k, plan);
         let span = branch_buckets::span_at(k, plan);
         let rows = content_of(s, sizes, r, Asked { span, own }, x, d, plan);
         let a = least_value(rows, sum, plan_shapes::size_of(own, sizes));
         let y = branch_buckets::with_value(x, own, a);
         x = y;
-        k += 1;
     }
     x
 }
@@ -202,18 +185,17 @@ fn costs_of(
     };
     let rows = content_of(s, sizes, r, Asked { span, own: 0 }, x, d, plan);
     let at = 8 * (x[0] as usize % 8);
-    [rows[at], rows[at + 1], rows[at + 2], rows[at + 3]]
+    std::array::from_fn(|j| rows[at + j])
 }
 
 // A weighted number, as it counts.
 fn weighted(weight: u64, number: u64) -> u64
     ensures { result ≤ max_part }
 {
-    branch_directions::lesser(weight, branch_archive::MAX_WEIGHT)
-        * branch_directions::lesser(number, MOST_TOP)
+    weight.min(branch_archive::MAX_WEIGHT) * number.min(MOST_TOP)
 }
 
-// The first sum of four numbers.
+// The first sum of four numbers. It is written out: std's `sum` asks for a bound that only the terms have.
 fn sum_of(d: branch_directions::Directions, v: [u64; 4]) -> u64
     ensures { result ≤ max_sum }
 {
@@ -228,12 +210,8 @@ fn sum_of(d: branch_directions::Directions, v: [u64; 4]) -> u64
 fn short_of(bound: u64, d: branch_directions::Directions, ranges: plan_sums::Ranges) -> u64 {
     let tops = ranges.tops;
     let slacks = ranges.slacks;
-    let top = sum_of(d, tops);
-    let low = branch_directions::lesser(bound, MOST_COST);
-    if top < low {
-        return 0;
-    }
-    ((top - low) << 16) / branch_directions::larger(sum_of(d, slacks), 1)
+    let short = sum_of(d, tops).saturating_sub(bound.min(MOST_COST));
+    (short << 16) / sum_of(d, slacks).max(1)
 }
 
 // The shares that were tried are the best where their bound falls short by less.
@@ -241,62 +219,42 @@ fn with_short(t: Trial, short: u64) -> Trial {
     if t.short <= short {
         return t;
     }
-    let shares = t.shares;
-    Trial {
-        shares,
-        best: shares,
-        short,
-        step: t.step,
-    }
+    let best = t.shares;
+    Trial { best, short, ..t }
 }
 
 // How far a cost lies from the largest one below the ceiling, in parts of the slack. Only an objective of the problem
 // has a slack.
 fn far_of(cost: u64, top: u64, slack: u64) -> u64 {
-    if slack == 0 {
-        return 0;
-    }
-    let a = branch_directions::lesser(cost, MOST_COST);
-    let b = branch_directions::lesser(top, MOST_COST);
-    if a < b {
-        return ((b - a) << 10) / slack;
-    }
-    ((a - b) << 10) / slack
+    let far = cost.min(MOST_COST).abs_diff(top.min(MOST_COST));
+    (far << 10).checked_div(slack).unwrap_or(0)
 }
 
 // The same for each objective.
 fn all_far(v: [u64; 4], ranges: plan_sums::Ranges) -> [u64; 4] {
     let tops = ranges.tops;
     let slacks = ranges.slacks;
-    [
-        far_of(v[0], tops[0], slacks[0]),
-        far_of(v[1], tops[1], slacks[1]),
-        far_of(v[2], tops[2], slacks[2]),
-        far_of(v[3], tops[3], slacks[3]),
-    ]
+    std::array::from_fn(|j| far_of(v[j], tops[j], slacks[j]))
 }
 
 // The largest of four numbers, at least 1.
 fn most_of(v: [u64; 4]) -> u64
     ensures { 1 ≤ result }
 {
-    let low = branch_directions::larger(v[0], v[1]);
-    let high = branch_directions::larger(v[2], v[3]);
-    branch_directions::larger(branch_directions::larger(low, high), 1)
+    v[0].max(v[1]).max(v[2]).max(v[3]).max(1)
 }
 
 // By how many parts of 64 a share changes: by the whole step where the cost lies farthest.
 fn change_of(step: u64, far: u64, farthest: u64) -> u64
     requires { 1 ≤ farthest }
 {
-    branch_directions::lesser(step, FIRST_STEP) * branch_directions::lesser(far, MOST_FAR)
-        / farthest
+    step.min(FIRST_STEP) * far.min(MOST_FAR) / farthest
 }
 
 // A share that grows by so many parts of 64 where the cost is too large, and shrinks so where it is not.
 fn changed(share: u64, is_above: bool, change: u64) -> u64 {
-    let old = branch_directions::lesser(share, MOST_SHARE);
-    let parts = 64 + branch_directions::lesser(change, FIRST_STEP);
+    let old = share.min(MOST_SHARE);
+    let parts = 64 + change.min(FIRST_STEP);
     if is_above {
         return old * parts / 64;
     }
@@ -310,19 +268,13 @@ fn scaled(share: u64, most: u64) -> u64
     if share == 0 {
         return 0;
     }
-    let part = branch_directions::lesser(share, MOST_TOP) * MOST_SHARE / most;
-    branch_directions::larger(part, LEAST_SHARE)
+    (share.min(MOST_TOP) * MOST_SHARE / most).max(LEAST_SHARE)
 }
 
 // Shares in these proportions, the largest of which is the largest that there is.
 fn all_scaled(v: [u64; 4]) -> [u64; 4] {
     let most = most_of(v);
-    [
-        scaled(v[0], most),
-        scaled(v[1], most),
-        scaled(v[2], most),
-        scaled(v[3], most),
-    ]
+    v.map(|share| scaled(share, most))
 }
 
 // The shares to try next, by what the choice costs that was followed with the last ones.
@@ -332,12 +284,9 @@ fn next_shares(t: Trial, v: [u64; 4], ranges: plan_sums::Ranges) -> [u64; 4] {
     let tops = ranges.tops;
     let far = all_far(v, ranges);
     let most = most_of(far);
-    all_scaled([
-        changed(old[0], tops[0] < v[0], change_of(step, far[0], most)),
-        changed(old[1], tops[1] < v[1], change_of(step, far[1], most)),
-        changed(old[2], tops[2] < v[2], change_of(step, far[2], most)),
-        changed(old[3], tops[3] < v[3], change_of(step, far[3], most)),
-    ])
+    all_scaled(std::array::from_fn(|j| {
+        changed(old[j], tops[j] < v[j], change_of(step, far[j], most))
+    }))
 }
 
 // One round.
@@ -369,7 +318,7 @@ fn try_shares(
         shares,
         best,
         short: known.short,
-        step: branch_directions::lesser(known.step, FIRST_STEP) * 3 / 4,
+        step: known.step.min(FIRST_STEP) * 3 / 4,
     }
 }
 
@@ -394,10 +343,8 @@ pub fn adapted_shares(
         short: NO_SHORT,
         step: FIRST_STEP,
     };
-    let mut i: usize = 0;
-    while i < ROUNDS {
+    for _ in 0..ROUNDS {
         t = try_shares(s, sizes, task, ranges, kind, t, plan);
-        i += 1;
     }
     t.best
 }

@@ -66,23 +66,17 @@ fn put_ends(k: usize, records: usize, slots: usize, messages: usize, plan: &mut 
 fn may_send(g: usize, k: usize, plan: &[u32]) -> bool
     requires { k < max_variables }
 {
-    if plan_shapes::room_from(layout::NUMBERS_AT, plan) < 8 {
-        return false;
-    }
-    plan_shapes::at_most(g, layout::MAX_MESSAGES) + 3 * k + 1 < layout::MAX_MESSAGES
+    8 <= plan_shapes::room_from(layout::NUMBERS_AT, plan)
+        && g.min(layout::MAX_MESSAGES) + 3 * k + 1 < layout::MAX_MESSAGES
 }
 
 // How many numbers the messages of parts have where each has all its variables.
 fn numbers_for(parts: plan_parts::Parts, width: usize, sizes: &[u8], plan: &[u32]) -> usize
     requires { width ≤ 8 }
 {
-    let count = plan_shapes::at_most(parts.count, 64);
-    let sets = parts.sets;
-    let mut numbers: usize = 0;
-    let mut g: usize = 0;
-    while g < count {
-        numbers += plan_shapes::numbers_over(sets[g], width, sizes, plan);
-        g += 1;
+    let mut numbers = 0;
+    for &set in &parts.sets[..parts.count.min(64)] {
+        numbers += plan_shapes::numbers_over(set, width, sizes, plan);
     }
     numbers
 }
@@ -99,20 +93,17 @@ fn may_send_all(
 ) -> bool
     requires { (k < max_variables) × (width ≤ 8) }
 {
-    let count = plan_shapes::at_most(parts.count, 64);
+    let count = parts.count.min(64);
     if count == 0 {
         return true;
     }
-    let last = plan_shapes::at_most(made.messages, layout::MAX_MESSAGES) + (count - 1);
+    let last = made.messages.min(layout::MAX_MESSAGES) + (count - 1);
     if !may_send(last, k, plan) {
         return false;
     }
     let room = plan_shapes::room_for(k, made.numbers, width, plan);
     let numbers = numbers_for(parts, width, sizes, plan);
-    if room < numbers {
-        return false;
-    }
-    numbers / MOST_SHARES <= room / (k + 1)
+    numbers <= room && numbers / MOST_SHARES <= room / (k + 1)
 }
 
 // The parts of a bucket: of at most three positions where that is wanted and all messages can have all their variables,
@@ -170,15 +161,12 @@ fn lay_part(
     let at = made.numbers;
     let shape = plan_shapes::choose_shape(k, set, wanted.is_last, at, width, sizes, plan);
     plan_shapes::put_message(g, shape, to, last, plan);
-    let rest = made.rest;
-    let messages = plan_shapes::at_most(g, layout::MAX_MESSAGES) + 1;
-    let numbers = plan_shapes::numbers_end(shape, at, width);
     Made {
         records: to,
         slots: last,
-        messages,
-        numbers,
-        rest,
+        messages: g.min(layout::MAX_MESSAGES) + 1,
+        numbers: plan_shapes::numbers_end(shape, at, width),
+        ..made
     }
 }
 
@@ -196,20 +184,15 @@ fn lay_parts(
     ensures { Arranged r plan.old plan.new }
 {
     let parts = parts_of(s, sizes, bucket, d, made, plan);
-    let count = plan_shapes::at_most(parts.count, 64);
-    let sets = parts.sets;
+    let count = parts.count.min(64);
     let mut laid = made;
-    let mut g: usize = 0;
-    while g < count {
-        let set = sets[g];
-        let is_last = g + 1 == count;
+    for (g, &set) in parts.sets[..count].iter().enumerate() {
         let wanted = Wanted {
             bucket,
             set,
-            is_last,
+            is_last: g + 1 == count,
         };
         laid = lay_part(s, sizes, r, wanted, d, laid, plan);
-        g += 1;
     }
     laid
 }
@@ -256,14 +239,7 @@ fn send_parts(
 fn are_zero(numbers: [u64; 8], width: usize) -> bool
     requires { width ≤ 8 }
 {
-    let mut j: usize = 0;
-    while j < width {
-        if numbers[j] != 0 {
-            return false;
-        }
-        j += 1;
-    }
-    true
+    numbers[..width].iter().all(|&x| x == 0)
 }
 
 // Sends what is left of the bucket of position `k` at every value, as a constant.
@@ -279,19 +255,15 @@ fn send_constant(
 {
     let g = made.messages;
     let at = made.numbers;
-    let rest = made.rest;
     let width = plan_shapes::width_of(d);
     let numbers = plan_numbers::least_numbers(
-        rest,
+        made.rest,
         8 * plan_shapes::size_of(branch_buckets::variable_at(k, plan), sizes),
     );
-    if layout::MAX_MESSAGES <= g {
-        return made;
-    }
-    if plan_shapes::room_from(at, plan) < width {
-        return made;
-    }
-    if are_zero(numbers, width) {
+    let is_worth = g < layout::MAX_MESSAGES
+        && width <= plan_shapes::room_from(at, plan)
+        && !are_zero(numbers, width);
+    if !is_worth {
         return made;
     }
     let shape = plan_shapes::constant_shape(at);
@@ -299,11 +271,9 @@ fn send_constant(
     plan_numbers::put_entry(0, at, numbers, width, plan);
     plan_shapes::put_message(g, shape, made.records, made.slots, plan);
     Made {
-        records: made.records,
-        slots: made.slots,
         messages: g + 1,
         numbers: end,
-        rest,
+        ..made
     }
 }
 
@@ -379,9 +349,7 @@ fn make_buckets(
         numbers: layout::NUMBERS_AT + 8,
         rest: [0u64; 64],
     };
-    let mut k = n;
-    while 0 < k {
-        k -= 1;
+    for k in (0..n).rev() {
         let bucket = take_bucket(s, r, k, wide, made, plan);
         made = make_bucket(s, sizes, r, bucket, d, made, plan);
     }
@@ -394,12 +362,8 @@ fn end_messages(made: Made, plan: &mut [u32])
     ensures { Loose plan.old plan.new }
 {
     let shape = plan_shapes::constant_shape(plan_memory::MOST_NUMBER);
-    let records = made.records;
-    let slots = made.slots;
-    let mut g = made.messages;
-    while g < layout::MAX_MESSAGES {
-        plan_shapes::put_message(g, shape, records, slots, plan);
-        g += 1;
+    for g in made.messages..layout::MAX_MESSAGES {
+        plan_shapes::put_message(g, shape, made.records, made.slots, plan);
     }
 }
 

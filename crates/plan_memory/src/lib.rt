@@ -113,7 +113,7 @@ fn is_between(set: u32, needed: u32, allowed: u32) -> bool {
     set & needed == needed && set & !allowed == 0
 }
 
-// Of the records or slots from number `from` to below `to` brings those whose positions have all of `needed` and nothing
+// Of the records or slots from number `from` to below `to` brings those whose positions have all of `needed` and none
 // outside `allowed` to the front, and answers where they end.
 #[tactic(auto, using(crate::proofs::Arranging::arranged_refl))]
 fn gather(

@@ -95,8 +95,8 @@ fn order_of(kind: usize) -> Order {
     }
 }
 
-// The score of a variable, of which the least comes last: how many others of `left` are linked to it, or that behind its
-// fill; by the variables' own order all have the same. More than the most score where it is not left itself.
+// The score of a variable, of which the least comes last: how many others of `left` are linked to it, or that behind
+// its fill; by the variables' own order all have the same. More than the most score where it is not left itself.
 fn score_of(v: usize, links: [u32; 24], left: u32, sizes: &[u8], order: Order) -> u64
     requires { v < max_variables }
 {

@@ -3,7 +3,8 @@
 
 ghost use Rattle.std.specs.Prelude.{◌≤◌};
 
-// Parts of a bucket: so many sets of earlier positions, of at most `most` each; zeros behind them.
+// Parts of a bucket: so many sets of earlier positions, of at most `most` each; zeros behind them. A rule of the
+// project, no heap: hence an array with its count beside it.
 #[derive(Clone, Copy)]
 pub struct Parts {
     pub most: u32,

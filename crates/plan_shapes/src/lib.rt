@@ -133,13 +133,6 @@ fn constant_place(is_last: bool, at: usize, width: usize, plan: &[u32]) -> usize
     }
 }
 
-// The first position of a set, or 24.
-fn lowest(set: u32) -> usize
-    ensures { result ≤ max_variables }
-{
-    (set.trailing_zeros() as usize).min(24)
-}
-
 // The variable of this number.
 fn variable_of(number: usize, sizes: &[u8]) -> Variable {
     Variable {
@@ -148,27 +141,24 @@ fn variable_of(number: usize, sizes: &[u8]) -> Variable {
     }
 }
 
-// The variable at position `k`, or a missing one at 24.
-fn variable_at(k: usize, sizes: &[u8], plan: &[u32]) -> Variable
-    requires { k ≤ max_variables }
-{
-    let number = if k == 24 {
-        NO_VARIABLE
-    } else {
+// The variable at the first position of a set, which leaves the set; or a missing one.
+fn take_first(set: &mut u32, sizes: &[u8], plan: &[u32]) -> Variable {
+    let k = set.trailing_zeros() as usize;
+    *set &= !plan_memory::bit(k);
+    let number = if k < 24 {
         branch_buckets::variable_at(k, plan)
+    } else {
+        NO_VARIABLE
     };
     variable_of(number, sizes)
 }
 
 // The variables at the first three positions of a set.
 fn scope_of(set: u32, sizes: &[u8], plan: &[u32]) -> Scope {
-    let first = lowest(set);
-    let behind = set & !plan_memory::bit(first);
-    let second = lowest(behind);
-    let third = lowest(behind & !plan_memory::bit(second));
-    let u = variable_at(first, sizes, plan);
-    let v = variable_at(second, sizes, plan);
-    let w = variable_at(third, sizes, plan);
+    let mut left = set;
+    let u = take_first(&mut left, sizes, plan);
+    let v = take_first(&mut left, sizes, plan);
+    let w = take_first(&mut left, sizes, plan);
     Scope { u, v, w }
 }
 

@@ -110,9 +110,10 @@ pub fn with_adapted(
     r: Ranges,
 ) -> branch_directions::Sums {
     if sums.count == 1 {
-        return one_sum(shares, r);
+        one_sum(shares, r)
+    } else {
+        with_fourth(sums, shares, r)
     }
-    with_fourth(sums, shares, r)
 }
 
 // The sums of a plan of this kind for `p` objectives. Where no ceiling binds they go by spreads; else the fourth has
@@ -131,9 +132,8 @@ pub fn sums_of(kind: usize, p: usize, r: Ranges) -> branch_directions::Sums {
     let equal = [shares[0], shares[1], shares[2], shares[3]];
     match kind {
         1 => branch_directions::Sums {
-            shares,
             ranges: in_every_row(r.slacks),
-            count: 4,
+            ..by_spreads
         },
         3 => one_sum(equal, r),
         _ => with_fourth(by_spreads, equal, r),

@@ -4,8 +4,8 @@ use mathlib.Core.Logic.{⊎_elim}
 use mathlib.Core.List.{List}
 use Prim.Native.Nat.{ℕ, ◌+◌, ◌-◌, ◌≤◌, ◌<◌}
 use native.Mathlib.Omega.{arith}
-use borrow.Author.Count.{below_more, below_none}
-use lib.ListN.{length, set, replicate, length-set}
+use borrow.Author.Count.{below_more}
+use lib.ListN.{length, set, length-set}
 use Rattle.model.specs.Basics.{All}
 use Rattle.model.proofs.Elements.{all_map}
 use Rattle.layout.specs.Places.{max_messages, order_in, position_in, record_end, child_end, message_end}
@@ -15,8 +15,7 @@ use Rattle.branch_buckets.proofs.Reading.{Reads}
 use Rattle.plan_test.specs.Marks.{Marked, BucketIn}
 use Rattle.branch_buckets.specs.Content.{Ranged}
 use Rattle.branch_buckets.specs.declared.Span as DS
-use Rattle.branch_buckets.proofs.Ranges.{places_none}
-use Rattle.plan_test.proofs.Marking.{none_marked, mark_cases, reads_map, bucket_map, bucket_join}
+use Rattle.plan_test.proofs.Marking.{mark_cases, reads_map, bucket_map, bucket_join}
 
 -- v stands before position k
 abbrev pub Before : List ℕ → ℕ → ℕ → Type 0
@@ -38,22 +37,6 @@ pub record Testing (n r : ℕ) (s plan marks : List ℕ) (to last k : ℕ) : Typ
   pub done : (m : ℕ) → m < k → BucketIn (Before plan m) s plan (behind_span plan r m)
   pub sent : (m : ℕ) → m < k
       → All (ReadsBefore plan m) (count_from (message_end plan (m + 1)) (message_end plan m - message_end plan (m + 1)))
-
-pub testing_start : (n r : ℕ) (s plan : List ℕ) → Ends n r plan → Testing n r s plan (replicate 24 0) r max_messages 0
-testing_start n r s plan e =
-    record {
-      few = omega arith;
-      long = refl;
-      marked = λ v h. absurd (none_marked 24 v h);
-      records = (e.records_first, omega arith);
-      children = (e.children_first, omega arith);
-      behind = record { records = rw (places_none plan r r (omega arith)) tt; children = tt };
-      done = below_none (λ m. BucketIn (Before plan m) s plan (behind_span plan r m));
-      sent =
-          below_none (λ m.
-          All (ReadsBefore plan m)
-          (count_from (message_end plan (m + 1)) (message_end plan m - message_end plan (m + 1))));
-    }
 
 module _ {n r : ℕ} {s plan marks : List ℕ} {to last k : ℕ} (t : Testing n r s plan marks to last k) where
   abbrev tested : DS.Span

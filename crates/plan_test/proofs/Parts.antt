@@ -2,16 +2,12 @@
 -- at most what it holds.
 use mathlib.Core.Path.{◌≡◌, refl, ap, sym, ◌∙◌}
 use mathlib.Core.Logic.{◌⊎◌, inl, inr, ⊎_elim}
-use mathlib.Core.Bool.{true, false}
 use mathlib.Core.List.{List}
-use Prim.Native.Nat.{ℕ, zero, suc, ◌+◌, ◌*◌, ◌/◌, ◌%◌, ◌≤◌, ◌<◌}
+use Prim.Native.Nat.{ℕ, zero, suc, ◌+◌, ◌*◌, ◌≤◌, ◌<◌}
 use native.Mathlib.Omega.{arith}
-use borrow.Author.Tests.{ltb-true, ltb-false}
-use lib.Dec.{ltb}
 use lib.ListN.{length, get_or, set, replicate, length-set, length-replicate, get_or-eq_default}
 use Rattle.model.specs.Basics.{All}
 use Rattle.model.specs.Problems.{DomainSize}
-use Rattle.model.proofs.Bits.{test}
 use Rattle.model.proofs.Lists.{set_toward}
 use Rattle.model.proofs.Choices.{choice_length}
 use Rattle.costs.proofs.ScopeVariables.{value_below}
@@ -28,7 +24,7 @@ use Rattle.branch_buckets.proofs.Ranges.{sent_one, sent_none}
 use Rattle.branch_buckets.proofs.Reading.{message_reads, content_reads, content_split, content_grows}
 use Rattle.plan_test.specs.declared.Part as DP
 use Rattle.plan_test.specs.declared.Held as DH
-use Rattle.plan_test.specs.Parts.{rest_end, rest_base, Rows, Lowered, RowLeft, one_of, two_of, three_of}
+use Rattle.plan_test.specs.Parts.{rest_end, rest_base, Rows, RowLeft, one_of, two_of, three_of}
 use Rattle.plan_test.specs.Parts.{MessageReads, PartReads, Fits, ChoiceLeaves, ValuesLeave, PairLeaves}
 use Rattle.plan_test.specs.Parts.{PartLeaves, taken_span, Holding, Kept, HoldsAt}
 use Rattle.plan_test.proofs.PartChoices.{part_choice, value_small}
@@ -56,13 +52,6 @@ module _ (d : DD.Directions) (ds s plan : List ℕ) (p : DP.Part) where
       → ChoiceLeaves d ds s plan p left x
   choice_leaves x left rows number filled summed h a j l m =
       omega (arith, h a l j m, (filled a j l m).0, (summed j m).0, sent_one (width_of d) plan p.message x j)
-
-  -- what is less still does
-  pub values_lowered :
-      (i j l : ℕ) (left left' : List ℕ) → Lowered left left' → ValuesLeave d ds s plan p i j l left
-      → ValuesLeave d ds s plan p i j l left'
-  values_lowered i j l left left' less h y c e f g k m =
-      omega (arith, h y c e f g k m, less (8 * get_or y p.own 0 + k))
 
   -- a choice that has the values i, j and l of the message's variables has, but for its own variable, all that the part
   -- reads as the choice x has it
@@ -112,24 +101,6 @@ module _ {d : DD.Directions} {ds s plan : List ℕ} {p : DP.Part} where
   }
 
   module _ {c : ℕ} {left : List ℕ} (t : PartSteps d ds s plan p c left) where
-    pub part_next :
-        c < 64 → (left' : List ℕ) → length left' ≡ length left → Lowered left left'
-        → PairLeaves d ds s plan p (c / 8) (c % 8) left' → PartSteps d ds s plan p (c + 1) left'
-    part_next more left' same less pair =
-        record {
-          few = omega arith;
-          rows = record { long = same ∙ t.rows.long; small = λ i. omega (arith, less i, t.rows.small i) };
-          pairs = λ i j l h.
-              ⊎_elim
-              (λ (q : ltb (8 * i + j) c ≡ true).
-              λ m. values_lowered d ds s plan p i j m left left' less (t.pairs i j l (ltb-true (8 * i + j) c q) m))
-              (λ (q : ltb (8 * i + j) c ≡ false).
-              let first : c / 8 ≡ i = omega (arith, ltb-false (8 * i + j) c q) in
-              let second : c % 8 ≡ j = omega (arith, ltb-false (8 * i + j) c q) in
-              rw (first, second) at pair)
-              (test (ltb (8 * i + j) c));
-        }
-
     pub part_end :
         All DomainSize ds → 64 ≤ c → (h : DH.Held) → h.span ≡ p.span → h.rest ≡ left → PartLeaves d ds s plan p h
     part_end sizes all h span is =

@@ -1,7 +1,7 @@
 // Tests a plan before the search relies on it: order, ends, what is read, and that no bucket sends more than it holds.
 #![tactic(auto)]
 
-ghost use Rattle.std.specs.Prelude.{◌≡◌, ◌⊎◌, true, false, ℕ, ◌+◌, ◌-◌, ◌/◌, ◌%◌, ◌≤◌, ◌<◌, length, get_or, drop};
+ghost use Rattle.std.specs.Prelude.{◌≡◌, ◌⊎◌, true, ℕ, ◌+◌, ◌-◌, ◌/◌, ◌%◌, ◌≤◌, ◌<◌, length, get_or, IfSome};
 ghost use Rattle.model.specs.Basics.{All};
 ghost use Rattle.model.specs.Limits.{max_variables, max_tables};
 ghost use Rattle.model.specs.Problems.{DomainSize};
@@ -38,7 +38,6 @@ struct Part {
 // The last part of a bucket that was looked at, and what it left over.
 #[derive(Clone, Copy)]
 struct Held {
-    pub ok: bool,
     pub span: branch_buckets::Span,
     pub rest: [u64; 64],
 }
@@ -48,16 +47,11 @@ fn leads_back(from: usize, to: usize, n: usize, plan: &[u32]) -> bool
     requires { (from + n ≤ length plan.now) × (to + n ≤ length plan.now) }
     ensures { result ≡ true → LeadsBack from to n plan.now }
 {
-    let mut i: usize = 0;
-    while i < n {
+    for i in 0..n {
         let j = plan[from + i] as usize;
-        if n <= j {
+        if n <= j || plan[to + j] as usize != i {
             return false;
         }
-        if plan[to + j] as usize != i {
-            return false;
-        }
-        i += 1;
     }
     true
 }
@@ -67,10 +61,8 @@ fn is_ordered(n: usize, plan: &[u32]) -> bool
     requires { (n ≤ max_variables) × (numbers_at ≤ length plan.now) }
     ensures { result ≡ true → Ordered n plan.now }
 {
-    if !leads_back(layout::ORDER_AT, layout::POSITIONS_AT, n, plan) {
-        return false;
-    }
-    leads_back(layout::POSITIONS_AT, layout::ORDER_AT, n, plan)
+    leads_back(layout::ORDER_AT, layout::POSITIONS_AT, n, plan)
+        && leads_back(layout::POSITIONS_AT, layout::ORDER_AT, n, plan)
 }
 
 // Whether the numbers from `at` on fall, to 0 at number `n`.
@@ -78,12 +70,10 @@ fn falls(at: usize, n: usize, plan: &[u32]) -> bool
     requires { at + n < length plan.now }
     ensures { result ≡ true → Falling at n plan.now }
 {
-    let mut k: usize = 0;
-    while k < n {
+    for k in 0..n {
         if plan[at + k] < plan[at + (k + 1)] {
             return false;
         }
-        k += 1;
     }
     plan[at + n] == 0
 }
@@ -93,22 +83,12 @@ fn are_ends(n: usize, r: usize, plan: &[u32]) -> bool
     requires { (n ≤ max_variables) × (numbers_at ≤ length plan.now) }
     ensures { result ≡ true → Ends n r plan.now }
 {
-    if !falls(layout::RECORD_ENDS_AT, n, plan) {
-        return false;
-    }
-    if !falls(layout::CHILD_ENDS_AT, n, plan) {
-        return false;
-    }
-    if !falls(layout::MESSAGE_ENDS_AT, n, plan) {
-        return false;
-    }
-    if r < plan[layout::RECORD_ENDS_AT] as usize {
-        return false;
-    }
-    if layout::MAX_MESSAGES < plan[layout::CHILD_ENDS_AT] as usize {
-        return false;
-    }
-    plan[layout::MESSAGE_ENDS_AT] as usize == layout::MAX_MESSAGES
+    falls(layout::RECORD_ENDS_AT, n, plan)
+        && falls(layout::CHILD_ENDS_AT, n, plan)
+        && falls(layout::MESSAGE_ENDS_AT, n, plan)
+        && plan[layout::RECORD_ENDS_AT] as usize <= r
+        && plan[layout::CHILD_ENDS_AT] as usize <= layout::MAX_MESSAGES
+        && plan[layout::MESSAGE_ENDS_AT] as usize == layout::MAX_MESSAGES
 }
 
 // Whether variable `v` is marked.
@@ -126,10 +106,7 @@ fn is_field_marked(g: usize, i: usize, marks: &[u8], plan: &[u32]) -> bool
         ⊎ Marked marks.now (field_in plan.now g i) }
 {
     let at = layout::MESSAGES_AT + layout::MESSAGE_WIDTH * g;
-    if plan[at + (i + 1)] == 0 {
-        return true;
-    }
-    is_marked(plan[at + i] as usize, marks)
+    plan[at + (i + 1)] == 0 || is_marked(plan[at + i] as usize, marks)
 }
 
 // Whether message `g` reads marked variables only.
@@ -137,16 +114,10 @@ fn reads_marked(g: usize, marks: &[u8], plan: &[u32]) -> bool
     requires { numbers_at ≤ length plan.now }
     ensures { result ≡ true → Reads (Marked marks.now) plan.now g }
 {
-    if layout::MAX_MESSAGES <= g {
-        return false;
-    }
-    if !is_field_marked(g, 1, marks, plan) {
-        return false;
-    }
-    if !is_field_marked(g, 3, marks, plan) {
-        return false;
-    }
-    is_field_marked(g, 5, marks, plan)
+    g < layout::MAX_MESSAGES
+        && is_field_marked(g, 1, marks, plan)
+        && is_field_marked(g, 3, marks, plan)
+        && is_field_marked(g, 5, marks, plan)
 }
 
 // Whether the record at `at` has marked variables only.
@@ -155,12 +126,10 @@ fn is_scope_marked(s: &[u8], at: usize, marks: &[u8]) -> bool
     ensures { result ≡ true → ScopeIn (Marked marks.now) s.now at }
 {
     let a = problem::arity_at(s, at);
-    let mut i: usize = 0;
-    while i < a {
+    for i in 0..a {
         if !is_marked(problem::scope_at(s, at, i), marks) {
             return false;
         }
-        i += 1;
     }
     true
 }
@@ -171,12 +140,10 @@ fn are_records_marked(s: &[u8], from: usize, to: usize, marks: &[u8], plan: &[u3
     ensures { result ≡ true
         → All (ScopeIn (Marked marks.now) s.now) (places_over plan.now from to) }
 {
-    let mut i = from;
-    while i < to {
+    for i in from..to {
         if !is_scope_marked(s, plan[i] as usize, marks) {
             return false;
         }
-        i += 1;
     }
     true
 }
@@ -188,12 +155,10 @@ fn are_slots_marked(first: usize, last: usize, marks: &[u8], plan: &[u32]) -> bo
         → All (Reads (Marked marks.now) plan.now)
         (children_over plan.now first last) }
 {
-    let mut i = first;
-    while i < last {
+    for i in first..last {
         if !reads_marked(plan[layout::CHILDREN_AT + i] as usize, marks, plan) {
             return false;
         }
-        i += 1;
     }
     true
 }
@@ -204,10 +169,8 @@ fn is_bucket_marked(s: &[u8], span: branch_buckets::Span, marks: &[u8], plan: &[
         × (numbers_at ≤ length plan.now) }
     ensures { result ≡ true → BucketIn (Marked marks.now) s.now plan.now span }
 {
-    if !are_records_marked(s, span.from, span.to, marks, plan) {
-        return false;
-    }
-    are_slots_marked(span.first, span.last, marks, plan)
+    are_records_marked(s, span.from, span.to, marks, plan)
+        && are_slots_marked(span.first, span.last, marks, plan)
 }
 
 // Whether the messages from number `from` to below `to` read marked variables only.
@@ -216,12 +179,10 @@ fn are_sent_marked(from: usize, to: usize, marks: &[u8], plan: &[u32]) -> bool
     ensures { result ≡ true
         → All (Reads (Marked marks.now) plan.now) (count_from from (to - from)) }
 {
-    let mut g = from;
-    while g < to {
+    for g in from..to {
         if !reads_marked(g, marks, plan) {
             return false;
         }
-        g += 1;
     }
     true
 }
@@ -236,8 +197,7 @@ fn is_early(s: &[u8], n: usize, r: usize, plan: &[u32]) -> bool
     let mut marks = [0u8; 24];
     let mut to = r;
     let mut last = layout::MAX_MESSAGES;
-    let mut k: usize = 0;
-    while k < n {
+    for k in 0..n {
         let from = plan[layout::RECORD_ENDS_AT + k] as usize;
         let first = plan[layout::CHILD_ENDS_AT + k] as usize;
         let span = branch_buckets::Span {
@@ -257,7 +217,6 @@ fn is_early(s: &[u8], n: usize, r: usize, plan: &[u32]) -> bool
         to = from;
         last = first;
         marks = branch_buckets::with_value(marks, branch_buckets::variable_at(k, plan), 1);
-        k += 1;
     }
     let span = branch_buckets::Span {
         from: 0,
@@ -268,25 +227,15 @@ fn is_early(s: &[u8], n: usize, r: usize, plan: &[u32]) -> bool
     is_bucket_marked(s, span, &marks, plan)
 }
 
-// The larger of two numbers.
-fn larger(a: usize, b: usize) -> usize
-    ensures { a ≤ result }
-{
-    if a < b {
-        return b;
-    }
-    a
-}
-
 // How many values variable `u` has; one that does not exist has one.
 fn count_values(u: usize, sizes: &[u8]) -> usize
     requires { All DomainSize sizes.now }
     ensures { Counted sizes.now u result }
 {
-    if u < sizes.len() {
-        return sizes[u] as usize;
+    match sizes.get(u) {
+        Some(&size) => size as usize,
+        None => 1,
     }
-    1
 }
 
 // Takes a row's numbers from what is there, and lowers what is left to that, unless there is too little.
@@ -303,14 +252,12 @@ fn lower_row(
     ensures { Lowered left.old left.new
         × (result ≡ true → RowLeft width at number rest.now rows.now left.new) }
 {
-    let mut j: usize = 0;
-    while j < width {
+    for j in 0..width {
         let there = rest[at + j] + rows[at + j];
         if there < number[j] {
             return false;
         }
-        left[at + j] = branch_directions::lesser(left[at + j], there - number[j]);
-        j += 1;
+        left[at + j] = left[at + j].min(there - number[j]);
     }
     true
 }
@@ -339,12 +286,10 @@ fn lower_rows(
     let rows = branch_buckets::content(s, sizes, p.span, own, choice, d, plan);
     let number = branch_buckets::sent(g, g + 1, choice, width, plan);
     let size = sizes[own] as usize;
-    let mut a: usize = 0;
-    while a < size {
+    for a in 0..size {
         if !lower_row(8 * a, width, number, &rest, &rows, left) {
             return false;
         }
-        a += 1;
     }
     true
 }
@@ -376,15 +321,11 @@ fn lower_choice(
     let u = plan[at + 1] as usize;
     let v = plan[at + 3] as usize;
     let w = plan[at + 5] as usize;
-    if u == w {
-        if i != l {
-            return true;
-        }
+    if u == w && i != l {
+        return true;
     }
-    if v == w {
-        if j != l {
-            return true;
-        }
+    if v == w && j != l {
+        return true;
     }
     let zeros = [0u8; 24];
     let one = branch_buckets::with_value(zeros, u, i);
@@ -416,24 +357,17 @@ fn lower_pair(
     let at = layout::MESSAGES_AT + layout::MESSAGE_WIDTH * p.message;
     let u = plan[at + 1] as usize;
     let v = plan[at + 3] as usize;
-    if u == v {
-        if i != j {
-            return true;
-        }
-    }
-    if count_values(u, sizes) <= i {
+    if u == v && i != j {
         return true;
     }
-    if count_values(v, sizes) <= j {
+    if count_values(u, sizes) <= i || count_values(v, sizes) <= j {
         return true;
     }
     let size = count_values(plan[at + 5] as usize, sizes);
-    let mut l: usize = 0;
-    while l < size {
+    for l in 0..size {
         if !lower_choice(s, sizes, p, 8 * c + l, d, plan, left) {
             return false;
         }
-        l += 1;
     }
     true
 }
@@ -453,54 +387,29 @@ fn part_fits(s: &[u8], p: Part, plan: &[u32]) -> bool
     is_bucket_marked(s, p.span, &marks, plan)
 }
 
-// Nothing: a test has failed.
-fn none_held() -> Held
-    ensures { result.ok ≡ false }
-{
-    let span = branch_buckets::Span {
-        from: 0,
-        to: 0,
-        first: 0,
-        last: 0,
-    };
-    let rest = [0u64; 64];
-    Held {
-        ok: false,
-        span,
-        rest,
-    }
-}
-
-// What the part's message leaves over, least over all values of its variables.
+// What the part's message leaves over, least over all values of its variables; none where the part holds less than it.
 fn part_rest(
     s: &[u8],
     sizes: &[u8],
     p: Part,
     d: branch_directions::Directions,
     plan: &[u32],
-) -> Held
+) -> Option<Held>
     requires { Planned d p.span.to sizes.now s.now plan.now × (numbers_at ≤ length plan.now)
         × PartOf (length sizes.now) p × Fits s.now plan.now p }
-    ensures { result.ok ≡ true
-        → PartLeaves d sizes.now s.now plan.now p result }
+    ensures { IfSome result (λ held. PartLeaves d sizes.now s.now plan.now p held) }
 {
     let mut left = [MOST_REST; 64];
-    let mut c: usize = 0;
-    while c < 64 {
+    for c in 0..64 {
         if !lower_pair(s, sizes, p, c, d, plan, &mut left) {
-            return none_held();
+            return None;
         }
-        c += 1;
     }
     let span = p.span;
-    Held {
-        ok: true,
-        span,
-        rest: left,
-    }
+    Some(Held { span, rest: left })
 }
 
-// What the bucket of position `k` holds after message `g`.
+// What the bucket of position `k` holds after message `g`; none where a test fails.
 // A message whose numbers lie outside the plan is worth nothing.
 fn after_message(
     s: &[u8],
@@ -510,26 +419,24 @@ fn after_message(
     d: branch_directions::Directions,
     plan: &[u32],
     held: Held,
-) -> Held
+) -> Option<Held>
     requires { BucketOf d sizes.now s.now plan.now k × (numbers_at ≤ length plan.now) × (g < max_messages)
         × (message_end plan.now (k + 1) ≤ g) × Holding d sizes.now s.now plan.now k g held }
-    ensures { result.ok ≡ true
-        → Holding d sizes.now s.now plan.now k (g + 1) result }
+    ensures { IfSome result (λ next. Holding d sizes.now s.now plan.now k (g + 1) next) }
 {
     let at = layout::MESSAGES_AT + layout::MESSAGE_WIDTH * g;
     if plan.len() <= plan[at] as usize {
-        return held;
+        return Some(held);
     }
     let taken = held.span;
     let from = taken.to;
     let first = taken.last;
-    let to = larger(from, plan[at + 7] as usize);
-    let last = larger(first, plan[at + 8] as usize);
-    if (plan[layout::RECORD_ENDS_AT + k] as usize) < to {
-        return none_held();
-    }
-    if (plan[layout::CHILD_ENDS_AT + k] as usize) < last {
-        return none_held();
+    let to = from.max(plan[at + 7] as usize);
+    let last = first.max(plan[at + 8] as usize);
+    if to > plan[layout::RECORD_ENDS_AT + k] as usize
+        || last > plan[layout::CHILD_ENDS_AT + k] as usize
+    {
+        return None;
     }
     let own = branch_buckets::variable_at(k, plan);
     let span = branch_buckets::Span {
@@ -546,7 +453,7 @@ fn after_message(
         rest,
     };
     if !part_fits(s, p, plan) {
-        return none_held();
+        return None;
     }
     part_rest(s, sizes, p, d, plan)
 }
@@ -555,12 +462,10 @@ fn after_message(
 fn is_kept(rest: [u64; 64]) -> bool
     ensures { result ≡ true → Kept rest }
 {
-    let mut i: usize = 0;
-    while i < 64 {
-        if rest[i] < REST_BASE {
+    for x in rest {
+        if x < REST_BASE {
             return false;
         }
-        i += 1;
     }
     true
 }
@@ -589,18 +494,13 @@ fn holds_at(
         last: first,
     };
     let rest = [REST_BASE; 64];
-    let mut held = Held {
-        ok: true,
-        span,
-        rest,
-    };
-    let mut g = plan[layout::MESSAGE_ENDS_AT + (k + 1)] as usize;
-    while g < end {
-        held = after_message(s, sizes, k, g, d, plan, held);
-        if !held.ok {
+    let mut held = Held { span, rest };
+    let begin = plan[layout::MESSAGE_ENDS_AT + (k + 1)] as usize;
+    for g in begin..end {
+        let Some(next) = after_message(s, sizes, k, g, d, plan, held) else {
             return false;
-        }
-        g += 1;
+        };
+        held = next;
     }
     let left = held.rest;
     is_kept(left)
@@ -618,12 +518,10 @@ fn all_hold(
         × Ordered (length sizes.now) plan.now × Ends (length sizes.now) r plan.now }
     ensures { result ≡ true → Holds d sizes.now s.now plan.now }
 {
-    let mut k: usize = 0;
-    while k < sizes.len() {
+    for k in 0..sizes.len() {
         if !holds_at(s, sizes, r, k, d, plan) {
             return false;
         }
-        k += 1;
     }
     true
 }
@@ -640,14 +538,8 @@ pub fn is_sound(
     ensures { result ≡ true → Tested d r sizes.now s.now plan.now }
 {
     let n = sizes.len();
-    if !is_ordered(n, plan) {
-        return false;
-    }
-    if !are_ends(n, r, plan) {
-        return false;
-    }
-    if !is_early(s, n, r, plan) {
-        return false;
-    }
-    all_hold(s, sizes, r, d, plan)
+    is_ordered(n, plan)
+        && are_ends(n, r, plan)
+        && is_early(s, n, r, plan)
+        && all_hold(s, sizes, r, d, plan)
 }
