@@ -96,6 +96,7 @@ module _ (ds s : List ℕ) (at v : ℕ) (x : List ℕ) where
         → EntrySteps ds s at v x (k + 1) (first * get_or ds u 0 + t.first) (stride * get_or ds u 0 + t.stride)
         × (first * get_or ds u 0 + t.first < length s) × (stride * get_or ds u 0 + t.stride < 4096)
     entry_step {k} {first} {stride} steps more u e t says =
-        let next : EntrySteps ds s at v x (k + 1) (first * get_or ds u 0 + t.first) (stride * get_or ds u 0 + t.stride) =
+        let d = get_or ds u 0 in
+        let next : EntrySteps ds s at v x (k + 1) (first * d + t.first) (stride * d + t.stride) =
         rw e (entry_next steps more t (rw e at says)) in
         (next, first_fits next, stride_fits next (omega arith))

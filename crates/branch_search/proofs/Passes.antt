@@ -31,7 +31,7 @@ use Rattle.branch_search.specs.declared.Effort as DF
 use Rattle.branch_search.specs.declared.Node as DN
 use Rattle.branch_search.specs.States.{no_limit, plan_in, archive_in, problem_of}
 use Rattle.branch_search.specs.States.{Ready, Running, Partial, Still}
-use Rattle.branch_search.specs.States.{Standing, OpenedFrom, Between, Passed, ExploredSays, LeftOver}
+use Rattle.branch_search.specs.States.{Standing, OpenedFrom, Between, Passed, ExploredSays, unended, LeftOver}
 use Rattle.branch_search.specs.Passes.{ZonesWritten, ZonesHold}
 use Rattle.branch_search.proofs.Memory.{still_trans, problem_still, ready_still, framed_still, zones_still}
 use Rattle.branch_search.proofs.Memory.{zones_rows}
@@ -242,6 +242,22 @@ explored_still {task} {work} {work'} k ds s work'' e h =
     let g =
     subst (λ (u : Problem). ExploredSays task (length ds) (core_frontier u) work' work'' e) same h in
     record { full = g.full; count = g.count; list = g.list; still = still_trans k g.still }
+
+-- no pass ended it: what is left is an archive
+pub undecided :
+    (task : DT.Task) (n : ℕ) (fs : List Point) (q : Problem) (budget : ℕ) (work work' : List ℕ) (points : ℕ)
+    (effort : DF.Effort) → Still task work work' → Between q task.room work' points → effort.left ≤ budget →
+    ExploredSays task n fs work work' (unended points effort)
+    × LeftOver q task.room budget work' (unended points effort)
+undecided task n fs q budget work work' points effort k b less = (
+  record {
+    full = λ e. absurd (true_false e refl);
+    count = λ e. absurd (true_false e refl);
+    list = λ e f. absurd (true_false e refl);
+    still = k;
+  },
+  record { between = λ e. b; fewer = less },
+)
 
 -- an end: nothing is left to go on from
 pub ended_left :

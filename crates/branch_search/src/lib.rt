@@ -416,7 +416,8 @@ pub fn explore(
             done: t.done,
             passes: pass as u64 + 1,
         };
-        if t.left == 0 {
+        let is_given_up = t.left == 0;
+        if is_given_up {
             return given_up(t.points, effort);
         }
         if t.points > task.room {

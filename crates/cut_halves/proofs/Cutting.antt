@@ -16,7 +16,6 @@ use Rattle.model.specs.Frontiers.{Point, best, frontier}
 use Rattle.model.specs.Core.{core_tables, core_ceilings, core_of, with_ceilings, core_frontier}
 use Rattle.model.specs.Cuts.{sides_ok, uncrossed, half_size}
 use Rattle.model.specs.Views.{view}
-use Rattle.model.proofs.Bits.{true_false}
 use Rattle.model.proofs.Elements.{all_in, all_map}
 use Rattle.model.proofs.Reading.{accepted_rules}
 use Rattle.model.proofs.Frontier.{frontier_best}
@@ -25,13 +24,13 @@ use Rattle.model.proofs.Core.{Light, weighed_limit, view_sums}
 use Rattle.model.proofs.Views.{view_size}
 use Rattle.model.proofs.Merging.{sums_best, sums_bytes}
 use Rattle.layout.specs.Layout.{first_row, second_row}
-use Rattle.problem.specs.declared.Reading as DG
+use Rattle.problem.specs.declared.Problem as DQ
 use Rattle.problem.proofs.Accepted.{AcceptedReading}
 use Rattle.problem.proofs.Readings.{ceilings_are, domains_small}
-use Rattle.std.specs.Prelude.{Option}
+use Rattle.std.specs.Prelude.{Option, Some, None}
 use Rattle.pass_list.specs.Says.{FoundSays, is_full, count_of}
 use Rattle.cut_sums.specs.Sums.{first_in, second_in, sums_in, SmallCosts, Halved}
-use Rattle.answers.specs.Cuts.{no_lists, CutFound}
+use Rattle.answers.specs.Cuts.{CutFound}
 use Rattle.answers.proofs.FoundRows.{rows_read}
 use Rattle.cut_halves.specs.Says.{KeptSays}
 use Rattle.cut_halves.proofs.Keeping.{kept_few, first_same}
@@ -40,16 +39,8 @@ use Rattle.cut_halves.proofs.Keeping.{kept_few, first_same}
 cut_full : (q : Problem) (ss : List ℕ) (room : ℕ) (work work' : List ℕ)
     → (ltb max_points (half_size 0 q ss) || (ltb max_points (half_size 1 q ss) || ltb room (length (frontier q))))
     ≡ true
-    → length work' ≡ length work → CutFound q ss room work work' no_lists
-cut_full q ss room work work' h long =
-    record {
-      full = sym h;
-      count = refl;
-      first = refl;
-      second = refl;
-      list = λ e. absurd (true_false refl e);
-      long = long;
-    }
+    → length work' ≡ length work → CutFound q ss room work work' None
+cut_full q ss room work work' h long = record { full = sym h; lists = tt; long = long }
 
 -- tables of words have light entries in the core
 core_light : (ts : List Table) → All (λ t. All Word t.costs) ts → All Light (core_tables ts)
@@ -63,7 +54,7 @@ core_many [] = refl
 core_many (t ∷ ts) = ap suc (core_many ts)
 
 -- the ceilings of the halves and of their sums are the problem's, as the core has them
-module _ {s : List ℕ} {g : DG.Reading} (a : AcceptedReading s g) (bytes : All Byte s) (room : ℕ)
+module _ {s : List ℕ} {g : DQ.Problem} (a : AcceptedReading s g) (bytes : All Byte s) (room : ℕ)
     (ss was wide : List ℕ)
     (same : wide ≡ core_ceilings g.head.ceilings)
     (sides : sides_ok (problem_of s) ss ≡ true) (free : uncrossed ss (problem_of s).tables ≡ true)
@@ -121,7 +112,7 @@ module _ {s : List ℕ} {g : DG.Reading} (a : AcceptedReading s g) (bytes : All 
 
   -- the first half's list is kept
   module _ {one : List ℕ} {f : Option ℕ} (first : KeptSays p n (list_of 0) first_row was one f) where
-    pub first_full : is_full f ≡ true → CutFound q ss room was one no_lists
+    pub first_full : is_full f ≡ true → CutFound q ss room was one None
     first_full t = cut_full q ss room was one (rw (half_told 0 first, t)) first.long
 
     -- and the second half's
@@ -130,7 +121,7 @@ module _ {s : List ℕ} {g : DG.Reading} (a : AcceptedReading s g) (bytes : All 
       kept_long : length two ≡ length was
       kept_long = second.long ∙ first.long
 
-      pub second_full : is_full j ≡ true → CutFound q ss room was two no_lists
+      pub second_full : is_full j ≡ true → CutFound q ss room was two None
       second_full u = cut_full q ss room was two (rw (half_told 0 first, t, half_told 1 second, u)) kept_long
 
       module _ (u : is_full j ≡ false) where
@@ -166,19 +157,22 @@ module _ {s : List ℕ} {g : DG.Reading} (a : AcceptedReading s g) (bytes : All 
           merged_told : ltb room (length (frontier q)) ≡ is_full m
           merged_told = ap (λ ps. ltb room (length ps)) (sym sums_are) ∙ sym merged.full
 
-          pub merged_full : is_full m ≡ true → CutFound q ss room was three no_lists
+          pub merged_full : is_full m ≡ true → CutFound q ss room was three None
           merged_full v =
               cut_full q ss room was three (rw (half_told 0 first, t, half_told 1 second, u, merged_told, v))
               (merged.long ∙ kept_long)
 
           pub cut_end : is_full m ≡ false → CutFound q ss room was three
-              (record { full = false; count = count_of m; first = count_of f; second = count_of j })
+              (Some (record { count = count_of m; first = count_of f; second = count_of j }))
           cut_end v =
               record {
                 full = rw (half_told 0 first, t, half_told 1 second, u, merged_told, v) refl;
-                count = rw v at merged.count ∙ ap length sums_are;
-                first = rw t at first.count ∙ size 0;
-                second = rw u at second.count ∙ size 1;
-                list = λ e. sym (rows_read s g a three (count_of m)) ∙ merged.list v ∙ sums_are;
+                lists =
+                    record {
+                      count = rw v at merged.count ∙ ap length sums_are;
+                      first = rw t at first.count ∙ size 0;
+                      second = rw u at second.count ∙ size 1;
+                      list = sym (rows_read s g a three (count_of m)) ∙ merged.list v ∙ sums_are;
+                    };
                 long = merged.long ∙ kept_long;
               }

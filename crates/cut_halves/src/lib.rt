@@ -7,7 +7,7 @@ ghost use Rattle.model.specs.Reading.{problem_of};
 ghost use Rattle.model.specs.Core.{core_of, with_ceilings, core_frontier};
 ghost use Rattle.model.specs.Cuts.{sides_ok, uncrossed};
 ghost use Rattle.model.specs.Views.{view};
-ghost use Rattle.problem.specs.Says.{ReadSays};
+ghost use Rattle.problem.specs.Says.{Reads};
 ghost use Rattle.layout.specs.Layout.{first_row, second_row};
 ghost use Rattle.answers.specs.Cuts.{CutFound};
 ghost use Rattle.cut_halves.specs.Says.{KeptSays};
@@ -15,22 +15,22 @@ ghost use Rattle.cut_halves.specs.Says.{KeptSays};
 // Finds the list of one half, under its ceilings, and keeps it from the row `row` on.
 fn keep_half(
     s: &[u8],
-    g: problem::Reading,
+    q: problem::Problem,
     sides: &[u8],
     side: u8,
     ceilings: [u64; 4],
     row: usize,
     work: &mut [u32],
 ) -> Option<usize>
-    requires { ReadSays s.now g × (g.number ≡ 0) × (length (problem_of s.now).domains ≡ length sides.now)
+    requires { Reads s.now q × (length (problem_of s.now).domains ≡ length sides.now)
         × (second_row ≤ row) × (row ≤ first_row) × (work_need ≤ length work.old) }
-    ensures { KeptSays g.head.objectives g.head.variables
+    ensures { KeptSays q.head.objectives q.head.variables
         (core_frontier (view side
-        (with_ceilings (take g.head.objectives ceilings) (core_of (problem_of s.now)))
+        (with_ceilings (take q.head.objectives ceilings) (core_of (problem_of s.now)))
         sides.now))
         row work.old work.new result }
 {
-    let found = listing::find_half(s, g, sides, side, ceilings, &mut work[..layout::SEARCH_END]);
+    let found = listing::find_half(s, q, sides, side, ceilings, &mut work[..layout::SEARCH_END]);
     let to = layout::LIST_AT + layout::ROW_WIDTH * row;
     groups::copy_numbers(
         layout::LIST_AT,
@@ -44,35 +44,28 @@ fn keep_half(
 // The frontier list of a problem that was read, in work memory, from the lists of the two halves.
 pub fn cut_lists(
     s: &[u8],
-    g: problem::Reading,
+    q: problem::Problem,
     sides: &[u8],
     room: usize,
     work: &mut [u32],
-) -> answers::Lists
-    requires { ReadSays s.now g × (g.number ≡ 0) × (sides_ok (problem_of s.now) sides.now ≡ true)
+) -> Option<answers::Lists>
+    requires { Reads s.now q × (sides_ok (problem_of s.now) sides.now ≡ true)
         × (uncrossed sides.now (problem_of s.now).tables ≡ true) × (room ≤ max_points)
         × (work_need ≤ length work.old) }
     ensures { CutFound (problem_of s.now) sides.now room
         work.old work.new result }
 {
-    let head = g.head;
+    let head = q.head;
     let ceilings = head.ceilings;
     let wide = listing::widened(ceilings);
-    let Some(first) = keep_half(s, g, sides, 0, wide, layout::FIRST_ROW, work) else {
-        return answers::no_lists();
-    };
-    let Some(second) = keep_half(s, g, sides, 1, wide, layout::SECOND_ROW, work) else {
-        return answers::no_lists();
-    };
+    let first = keep_half(s, q, sides, 0, wide, layout::FIRST_ROW, work)?;
+    let second = keep_half(s, q, sides, 1, wide, layout::SECOND_ROW, work)?;
     let n = head.variables as usize;
     let p = head.objectives as usize;
-    let Some(count) = cut_sums::merge_points(first, second, n, p, wide, room, work) else {
-        return answers::no_lists();
-    };
-    answers::Lists {
-        full: false,
+    let count = cut_sums::merge_points(first, second, n, p, wide, room, work)?;
+    Some(answers::Lists {
         count,
         first,
         second,
-    }
+    })
 }

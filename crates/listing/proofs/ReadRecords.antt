@@ -12,7 +12,7 @@ use Rattle.model.specs.Calls.{over as filled}
 use Rattle.model.proofs.Reading.{accepted_rules}
 use Rattle.model.proofs.Core.{Weighable, weighable, core_frontier_lem}
 use Rattle.layout.specs.Layout.{search_end}
-use Rattle.problem.specs.declared.Reading as DG
+use Rattle.problem.specs.declared.Problem as DQ
 use Rattle.problem.specs.Says.{start_of}
 use Rattle.problem.proofs.Accepted.{AcceptedReading}
 use Rattle.problem.proofs.Readings.{sized, objectives_are, domains_are, ceilings_are, tables_are}
@@ -22,7 +22,7 @@ use Rattle.listing.specs.Says.{problem_at, Accepted}
 use Rattle.listing.proofs.PlacesKept.{behind_at}
 
 -- the records of a reading
-abbrev pub RecordsRead : List ℕ → DG.Reading → List ℕ → Type 0
+abbrev pub RecordsRead : List ℕ → DQ.Problem → List ℕ → Type 0
 RecordsRead s g w =
     let h = g.head in
     Accepted h.objectives h.tables (start_of h) (take h.variables g.sizes) s w
@@ -38,7 +38,7 @@ pub places_at_lem : (r : ℕ) (ds s rest : List ℕ) {at at' : ℕ} {kept : List
     → kept ≡ filled (places_at r ds s at) rest → kept ≡ filled (places_at r ds s at') rest
 places_at_lem r ds s rest e says = says ∙ ap (λ k. filled (places_at r ds s k) rest) e
 
-module _ (s : List ℕ) (g : DG.Reading) (a : AcceptedReading s g) where
+module _ (s : List ℕ) (g : DQ.Problem) (a : AcceptedReading s g) where
   abbrev p : ℕ
   p = g.head.objectives
 

@@ -5,9 +5,9 @@ use Rattle.model.specs.Limits.{max_bytes, max_objectives, max_points, max_tables
 use Rattle.model.specs.Problems.{Problem, DomainSize}
 use Rattle.model.specs.Reading.{tables_at}
 use Rattle.model.specs.Core.{WordCeiling}
-use Rattle.problem.specs.declared.Reading as DG
+use Rattle.problem.specs.declared.Problem as DQ
 use Rattle.problem.specs.Records.{Whole, AllWhole}
-use Rattle.problem.specs.Says.{ReadSays}
+use Rattle.problem.specs.Says.{Reads}
 use Rattle.layout.specs.Layout.{search_end}
 use Rattle.groups.specs.Sources.{source_in, source_problem, Source}
 use Rattle.groups.specs.declared.Task as DT
@@ -23,10 +23,9 @@ abbrev pub problem_at : (p : ℕ) (ceilings ds s : List ℕ) (at r : ℕ) → Pr
 problem_at p ceilings ds s at r =
     record { objectives = p; ceilings = take p ceilings; domains = ds; tables = tables_at r ds s at }
 
--- what is asked for: a problem that was read and is not refused, and work memory
-pub record Searchable (s : List ℕ) (g : DG.Reading) (work : List ℕ) : Type 0 where
-  pub read : ReadSays s g
-  pub none : g.number ≡ 0
+-- what is asked for: a problem that was read, and work memory
+pub record Searchable (s : List ℕ) (q : DQ.Problem) (work : List ℕ) : Type 0 where
+  pub read : Reads s q
   pub memory : search_end ≤ length work
 
 -- which are accepted records

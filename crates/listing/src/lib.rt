@@ -73,12 +73,7 @@ pub fn widened(ceilings: [u32; 4]) -> [u64; 4]
 fn are_short(ceilings: [u64; 4]) -> bool
     ensures { result ≡ true → All WordCeiling ceilings }
 {
-    let low = branch_directions::larger(ceilings[0], ceilings[1]);
-    let high = branch_directions::larger(ceilings[2], ceilings[3]);
-    if 4294967296 < branch_directions::larger(low, high) {
-        return false;
-    }
-    true
+    ceilings.iter().all(|&ceiling| ceiling <= 4294967296)
 }
 
 // How the plan of a turn is made. All but the first are wide: most problems end with the first, which costs less to
@@ -297,8 +292,7 @@ fn take_turns(
     let mut best = Best { kind: 0, done: 0 };
     let mut measures = unmeasured(false);
     let mut points: usize = 0;
-    let mut turn: usize = 0;
-    while turn < TURNS {
+    for turn in 0..TURNS {
         let making = making_of(turn, best);
         let budget = budget_of(turn);
         let from = branch_search::Resume { points, budget };
@@ -310,7 +304,6 @@ fn take_turns(
         }
         points = explored.count;
         best = best_after(best, turn, making.kind, effort.done);
-        turn += 1;
     }
     let explored = branch_search::not_made(points);
     Taken { explored, measures }
@@ -400,19 +393,19 @@ pub fn find_source(
 // The frontier list of a problem that was read, in work memory; only by the first form where that is asked for.
 pub fn find_list(
     s: &[u8],
-    g: problem::Reading,
+    q: problem::Problem,
     room: usize,
     by_passes: bool,
     work: &mut [u32],
 ) -> Searched
-    requires { Searchable s.now g work.old × (room ≤ max_points) }
+    requires { Searchable s.now q work.old × (room ≤ max_points) }
     ensures { FoundFor (problem_of s.now) room work.old work.new result.found }
 {
-    let head = g.head;
+    let head = q.head;
     let n = head.variables as usize;
     let p = head.objectives as usize;
     let r = head.tables;
-    let sizes = g.sizes;
+    let sizes = q.sizes;
     let at = problem::tables_start(head);
     problem::keep_places(s, at, r, &sizes[..n], &mut work[layout::SOURCE_AT..]);
     let ceilings = head.ceilings;
@@ -430,24 +423,24 @@ pub fn find_list(
 // own ceilings.
 pub fn find_half(
     s: &[u8],
-    g: problem::Reading,
+    q: problem::Problem,
     sides: &[u8],
     side: u8,
     ceilings: [u64; 4],
     work: &mut [u32],
 ) -> Option<usize>
-    requires { Searchable s.now g work.old × (length (problem_of s.now).domains ≡ length sides.now) }
-    ensures { FoundSays g.head.objectives g.head.variables
+    requires { Searchable s.now q work.old × (length (problem_of s.now).domains ≡ length sides.now) }
+    ensures { FoundSays q.head.objectives q.head.variables
         (core_frontier (view side
-        (with_ceilings (take g.head.objectives ceilings) (core_of (problem_of s.now)))
+        (with_ceilings (take q.head.objectives ceilings) (core_of (problem_of s.now)))
         sides.now))
         max_points work.old work.new result }
 {
-    let head = g.head;
+    let head = q.head;
     let n = head.variables as usize;
     let p = head.objectives as usize;
     let r = head.tables;
-    let sizes = g.sizes;
+    let sizes = q.sizes;
     let at = problem::tables_start(head);
     problem::keep_places(s, at, r, &sizes[..n], &mut work[layout::RECORDS_AT..]);
     let narrow = views::narrow(&sizes[..n], sides, side);

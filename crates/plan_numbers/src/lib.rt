@@ -120,7 +120,8 @@ fn entry_rows(
     for t in 0..share {
         let x = choice_of(part.shape.scope, e * share + t);
         let rows = content_of(s, sizes, r, part, x, d, plan);
-        // no such sum wraps; were it to, the plan would fail its test
+        // no such sum wraps; were it to, the plan would fail its test. In two steps here and below, since the borrow
+        // checker does not cover a call's result that goes straight into an array
         let next = lowered(low, count, |i| rest[i].wrapping_add(rows[i]));
         low = next;
     }

@@ -5,10 +5,12 @@
 ghost use Rattle.model.specs.Calls.{solve_outcome};
 ghost use Rattle.answers.specs.Says.{SolveSays, ListedSays};
 
+use model::Refusal;
+
 // What the plain call answers, and what its search took, of which nothing is promised.
 #[derive(Clone, Copy)]
 pub struct Solved {
-    pub answer: answers::Answer,
+    pub answer: Result<u32, Refusal>,
     pub measures: listing::Measures,
 }
 
@@ -25,16 +27,19 @@ pub fn solve_with(
         (solve_outcome problem.now costs.old choices.old work.old)
         costs.new choices.new work.new result.answer }
 {
-    let g = problem::read_problem(problem);
-    let early = answers::early_refusal(g, work.len());
-    if early.number != 0 {
-        let answer = answers::refused(early);
-        let measures = listing::unmeasured(false);
-        return Solved { answer, measures };
-    }
-    let head = g.head;
+    let q = match answers::open_problem(problem, work.len()) {
+        Ok(q) => q,
+        Err(refusal) => {
+            let measures = listing::unmeasured(false);
+            return Solved {
+                answer: Err(refusal),
+                measures,
+            };
+        }
+    };
+    let head = q.head;
     let room = answers::flat_room(head, costs.len(), choices.len());
-    let searched = listing::find_list(problem, g, room, by_passes, work);
+    let searched = listing::find_list(problem, q, room, by_passes, work);
     let found = searched.found;
     let measures = searched.measures;
     answers::copy_out(head, found.unwrap_or(0), costs, choices, work);
@@ -67,16 +72,10 @@ pub fn tell_measures(m: listing::Measures, measures: &mut [u64; 8]) {
 }
 
 // The frontier list in work memory, where it has no more points than `room` and 64; after 15 work memory is cleared.
-pub fn list_rows(problem: &[u8], room: usize, work: &mut [u32]) -> answers::Listed
+pub fn list_rows(problem: &[u8], room: usize, work: &mut [u32]) -> Result<answers::Listed, Refusal>
     ensures { ListedSays problem.now room work.old work.new result }
 {
-    let g = problem::read_problem(problem);
-    let early = answers::early_refusal(g, work.len());
-    if early.number != 0 {
-        return answers::not_listed(early);
-    }
-    let searched = listing::find_list(problem, g, rows_out::room_for(room), false, work);
-    let found = searched.found;
-    let head = g.head;
-    answers::found_rows(head, found, work)
+    let q = answers::open_problem(problem, work.len())?;
+    let searched = listing::find_list(problem, q, rows_out::room_for(room), false, work);
+    answers::found_rows(q.head, searched.found, work)
 }

@@ -25,7 +25,8 @@ use Rattle.branch_search.proofs.Values.{Named, variable_below, variable_size, va
 use Rattle.branch_search.proofs.+open_position_try_choice.Goals.{open_position-After-variable_at-v}
 use Rattle.branch_search.proofs.+open_position_try_choice.Goals.{open_position-After-away_at-away}
 use Rattle.branch_search.proofs.+open_position_try_choice.Goals.{open_position-After-count_opened-t}
-use Rattle.branch_search.proofs.+open_position_try_choice.Goals.{open_position-Joined-seen-t, open_position-After-with-next}
+use Rattle.branch_search.proofs.+open_position_try_choice.Goals.{open_position-Joined-seen-t}
+use Rattle.branch_search.proofs.+open_position_try_choice.Goals.{open_position-After-with-next}
 use Rattle.branch_search.proofs.+open_position_try_choice.Goals.{open_position-then-seen-t, open_position-else-seen-t}
 use Rattle.branch_search.proofs.+open_position_try_choice.Goals as goal
 

@@ -6,7 +6,8 @@ use Rattle.branch_directions.proofs.Widths.{weights_long}
 use Rattle.branch_search.specs.States.{Ready, Between}
 use Rattle.branch_search.proofs.Memory.{still_refl, still_trans, ready_still}
 use Rattle.branch_search.proofs.Archives.{between_source}
-use Rattle.branch_search.proofs.Passes.{passed_between, passed_full, passed_list, explored_still, ended_left}
+use Rattle.branch_search.proofs.Passes.{passed_between, passed_full, passed_list, explored_still}
+use Rattle.branch_search.proofs.Passes.{undecided, ended_left}
 use Rattle.branch_search.proofs.explore.Goals.{After-run_pass-t}
 use Rattle.branch_search.proofs.explore.Goals as goal
 
@@ -42,6 +43,15 @@ run_pass-t-requires c =
       ready_still w.invariant.0 a.d a.sizes.now a.s.now c.requires.0,
       between_source a.task a.sizes.now a.s.now a.work.now w.work w.invariant.0.source w.work w.points w.invariant.1,
     )
+
+pub returns-then-is_given_up : goal.returns-then-is_given_up
+returns-then-is_given_up c =
+    let r = (goal.at.returns-then-is_given_up c).After-run_pass-t in
+    let a = c.args in
+    let still = still_trans c.loop-pass.invariant.0 c.run_pass-t.ensures.still in
+    rw c.given_up.ensures
+    (undecided a.task (length a.sizes.now) _ _ a.from.budget a.work.now c.run_pass-t.new.work _ _ still (next r)
+    (fewer r))
 
 pub returns-then-t-task : goal.returns-then-t-task
 returns-then-t-task c =
@@ -79,3 +89,11 @@ pub loop-pass-preserved : goal.loop-pass-preserved
 loop-pass-preserved c =
     let r = (goal.at.loop-pass-preserved c).After-run_pass-t in
     (still_trans c.loop-pass.invariant.0 c.run_pass-t.ensures.still, next r, fewer r)
+
+pub returns : goal.returns
+returns c =
+    let a = c.args in
+    let w = c.loop-pass in
+    rw c.given_up-2.ensures
+    (undecided a.task (length a.sizes.now) _ _ a.from.budget a.work.now w.work _ _ w.invariant.0 w.invariant.1
+    w.invariant.2)

@@ -19,16 +19,16 @@ start c = c.before.before.before.before
 abbrev bytes : tie.After-head-1 → List ℕ
 bytes c = (start c).args.s.now
 
-accepted : (c : tie.After-head-1) → AcceptedReading (bytes c) (start c).args.g
-accepted c = read_accepted (bytes c) (start c).args.g (start c).requires.0.read (start c).requires.0.none
+accepted : (c : tie.After-head-1) → AcceptedReading (bytes c) (start c).args.q
+accepted c = read_accepted (bytes c) (start c).args.q (start c).requires.0.read
 
-records : (c : tie.After-head-1) → RecordsRead (bytes c) (start c).args.g (start c).args.work.now
+records : (c : tie.After-head-1) → RecordsRead (bytes c) (start c).args.q (start c).args.work.now
 records c =
     let s = start c in
-    records_read (bytes c) s.args.g (accepted c) s.args.work.now s.requires.0.memory
+    records_read (bytes c) s.args.q (accepted c) s.args.work.now s.requires.0.memory
 
 abbrev sizes : tie.After-head-1 → List ℕ
-sizes c = sizes_of (bytes c) (start c).args.g (accepted c)
+sizes c = sizes_of (bytes c) (start c).args.q (accepted c)
 
 same : (c : tie.After-head-1) → length (start c).args.sides.now ≡ length (sizes c)
 same c = sides_sized _ _ (accepted c) (start c).args.sides.now (start c).requires.1
@@ -60,7 +60,7 @@ keep-places-requires c κs =
     let begun : tie.After-tables_start-at = c.before.before in
     let a = records (headed begun) in
     let s = (start (headed begun)).args in
-    let fits = places_fit s.g.head.tables records_at s.work.now (omega (arith, a.tables, a.memory)) in
+    let fits = places_fit s.q.head.tables records_at s.work.now (omega (arith, a.tables, a.memory)) in
     (rw begun.tables_start-at.ensures a.whole, a.small, fits, a.bytes)
 
 -- ## the side's
@@ -101,7 +101,7 @@ keep-records-requires c κs =
 abbrev Narrowed : tie.After-head-1 → List ℕ → Type 0
 Narrowed c narrow =
     let a = (start c).args in
-    take a.g.head.variables narrow ≡ narrowed a.side a.sides.now (sizes c)
+    take a.q.head.variables narrow ≡ narrowed a.side a.sides.now (sizes c)
 
 narrow_is : (c : tie.After-narrow-narrow) → Narrowed (headed (started (kept c))) c.narrow-narrow.result
 narrow_is c = rw (sized _ _ (accepted (headed (started (kept c))))) at c.narrow-narrow.ensures

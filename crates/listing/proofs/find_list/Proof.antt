@@ -22,13 +22,13 @@ bytes c = (start c).args.s.now
 are_bytes : (c : tie.After-head-1) → All Byte (bytes c)
 are_bytes c = all_each Byte 0 (bytes c) (λ i. omega (arith, c.shared_slice_known-1.given i))
 
-accepted : (c : tie.After-head-1) → AcceptedReading (bytes c) (start c).args.g
-accepted c = read_accepted (bytes c) (start c).args.g (start c).requires.0.read (start c).requires.0.none
+accepted : (c : tie.After-head-1) → AcceptedReading (bytes c) (start c).args.q
+accepted c = read_accepted (bytes c) (start c).args.q (start c).requires.0.read
 
-records : (c : tie.After-head-1) → RecordsRead (bytes c) (start c).args.g (start c).args.work.now
+records : (c : tie.After-head-1) → RecordsRead (bytes c) (start c).args.q (start c).args.work.now
 records c =
     let s = start c in
-    records_read (bytes c) s.args.g (accepted c) s.args.work.now s.requires.0.memory
+    records_read (bytes c) s.args.q (accepted c) s.args.work.now s.requires.0.memory
 
 abbrev headed : tie.After-tables_start-at → tie.After-head-1
 headed c = c.before.before.before.before
@@ -51,7 +51,7 @@ keep-places-requires c κs =
     let begun : tie.After-tables_start-at = c.before.before in
     let a = records (headed begun) in
     let s = (start (headed begun)).args in
-    let fits = places_fit s.g.head.tables source_at s.work.now (omega (arith, a.tables, a.memory)) in
+    let fits = places_fit s.q.head.tables source_at s.work.now (omega (arith, a.tables, a.memory)) in
     (rw begun.tables_start-at.ensures a.whole, a.small, fits, a.bytes)
 
 -- ## the search
