@@ -3,40 +3,35 @@ use mathlib.Core.Path.{◌≡◌, refl}
 use mathlib.Core.Bool.{Bool, true, false, ◌&&◌}
 use mathlib.Core.List.{List}
 use Prim.Native.Nat.{ℕ, ◌≤◌, ◌<◌}
-use native.Mathlib.Omega.{arith}
 use lib.ListN.{length}
 use borrow.Author.Tests.{lt-ltb, le-ltb}
 use Rattle.model.specs.Limits.{work_need}
 use Rattle.model.specs.Refusals.{work_short}
-use Rattle.batch_frames.specs.Batches.{max_batch, batch_ok, batch_of}
+use Rattle.batch_frames.specs.Batches.{batch_ok, batch_of}
 use Rattle.batch_frames.specs.Outcomes.{bad_batch, areas_ok, frame_verdict}
-use Rattle.batch_frames.specs.Says.{judgement, unheard, JudgedSays}
-use Rattle.batch_frames.proofs.FrameSteps.{frames_few}
+use Rattle.batch_frames.specs.Says.{judgement}
 
 -- the frames are whole, and each problem has its areas
 abbrev pub fitting : List ℕ → (costs choices results : ℕ) → Bool
 fitting s costs choices results = batch_ok s && areas_ok (length (batch_of s)) costs choices results
 
 module _ (s : List ℕ) (costs choices results memory : ℕ) where
-  pub judged_unfit : fitting s costs choices results ≡ false
-      → JudgedSays s costs choices results memory (unheard bad_batch)
+  -- number 21 is told, of wrong framing or of a missing area
+  pub framed_wrong : batch_ok s ≡ false → bad_batch ≡ (judgement s costs choices results memory).number
   unfolding judgement frame_verdict
-  judged_unfit h = record { number = rw h refl; count = rw h refl; few = omega arith }
+  framed_wrong h = rw h refl
 
-  module _ (fit : fitting s costs choices results ≡ true) where
-    pub judged_short : memory < work_need → JudgedSays s costs choices results memory (unheard work_short)
+  module _ (frames : batch_ok s ≡ true) where
+    pub area_missing : areas_ok (length (batch_of s)) costs choices results ≡ false
+        → bad_batch ≡ (judgement s costs choices results memory).number
     unfolding judgement frame_verdict
-    judged_short l =
-        let short = lt-ltb memory work_need l in
-        record { number = rw (fit, short) refl; count = rw (fit, short) refl; few = omega arith }
+    area_missing h = rw (frames, h) refl
 
-    pub judged_taken : work_need ≤ memory
-        → JudgedSays s costs choices results memory (record { number = 0; count = length (batch_of s) })
-    unfolding judgement frame_verdict
-    judged_taken l =
-        let enough = le-ltb memory work_need l in
-        record {
-          number = rw (fit, enough) refl;
-          count = rw (fit, enough) refl;
-          few = frames_few max_batch s;
-        }
+    module _ (areas : areas_ok (length (batch_of s)) costs choices results ≡ true) where
+      pub memory_short : memory < work_need → work_short ≡ (judgement s costs choices results memory).number
+      unfolding judgement frame_verdict
+      memory_short l = rw (frames, areas, lt-ltb memory work_need l) refl
+
+      pub judged_taken : work_need ≤ memory → 0 ≡ (judgement s costs choices results memory).number
+      unfolding judgement frame_verdict
+      judged_taken l = rw (frames, areas, le-ltb memory work_need l) refl

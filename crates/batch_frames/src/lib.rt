@@ -3,9 +3,13 @@
 #![tactic(auto)]
 
 ghost use Rattle.std.specs.Prelude.{◌≡◌, [], ◌∷◌, ◌+◌, ◌*◌, ◌≤◌, ◌<◌, length};
+ghost use Rattle.model.specs.Limits.{word_end};
+ghost use Rattle.model.specs.Reasons.{told, value_or};
 ghost use Rattle.batch_frames.specs.Batches.{max_batch};
 ghost use Rattle.batch_frames.specs.Outcomes.{result_area, areas_ok};
-ghost use Rattle.batch_frames.specs.Says.{FrameSays, FramesSays, unheard, JudgedSays, in_area};
+ghost use Rattle.batch_frames.specs.Says.{FrameSays, FramesSays, JudgedSays, in_area};
+
+use model::{Reason, Refusal};
 
 // The most problems of a batch.
 const MAX_BATCH: usize = 16;
@@ -75,41 +79,40 @@ fn areas_fit(count: usize, costs: usize, choices: usize, results: usize) -> bool
     RESULT_AREA * count <= results
 }
 
-// What is refused of a whole batch: 21 or 12; else 0, and how many problems it has.
-#[derive(Clone, Copy)]
-pub struct Judged {
-    pub number: u8,
-    pub count: usize,
-}
-
-fn refused(number: u8) -> Judged
-    ensures { result ≡ unheard number }
-{
-    Judged { number, count: 0 }
-}
-
-// Judges a batch before any of its problems is looked at, by the lengths of the lent buffers.
-pub fn judge(batch: &[u8], costs: usize, choices: usize, results: usize, memory: usize) -> Judged
+// Judges a batch before any of its problems is looked at, by the lengths of the lent buffers: how many problems it has,
+// or what is refused of the whole.
+pub fn judge(
+    batch: &[u8],
+    costs: usize,
+    choices: usize,
+    results: usize,
+    memory: usize,
+) -> Result<usize, Reason>
     ensures { JudgedSays batch.now costs choices results memory result }
 {
     let Some(count) = frames_of(batch) else {
-        return refused(21);
+        return Err(Reason::Batch);
     };
     if !areas_fit(count, costs, choices, results) {
-        return refused(21);
+        return Err(Reason::Batch);
     }
     if memory < LEAST_WORK {
-        return refused(12);
+        return Err(Reason::Work);
     }
-    Judged { number: 0, count }
+    Ok(count)
 }
 
 // Number, place and count of problem `k` in its area of the result list.
-pub fn put_result(results: &mut [u32], k: usize, number: u8, place: u32, count: u32)
+pub fn put_result(results: &mut [u32], k: usize, answer: Result<u32, Refusal>)
     requires { (k < max_batch) × (result_area * k + result_area ≤ length results.old) }
-    ensures { results.new
-        ≡ in_area result_area k (number ∷ place ∷ count ∷ []) results.old }
+    ensures { (told answer).place < word_end → results.new
+        ≡ in_area result_area k
+        ((told answer).number ∷ (told answer).place ∷ value_or 0 answer ∷ [])
+        results.old }
 {
+    let mut place = 0;
+    let mut count = 0;
+    let number = model::tell_count(answer, &mut place, &mut count);
     let at = RESULT_AREA * k;
     results[at] = u32::from(number);
     results[at + 1] = place;

@@ -20,4 +20,6 @@ three_stored k a b d old h =
 pub returns : goal.returns
 returns c =
     let a = c.args in
-    rw c.from.ensures (three_stored a.k a.number a.place a.count a.results.now (omega arith))
+    let told = c.tell_count-number in λ near.
+    rw (c.from.ensures, told.ensures.number, told.ensures.place near, told.ensures.count)
+    (three_stored a.k _ _ _ a.results.now (omega arith))
