@@ -1,5 +1,6 @@
 -- Laws that the calls' proofs cite.
 pub mod ListAnswers
+pub mod Places
 pub mod Promises
 -- the demands, by the promises alone
 pub mod Outcomes

@@ -9,12 +9,16 @@ use Rattle.model.specs.Basics.{pick}
 use Rattle.model.specs.Limits.{max_points}
 use Rattle.model.specs.Reading.{problem_of}
 use Rattle.model.specs.Frontiers.{Point, frontier}
-use Rattle.model.specs.Calls.{over, point_records, answers, solve_verdict, ListOutcome, list_outcome}
+use Rattle.model.specs.Refusals.{Verdict, accepted}
+use Rattle.model.specs.Reasons.{number_of}
+use Rattle.model.specs.declared.Refusal.{Refusal}
+use Rattle.model.proofs.Reasons.{number_refuses}
+use Rattle.model.specs.Calls.{over, point_records, answers, work_after, solve_verdict, list_outcome}
+use Rattle.std.specs.Prelude.{Ok, Err}
 use Rattle.model.specs.declared.Point as DP
 use Rattle.rows.specs.Rows.{list_in}
 use Rattle.rows.proofs.RowParts.{rows_length}
 use Rattle.rows_out.specs.Records.{record_of, records_of}
-use Rattle.answers.specs.declared.Answer as DA
 use Rattle.answers.specs.declared.Listed as DI
 use Rattle.answers.specs.Says.{list_verdict, ListedSays}
 use Rattle.frontier.specs.Says.{as_point, as_points, ListExports}
@@ -45,53 +49,43 @@ unfolding as_points records_of point_records
 points_of [] = refl
 points_of (p ∷ ps) = ap (◌∷◌ (as_point (record_of p))) (points_of ps)
 
--- none are written where nothing is listed
-over_listed : (b : Bool) (ps old : List Point)
-    → over (point_records (pick b ps [])) old ≡ pick b (over (point_records ps) old) old
-unfolding over point_records
-over_listed true ps old = refl
-over_listed false ps old = refl
-
--- the records are written from the list in work memory, and work memory is settled
-pub list_end_lem : (s w w1 w2 : List ℕ) (old new : List DP.Point) (r : DI.Listed) → ListedSays s (length old) w w1 r
-    → new ≡ over (records_of (list_in r.objectives r.variables w1 0 r.count)) old
-    → w2 ≡ pick (eqb r.number 0) (replicate (length w1) 0) w1
-    → ListExports s (list_outcome s (as_points old) w) new w2 r.number r.place r.count
+-- a refusal leaves the records as they were
+pub list_refused : (s w w1 : List ℕ) (old : List DP.Point) (r : Refusal) → ListedSays s (length old) w w1 (Err r)
+    → ListExports s (list_outcome s (as_points old) w) old w1 (number_of r.reason) r.place 0
 unfolding list_outcome
-list_end_lem s w w1 w2 old new r says e z =
+list_refused s w w1 old r says =
     let v = list_verdict s (length old) w in
     let same : solve_verdict s w (min (length (as_points old)) max_points) ≡ v = rw (points_count old) in
+    let refuses : answers v ≡ false = rw (← says.verdict) (number_refuses r.reason) in
     record {
       bytes = says.bytes;
-      number = rw same says.number;
-      place = rw same says.place;
-      count = rw same (counted (answers v) says.list);
+      number = rw same (ap (λ (x : Verdict). x.number) says.verdict);
+      place = rw same (ap (λ (x : Verdict). x.place) says.verdict);
+      count = rw (same, refuses) refl;
+      points = rw (same, refuses) refl;
+      work = rw same (rw refuses at says.left);
+    }
+
+-- the records are written from the list in work memory, and work memory is cleared
+pub list_end_lem : (s w w1 w2 : List ℕ) (old new : List DP.Point) (l : DI.Listed)
+    → ListedSays s (length old) w w1 (Ok l)
+    → new ≡ over (records_of (list_in l.objectives l.variables w1 0 l.count)) old → w2 ≡ replicate (length w1) 0
+    → ListExports s (list_outcome s (as_points old) w) new w2 0 0 l.count
+unfolding list_outcome
+list_end_lem s w w1 w2 old new l says e z =
+    let v = list_verdict s (length old) w in
+    let same : solve_verdict s w (min (length (as_points old)) max_points) ≡ accepted =
+    rw (points_count old) (sym says.verdict) in
+    let left : replicate (length w1) 0 ≡ work_after accepted w = rw (← says.verdict) at says.left in
+    record {
+      bytes = says.bytes;
+      number = rw same refl;
+      place = rw same refl;
+      count = rw same (sym (rows_length l.objectives l.variables w1 0 l.count) ∙ ap length says.held.list);
       points =
           rw same
           (ap as_points e
           ∙ points_over _ old
-          ∙ ap (λ ps. over ps (as_points old)) (points_of _ ∙ ap point_records says.list)
-          ∙ over_listed (answers v) ps (as_points old));
-      work = rw same (z ∙ ap (λ n. pick (eqb n 0) (replicate (length w1) 0) w1) says.number ∙ says.left);
+          ∙ ap (λ ps. over ps (as_points old)) (points_of _ ∙ ap point_records says.held.list));
+      work = rw same (z ∙ left);
     }
-  where
-    ps : List Point
-    ps = frontier (problem_of s)
-
-    counted : (b : Bool) → list_in r.objectives r.variables w1 0 r.count ≡ pick b ps []
-        → r.count ≡ pick b (length ps) 0
-    counted true h = sym (rows_length r.objectives r.variables w1 0 r.count) ∙ ap length h
-    counted false h = sym (rows_length r.objectives r.variables w1 0 r.count) ∙ ap length h
-
--- the answer as it is handed to C
-pub list_export : (s : List ℕ) (o : ListOutcome) (new : List DP.Point) (w2 : List ℕ) (a : DA.Answer)
-    → ListExports s o new w2 a.number a.place a.count → (n at k : ℕ)
-    → (n ≡ a.number) × (at ≡ a.place) × (k ≡ a.count) → ListExports s o new w2 n at k
-list_export s o new w2 a says n at k e = record {
-  bytes = says.bytes;
-  number = e.0 ∙ says.number;
-  place = e.1 ∙ says.place;
-  count = e.2 ∙ says.count;
-  points = says.points;
-  work = says.work;
-}

@@ -6,6 +6,9 @@ ghost use Rattle.std.specs.Prelude.{◌≤◌, length, IfOk};
 use std::io;
 use std::io::{ErrorKind, Read};
 
+use model::Refusal;
+use problem::Problem;
+
 // The costs of one point, a space behind each.
 fn print_costs(rt: &impl Print, costs: &[u32]) -> io::Result<()> {
     for cost in costs {
@@ -30,46 +33,49 @@ fn print_points(
     count: usize,
     p: usize,
     n: usize,
-) -> io::Result<()> {
-    let mut i: usize = 0;
-    let mut cost: usize = 0;
-    let mut value: usize = 0;
-    while i < count {
-        if costs.len() - cost < p {
-            return Ok(());
-        }
-        if choices.len() - value < n {
-            return Ok(());
-        }
-        print_costs(rt, &costs[cost..cost + p])?;
+) -> io::Result<()>
+    requires { (1 ≤ p) × (1 ≤ n) }
+{
+    for (cost, choice) in costs.chunks_exact(p).zip(choices.chunks_exact(n)).take(count) {
+        print_costs(rt, cost)?;
         print!(rt; ":")?;
-        print_choice(rt, &choices[value..value + n])?;
+        print_choice(rt, choice)?;
         println!(rt)?;
-        cost += p;
-        value += n;
-        i += 1;
     }
     Ok(())
 }
 
-// The list of a problem with room for 64 points.
+// A problem, and how many points its frontier list has, which stands in the buffers.
+fn solve(
+    problem: &[u8],
+    costs: &mut [u32],
+    choices: &mut [u8],
+) -> Result<(Problem, u32), Refusal>
+    ensures { IfOk result (λ r. (1 ≤ (r.0).head.objectives) × (1 ≤ (r.0).head.variables)) }
+{
+    let mut work = [0u32; 8192];
+    let q = problem::read_problem(problem)?;
+    let count = frontier::solve_problem(problem, costs, choices, &mut work)?;
+    Ok((q, count))
+}
+
+// The list of a problem with room for 64 points, or why it is refused.
 fn print_list(rt: &impl Print, problem: &[u8]) -> io::Result<()> {
     let mut costs = [0u32; 256];
     let mut choices = [0u8; 1536];
-    let mut work = [0u32; 8192];
-    let answer = frontier::solve_problem(problem, &mut costs, &mut choices, &mut work);
-    let number = answer.number;
-    let place = answer.place;
-    let count = answer.count;
-    if number != 0 {
-        println!(rt; "refused {number} at {place}")?;
-        return Ok(());
+    match solve(problem, &mut costs, &mut choices) {
+        Ok((q, count)) => {
+            let n = q.head.variables as usize;
+            let p = q.head.objectives as usize;
+            println!(rt; "points {count} objectives {p} variables {n}")?;
+            print_points(rt, &costs, &choices, count as usize, p, n)
+        }
+        Err(refusal) => {
+            let number = refusal.reason.number();
+            let place = refusal.place;
+            println!(rt; "refused {number} at {place}")
+        }
     }
-    let head = problem::read_problem(problem).head;
-    let n = head.variables as usize;
-    let p = head.objectives as usize;
-    println!(rt; "points {count} objectives {p} variables {n}")?;
-    print_points(rt, &costs, &choices, count as usize, p, n)
 }
 
 // Reads until the bytes are full or the input ends, and answers how many were read.

@@ -1,19 +1,22 @@
 -- No place that a call tells is past the limit of bytes, so that C is told each one as it is.
-use Rattle.std.proofs.Common.{◌≡◌, ◌≤◌, ◌<◌, ℕ, List, Bool, length, min, eqb, ltb, arith}
+use Rattle.std.proofs.Common.{◌≡◌, ◌≤◌, ◌<◌, ℕ, List, [], ◌∷◌, Bool, length, min, eqb, ltb, arith}
 use Rattle.model.specs.Basics.{pick}
 use Rattle.model.specs.Limits.{max_bytes, word_end, work_need}
 use Rattle.model.specs.Refusals.{Verdict, verdict, accepted, refused_at, first}
-use Rattle.model.specs.Reading.{verdict_of}
+use Rattle.model.specs.Reading.{verdict_of, problem_of}
 use Rattle.model.specs.Frontiers.{Point}
 use Rattle.model.specs.Calls.{work_verdict, room_verdict, solve_verdict, solve_outcome, list_outcome, bound_verdict}
-use Rattle.model.specs.Calls.{bound_outcome}
+use Rattle.model.specs.Calls.{bound_outcome, answers, room_of, cut_room_verdict, cut_verdict, cut_outcome}
 use Rattle.model.proofs.Bits.{pick_both}
 use Rattle.model.proofs.Verdicts.{first_has}
 use Rattle.model.proofs.Places.{place_limit}
 use Rattle.text_networks.specs.Conversions.{converted, text_verdict, to_text_verdict, to_text_outcome, from_text_outcome}
 use Rattle.form_canonical.specs.Canonical.{canonical_outcome}
 use Rattle.cache_answers.specs.Outcomes.{early_verdict, store_verdict, cached_outcome}
-use Rattle.batch_frames.specs.Outcomes.{frame_verdict, batch_verdict, batch_outcome}
+use Rattle.batch_frames.specs.Batches.{batch_of}
+use Rattle.batch_frames.specs.Outcomes.{BatchOutcome, in_turn, frame_verdict, batch_verdict, batch_outcome}
+use Rattle.answers.specs.Cuts.{cut_refusal}
+use Rattle.answers.proofs.CutRefusals.{cut_limits, cut_verdict_lem}
 
 abbrev Near : Verdict → Type 0
 Near v = v.place ≤ max_bytes
@@ -79,3 +82,30 @@ cached_place s costs choices work store =
     let early = both (verdict_of s) _ (place_limit s) (both (work_verdict work) _ (tested _ _) (tested _ _)) in
     four_bytes (cached_outcome s costs choices work store).verdict
     (both (early_verdict s work store) _ early (tested _ _))
+
+pub cut_place : (s sides costs choices work : List ℕ)
+    → (cut_outcome s sides costs choices work).verdict.place < word_end
+unfolding cut_outcome cut_room_verdict room_verdict
+cut_place s sides costs choices work =
+    let q = problem_of s in
+    let room = room_of q costs choices in
+    let early = cut_limits s sides (length work) in
+    let last = both _ _ (tested _ _) (both _ _ (tested _ _) (tested _ _)) in
+    four_bytes (cut_verdict s sides work room)
+    (rw (cut_verdict_lem s sides work room) (both (cut_refusal s sides (length work)) _ early.1 last))
+
+turns_near : (ss : List (List ℕ)) (costs choices results work : List ℕ)
+    → Near (in_turn ss costs choices results work).verdict
+unfolding in_turn
+turns_near [] costs choices results work = omega arith
+turns_near (s ∷ ss) costs choices results work = omega arith
+
+pub batch_place : (s costs choices results work : List ℕ)
+    → (batch_outcome s costs choices results work).verdict.place < word_end
+unfolding batch_outcome batch_verdict frame_verdict work_verdict
+batch_place s costs choices results work =
+    let v = batch_verdict s costs choices results work in
+    let near = both (frame_verdict s (length costs) (length choices) (length results)) _ (passed _ _) (tested _ _) in
+    four_bytes (batch_outcome s costs choices results work).verdict
+    (pick_both (λ (o : BatchOutcome). Near o.verdict) (answers v)
+    (turns_near (batch_of s) costs choices results work) near)

@@ -1,2 +1,0 @@
--- Scratch.
-pub mod Places

@@ -1,2 +1,0 @@
-// Scratch.
-#![tactic(auto)]
