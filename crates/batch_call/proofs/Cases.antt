@@ -1,14 +1,16 @@
 -- The two ways through the batch call: it is refused as a whole, or its problems are solved in turn.
 use mathlib.Core.Path.{◌≡◌, refl, sym, ap, ◌∙◌}
-use mathlib.Core.Bool.{true, false}
 use mathlib.Core.List.{List}
+use Rattle.std.specs.Prelude.{Ok, Err}
 use Prim.Native.Nat.{ℕ}
 use lib.ListN.{length}
 use borrow.Author.Tests.{eq-eqb, ne_eqb}
 use Rattle.model.specs.Refusals.{Verdict, accepted}
-use Rattle.model.specs.Calls.{answers, work_verdict}
-use Rattle.answers.specs.declared.Answer as DA
-use Rattle.batch_frames.specs.declared.Judged as DJ
+use Rattle.model.specs.Calls.{work_verdict}
+use Rattle.model.specs.Reasons.{number_of}
+use Rattle.model.specs.declared.Reason.{Reason}
+use Rattle.model.specs.declared.Refusal.{Refusal}
+use Rattle.model.proofs.Reasons.{number_positive}
 use Rattle.batch_frames.specs.Batches.{batch_of}
 use Rattle.batch_frames.specs.Outcomes.{BatchOutcome, unchanged, in_turn, batch_verdict, batch_outcome}
 use Rattle.batch_frames.specs.Statements.{Taken}
@@ -18,8 +20,7 @@ use Rattle.batch_frames.proofs.Accepted.{numbers, taken_is}
 use Rattle.batch_call.specs.Says.{BatchSays}
 use Rattle.batch_call.specs.Steps.{LeftBy}
 
-module _ (s c x r w : List ℕ) (j : DJ.Judged)
-    (judged : JudgedSays s (length c) (length x) (length r) (length w) j) where
+module _ (s c x r w : List ℕ) where
   abbrev v : Verdict
   v = batch_verdict s c x r w
 
@@ -29,45 +30,35 @@ module _ (s c x r w : List ℕ) (j : DJ.Judged)
   abbrev turn : BatchOutcome
   turn = in_turn (batch_of s) c x r w
 
-  abbrev answer : DA.Answer
-  answer = record { number = j.number; place = 0; count = j.count }
-
   -- what was judged by lengths is the verdict
   judged_is : judgement s (length c) (length x) (length r) (length w) ≡ v
   unfolding judgement batch_verdict work_verdict
   judged_is = refl
 
-  number_is : j.number ≡ v.number
-  number_is = rw judged_is at judged.number
-
-  module _ (n : j.number ≡ 0 → ⊥) where
-    refuses : answers v ≡ false
-    refuses = ne_eqb v.number 0 (λ e. n (number_is ∙ e))
+  module _ (q : Reason) (judged : JudgedSays s (length c) (length x) (length r) (length w) (Err q)) where
+    number_is : number_of q ≡ v.number
+    number_is = rw judged_is at judged.number
 
     outcome_is : outcome ≡ unchanged v c x r w
     unfolding batch_outcome
-    outcome_is = rw refuses refl
+    outcome_is = rw (ne_eqb v.number 0 (λ e. number_positive q (number_is ∙ e))) refl
 
-    pub refused_says : BatchSays outcome c x r w answer
-    refused_says =
-        let nowhere = (numbers s c x r w).0 in
+    pub refused_says : (f : Refusal) → f.reason ≡ q → f.place ≡ 0 → BatchSays outcome c x r w (Err f)
+    refused_says f why here =
+        let nowhere : v.place ≡ 0 = rw outcome_is at (numbers s c x r w).0 in
         rw outcome_is (record {
-          number = number_is;
-          place = sym (rw outcome_is at nowhere);
-          count = rw (judged_is, refuses) at judged.count;
+          verdict = rw (why, here, number_is, nowhere) refl;
+          count = refl;
           costs = refl;
           choices = refl;
           results = refl;
           work = refl;
         })
 
-  module _ (n : j.number ≡ 0) where
-    takes : answers v ≡ true
-    takes = eq-eqb v.number 0 (sym number_is ∙ n)
-
+  module _ (k : ℕ) (judged : JudgedSays s (length c) (length x) (length r) (length w) (Ok k)) where
     outcome_turn : outcome ≡ turn
     unfolding batch_outcome
-    outcome_turn = rw takes refl
+    outcome_turn = rw (eq-eqb v.number 0 (sym (rw judged_is at judged.number))) refl
 
     accepts : outcome.verdict ≡ accepted
     accepts = ap (λ (o : BatchOutcome). o.verdict) outcome_turn ∙ turn_accepted (batch_of s) c x r w
@@ -75,13 +66,11 @@ module _ (s c x r w : List ℕ) (j : DJ.Judged)
     pub taken_all : Taken s c x r w
     taken_all = taken_is s c x r w (ap (λ (a : Verdict). a.number) accepts)
 
-    pub taken_says : {c' x' r' w' : List ℕ} → LeftBy turn c' x' r' w' → BatchSays outcome c' x' r' w' answer
+    pub taken_says : {c' x' r' w' : List ℕ} → LeftBy turn c' x' r' w' → BatchSays outcome c' x' r' w' (Ok k)
     taken_says left =
-        let counted = rw (judged_is, takes) at judged.count in
         rw outcome_turn (record {
-          number = n ∙ sym (ap (λ (a : Verdict). a.number) (turn_accepted (batch_of s) c x r w));
-          place = sym (ap (λ (a : Verdict). a.place) (turn_accepted (batch_of s) c x r w));
-          count = counted ∙ sym (turn_count (batch_of s) c x r w);
+          verdict = sym (turn_accepted (batch_of s) c x r w);
+          count = judged.count.0 ∙ sym (turn_count (batch_of s) c x r w);
           costs = left.costs;
           choices = left.choices;
           results = left.results;

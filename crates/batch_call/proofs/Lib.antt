@@ -1,4 +1,5 @@
 -- The laws behind the batch call.
+pub mod SolvePlaces
 pub mod Lent
 pub mod Turns
 pub mod Cases

@@ -1,12 +1,12 @@
 -- What the batch call promises: what its definition says, for every input.
-use Rattle.std.specs.Prelude.{◌≡◌, List, ℕ}
-use Rattle.answers.specs.declared.Answer as DA
+use Rattle.std.specs.Prelude.{◌≡◌, List, ℕ, Result}
+use Rattle.model.specs.Reasons.{told, value_or}
+use Rattle.model.specs.declared.Refusal.{Refusal}
 use Rattle.batch_frames.specs.Outcomes.{BatchOutcome}
 
-pub record BatchSays (o : BatchOutcome) (costs' choices' results' work' : List ℕ) (r : DA.Answer) : Type 0 where
-  pub number : r.number ≡ o.verdict.number
-  pub place : r.place ≡ o.verdict.place
-  pub count : r.count ≡ o.count
+pub record BatchSays (o : BatchOutcome) (costs' choices' results' work' : List ℕ) (r : Result ℕ Refusal) : Type 0 where
+  pub verdict : told r ≡ o.verdict
+  pub count : value_or 0 r ≡ o.count
   pub costs : costs' ≡ o.costs
   pub choices : choices' ≡ o.choices
   pub results : results' ≡ o.results

@@ -7,6 +7,8 @@ ghost use Rattle.batch_frames.specs.Statements.{Taken};
 ghost use Rattle.batch_call.specs.Says.{BatchSays};
 ghost use Rattle.batch_call.specs.Steps.{Asked, Solved, LeftBy};
 
+use model::Refusal;
+
 // The frontier lists of up to 16 problems, each in its areas, with number, place and count in the result list.
 // Whatever is refused of the whole is refused before any solving.
 pub fn solve_batch(
@@ -15,23 +17,19 @@ pub fn solve_batch(
     choices: &mut [u8],
     results: &mut [u32],
     work: &mut [u32],
-) -> answers::Answer
+) -> Result<u32, Refusal>
     ensures { BatchSays
         (batch_outcome batch.now costs.old choices.old results.old
         work.old)
         costs.new choices.new results.new work.new result }
 {
-    let judged = batch_frames::judge(batch, costs.len(), choices.len(), results.len(), work.len());
-    let answer = answers::Answer {
-        number: judged.number,
-        place: 0,
-        count: judged.count as u32,
-    };
-    if judged.number != 0 {
-        return answer;
+    match batch_frames::judge(batch, costs.len(), choices.len(), results.len(), work.len()) {
+        Ok(count) => {
+            solve_frames(batch, costs, choices, results, work);
+            Ok(count as u32)
+        }
+        Err(reason) => Err(reason.at(0)),
     }
-    solve_frames(batch, costs, choices, results, work);
-    answer
 }
 
 // Single calls in turn.
@@ -81,7 +79,6 @@ fn solve_frame(
         work,
         false,
     );
-    let answer = solved.answer;
-    batch_frames::put_result(results, k, answer.number, answer.place, answer.count);
+    batch_frames::put_result(results, k, solved.answer);
     end
 }

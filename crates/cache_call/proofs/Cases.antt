@@ -1,5 +1,5 @@
 -- The cached call's outcome in its cases: a refusal before a look into the store, a hit, and none.
-use mathlib.Core.Path.{◌≡◌, refl, sym, ◌∙◌}
+use mathlib.Core.Path.{◌≡◌, refl, sym, ap, ◌∙◌}
 use mathlib.Core.Bool.{Bool, true, false, ◌&&◌, not}
 use mathlib.Core.List.{List}
 use Prim.Native.Nat.{ℕ, ◌≤◌, ◌<◌}
@@ -14,18 +14,21 @@ use Rattle.model.specs.Reading.{verdict_of, problem_of}
 use Rattle.model.specs.Calls.{room_of, work_verdict, work_after}
 use Rattle.model.specs.declared.Header as DM
 use Rattle.model.proofs.Verdicts.{first_assoc}
-use Rattle.problem.specs.declared.Refusal as DR
-use Rattle.problem.specs.Says.{RefusalSays}
+use Rattle.std.specs.Prelude.{Err}
+use Rattle.model.specs.Reasons.{number_of}
+use Rattle.model.specs.declared.Reason.TheVariants.{Store}
+use Rattle.model.specs.declared.Refusal.{Refusal}
+use Rattle.model.proofs.Reasons.{number_positive, number_refuses}
 use Rattle.problem.proofs.Chains.{pass_verdict, stop_verdict}
 use Rattle.answers.proofs.Early.{early_limits}
-use Rattle.answers.proofs.Early.{early_verdict as unasked}
+use Rattle.answers.specs.Early.{early_of}
 use Rattle.form_canonical.specs.Canonical.{canonical_bytes}
 use Rattle.cache_answers.specs.Stores.{slot_size, slots_in, find_form, Answer, loaded, stored}
 use Rattle.cache_answers.specs.Outcomes.{store_short, store_verdict, CachedOutcome, early_verdict, is_hit}
 use Rattle.cache_answers.specs.Outcomes.{cached_answer}
 use Rattle.cache_answers.specs.Outcomes.{cached_outcome}
 use Rattle.cache_answers.specs.Says.{CachedSays}
-use Rattle.cache_call.specs.Steps.{told, judged, held_in, held_outcome, fresh_outcome}
+use Rattle.cache_call.specs.Steps.{cached, judged, held_in, held_outcome, fresh_outcome}
 use Rattle.cache_call.proofs.Rooms.{room_is}
 
 module _ (s costs choices work store : List ℕ) where
@@ -35,19 +38,18 @@ module _ (s costs choices work store : List ℕ) where
   -- ## refused before a look into the store
 
   -- 1 to 12, and then 20
-  parted : early_verdict s work store ≡ first (unasked s (length work)) (store_verdict store)
+  parted : early_verdict s work store ≡ first (early_of s (length work)) (store_verdict store)
   unfolding early_verdict work_verdict
   parted = sym (first_assoc (verdict_of s) (work_verdict work) (store_verdict store))
 
-  stopped : (v : Verdict) → early_verdict s work store ≡ v → (v.number ≡ 0 → ⊥) → (v.number ≡ full → ⊥)
-      → CachedSays outcome costs choices work store (told v.number v.place 0 false)
+  stopped : (f : Refusal) → early_verdict s work store ≡ verdict (number_of f.reason) f.place
+      → (number_of f.reason ≡ full → ⊥) → CachedSays outcome costs choices work store (cached (Err f) false)
   unfolding cached_outcome work_after
-  stopped v is some other =
-      let refuses : eqb v.number 0 ≡ false = ne_eqb v.number 0 some in
-      let kept : eqb v.number full ≡ false = ne_eqb v.number full other in
+  stopped f is other =
+      let refuses : eqb (number_of f.reason) 0 ≡ false = number_refuses f.reason in
+      let kept : eqb (number_of f.reason) full ≡ false = ne_eqb (number_of f.reason) full other in
       record {
-        number = rw (is, refuses) refl;
-        place = rw (is, refuses) refl;
+        verdict = rw (is, refuses) refl;
         count = rw (is, refuses, refuses) refl;
         hit = rw (is, refuses) refl;
         costs = rw (is, refuses, refuses) refl;
@@ -56,24 +58,25 @@ module _ (s costs choices work store : List ℕ) where
         store = rw (is, refuses) refl;
       }
 
-  pub refused_cached : (f : DR.Refusal) → RefusalSays (unasked s (length work)) f → (f.number ≡ 0 → ⊥)
-      → CachedSays outcome costs choices work store (told f.number f.place 0 false)
-  refused_cached f says h =
-      let v = unasked s (length work) in
+  pub refused_cached : (f : Refusal) → verdict (number_of f.reason) f.place ≡ early_of s (length work)
+      → CachedSays outcome costs choices work store (cached (Err f) false)
+  refused_cached f says =
+      let v = early_of s (length work) in
+      let number : number_of f.reason ≡ v.number = ap (λ (u : Verdict). u.number) says in
       let low = (early_limits s (length work)).0 in
-      let some : v.number ≡ 0 → ⊥ = λ z. h (says.number ∙ z) in
-      rw (says.number, says.place)
-      (stopped v (parted ∙ stop_verdict v (store_verdict store) some) some (λ z. omega (arith, z, low)))
+      stopped f
+      (parted ∙ stop_verdict v (store_verdict store) (λ z. number_positive f.reason (number ∙ z)) ∙ sym says)
+      (λ z. omega (arith, z, number, low))
 
-  module _ (none : (unasked s (length work)).number ≡ 0) where
-    pub short_cached : length store < slot_size
-        → CachedSays outcome costs choices work store (told store_short 0 0 false)
+  module _ (none : (early_of s (length work)).number ≡ 0) where
+    pub short_cached : length store < slot_size → (f : Refusal) → f.reason ≡ Store → f.place ≡ 0
+        → CachedSays outcome costs choices work store (cached (Err f) false)
     unfolding store_verdict
-    short_cached h =
+    short_cached h f why here =
         let short : store_verdict store ≡ verdict store_short 0 = rw (lt-ltb (length store) slot_size h) refl in
-        stopped (verdict store_short 0)
-        (parted ∙ pass_verdict (unasked s (length work)) (store_verdict store) none ∙ short)
-        (λ z. omega (arith, z)) (λ z. omega (arith, z))
+        stopped f
+        (parted ∙ pass_verdict (early_of s (length work)) (store_verdict store) none ∙ short ∙ rw (why, here) refl)
+        (λ z. omega (arith, rw why at z))
 
     -- ## past that
 
@@ -81,7 +84,7 @@ module _ (s costs choices work store : List ℕ) where
       passed : early_verdict s work store ≡ accepted
       unfolding store_verdict
       passed =
-          parted ∙ pass_verdict (unasked s (length work)) (store_verdict store) none
+          parted ∙ pass_verdict (early_of s (length work)) (store_verdict store) none
           ∙ rw (le-ltb (length store) slot_size long) refl
 
       abbrev room : ℕ

@@ -7,17 +7,17 @@ use lib.ListN.{length, take, drop, length-append}
 use Rattle.model.specs.Basics.{All}
 use Rattle.model.specs.Encoding.{Byte}
 use Rattle.model.specs.Calls.{over, work_verdict}
-use Rattle.problem.specs.declared.Reading as DG
+use Rattle.problem.specs.declared.Problem as DQ
 use Rattle.problem.proofs.Accepted.{AcceptedReading}
 use Rattle.problem.proofs.Readings.{objectives_are, variables_are}
-use Rattle.answers.proofs.Early.{early_verdict}
+use Rattle.answers.specs.Early.{early_of}
 use Rattle.form_canonical.specs.Canonical.{canonical_bytes}
 use Rattle.form_canonical.proofs.CanonicalBytes.{form_length}
 use Rattle.form_call.proofs.FormAnswers.{form_taken}
 use Rattle.cache_answers.specs.Stores.{slot_size, costs_at}
 use Rattle.cache_call.specs.Steps.{Counted, NotHeld}
 
-module _ {s : List ℕ} {g : DG.Reading} (a : AcceptedReading s g) where
+module _ {s : List ℕ} {g : DQ.Problem} (a : AcceptedReading s g) where
   pub header_counted : Counted g.head
   header_counted = record { objectives = a.few_objectives; variables = a.few_variables }
 
@@ -38,7 +38,7 @@ module _ {s : List ℕ} {g : DG.Reading} (a : AcceptedReading s g) where
     pub form_short_lem : length (take (length s) buffer') ≤ costs_at
     form_short_lem = omega (arith, ap length form_held, long, a.short)
 
-    pub not_held : (work store : List ℕ) → (early_verdict s (length work)).number ≡ 0 → slot_size ≤ length store
+    pub not_held : (work store : List ℕ) → (early_of s (length work)).number ≡ 0 → slot_size ≤ length store
         → NotHeld s (take (length s) buffer') g.head work store
     unfolding work_verdict
     not_held work store none slot =

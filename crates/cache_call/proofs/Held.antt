@@ -6,14 +6,16 @@ use Prim.Native.Nat.{ℕ, ◌*◌, ◌≤◌, ◌<◌, min}
 use native.Mathlib.Omega.{arith}
 use lib.ListN.{length, take, drop, replicate}
 use Rattle.model.specs.Limits.{max_points}
-use Rattle.model.specs.Refusals.{full}
+use Rattle.std.specs.Prelude.{Ok, Err}
+use Rattle.model.specs.declared.Reason.TheVariants.{Full}
+use Rattle.model.specs.declared.Refusal.{Refusal}
 use Rattle.model.specs.Reading.{word4, words_in}
 use Rattle.model.specs.Calls.{over}
 use Rattle.model.specs.declared.Header as DM
 use Rattle.answers.specs.Says.{room_in}
 use Rattle.cache_answers.specs.Stores.{costs_at, choices_at, count_at, slot_at}
 use Rattle.cache_answers.specs.Says.{CachedSays}
-use Rattle.cache_call.specs.Steps.{told, held_in, held_outcome}
+use Rattle.cache_call.specs.Steps.{cached, held_in, held_outcome}
 use Rattle.cache_call.proofs.Judged.{judged_full, judged_fits}
 
 module _ (h : DM.Header) (costs choices work store : List ℕ) (k : ℕ) where
@@ -23,17 +25,17 @@ module _ (h : DM.Header) (costs choices work store : List ℕ) (k : ℕ) where
   module _ (c room : ℕ) (points : c ≡ min (word4 (drop count_at slot)) max_points)
       (room_as : room ≡ room_in h (length costs) (length choices)) {work' : List ℕ}
       (cleared : work' ≡ replicate (length work) 0) where
-    pub held_full : room < c
-        → CachedSays (held_outcome h costs choices work store k) costs choices work' store (told full 0 0 true)
+    pub held_full : room < c → (f : Refusal) → f.reason ≡ Full → f.place ≡ 0
+        → CachedSays (held_outcome h costs choices work store k) costs choices work' store (cached (Err f) true)
     unfolding held_outcome held_in
-    held_full more =
+    held_full more f why here =
         judged_full true (held_in h slot) (room_in h (length costs) (length choices)) costs choices work store
-        (omega (arith, more, points, room_as)) cleared refl
+        (omega (arith, more, points, room_as)) f (rw (why, here) refl) cleared refl
 
     pub held_fits : c ≤ room → {costs' choices' : List ℕ}
         → costs' ≡ over (words_in (c * h.objectives) (drop costs_at slot)) costs
         → choices' ≡ over (take (c * h.variables) (drop choices_at slot)) choices
-        → CachedSays (held_outcome h costs choices work store k) costs' choices' work' store (told 0 0 c true)
+        → CachedSays (held_outcome h costs choices work store k) costs' choices' work' store (cached (Ok c) true)
     unfolding held_outcome held_in
     held_fits fits ce xe =
         rw points

@@ -1,18 +1,20 @@
 -- The steps of the cached call: an answer told by the caller's room, one that a slot holds, and one found anew.
 use Rattle.std.specs.Prelude.{◌≡◌, Bool, true, false, List, ℕ, ◌*◌, ◌≤◌, min, ltb, leb, length, take, drop, replicate}
+use Rattle.std.specs.Prelude.{Result}
 use Rattle.model.specs.Basics.{pick, when}
 use Rattle.model.specs.Limits.{max_objectives, max_variables, max_points}
 use Rattle.model.specs.Refusals.{full, verdict, accepted, first}
 use Rattle.model.specs.Reading.{word4, words_in, verdict_of, problem_of}
 use Rattle.model.specs.Calls.{over, answers, room_of, work_verdict}
 use Rattle.model.specs.declared.Header as DM
+use Rattle.model.specs.declared.Refusal.{Refusal}
 use Rattle.answers.specs.Says.{room_in}
 use Rattle.cache_answers.specs.Stores.{slot_size, costs_at, choices_at, count_at, slot_at, Answer, solved, stored}
 use Rattle.cache_answers.specs.Outcomes.{CachedOutcome}
 use Rattle.cache_answers.specs.declared.Cached as DC
 
-abbrev pub told : (number place count : ℕ) → Bool → DC.Cached
-told number place count hit = record { number = number; place = place; count = count; hit = hit }
+abbrev pub cached : Result ℕ Refusal → Bool → DC.Cached
+cached answer hit = record { answer = answer; hit = hit }
 
 -- an answer where nothing is refused before: 15 where it has more points than the room, else the buffers take it
 unfoldable pub judged : Bool → Answer → ℕ → (costs choices work store : List ℕ) → CachedOutcome
