@@ -1,14 +1,11 @@
 -- From the list in work memory the answer of the call for point records.
 use mathlib.Core.Path.{◌≡◌, refl, sym, ap, ◌∙◌}
-use mathlib.Core.Bool.{Bool, true, false}
+use mathlib.Core.Bool.{false}
 use mathlib.Core.List.{List, [], ◌∷◌, ◌++◌}
 use Prim.Native.Nat.{ℕ, zero, suc, min}
-use lib.Dec.{eqb}
 use lib.ListN.{length, drop, replicate}
-use Rattle.model.specs.Basics.{pick}
 use Rattle.model.specs.Limits.{max_points}
-use Rattle.model.specs.Reading.{problem_of}
-use Rattle.model.specs.Frontiers.{Point, frontier}
+use Rattle.model.specs.Frontiers.{Point}
 use Rattle.model.specs.Refusals.{Verdict, accepted}
 use Rattle.model.specs.Reasons.{number_of}
 use Rattle.model.specs.declared.Refusal.{Refusal}

@@ -1,10 +1,12 @@
 -- No place that a call tells is past the limit of bytes, so that C is told each one as it is.
-use Rattle.std.proofs.Common.{◌≡◌, ◌≤◌, ◌<◌, ℕ, List, [], ◌∷◌, Bool, length, min, eqb, ltb, arith}
+use Rattle.std.proofs.Common.{◌≤◌, ◌<◌, ℕ, List, [], ◌∷◌, Bool, length, eqb, arith}
 use Rattle.model.specs.Basics.{pick}
-use Rattle.model.specs.Limits.{max_bytes, word_end, work_need}
+use Rattle.model.specs.Limits.{max_bytes, max_points, word_end}
+use Rattle.model.specs.Problems.{Problem}
+use Rattle.model.specs.Cuts.{half, cut_list}
 use Rattle.model.specs.Refusals.{Verdict, verdict, accepted, refused_at, first}
 use Rattle.model.specs.Reading.{verdict_of, problem_of}
-use Rattle.model.specs.Frontiers.{Point}
+use Rattle.model.specs.Frontiers.{Point, frontier}
 use Rattle.model.specs.Calls.{work_verdict, room_verdict, solve_verdict, solve_outcome, list_outcome, bound_verdict}
 use Rattle.model.specs.Calls.{bound_outcome, answers, room_of, cut_room_verdict, cut_verdict, cut_outcome}
 use Rattle.model.proofs.Bits.{pick_both}
@@ -83,16 +85,29 @@ cached_place s costs choices work store =
     four_bytes (cached_outcome s costs choices work store).verdict
     (both (early_verdict s work store) _ early (tested _ _))
 
+room_near : (room : ℕ) (ps : List Point) → Near (room_verdict room ps)
+unfolding room_verdict
+room_near room ps = tested _ _
+
+cut_room_near : (q : Problem) (sides : List ℕ) (room : ℕ) → Near (cut_room_verdict q sides room)
+unfolding cut_room_verdict
+cut_room_near q sides room =
+    let first_half = room_near max_points (frontier (half 0 q sides)) in
+    let second_half = room_near max_points (frontier (half 1 q sides)) in
+    both (room_verdict max_points (frontier (half 0 q sides))) _ first_half
+    (both (room_verdict max_points (frontier (half 1 q sides))) (room_verdict room (cut_list q sides)) second_half
+    (room_near room (cut_list q sides)))
+
 pub cut_place : (s sides costs choices work : List ℕ)
     → (cut_outcome s sides costs choices work).verdict.place < word_end
-unfolding cut_outcome cut_room_verdict room_verdict
+unfolding cut_outcome
 cut_place s sides costs choices work =
     let q = problem_of s in
     let room = room_of q costs choices in
     let early = cut_limits s sides (length work) in
-    let last = both _ _ (tested _ _) (both _ _ (tested _ _) (tested _ _)) in
     four_bytes (cut_verdict s sides work room)
-    (rw (cut_verdict_lem s sides work room) (both (cut_refusal s sides (length work)) _ early.1 last))
+    (rw (cut_verdict_lem s sides work room)
+    (both (cut_refusal s sides (length work)) (cut_room_verdict q sides room) early.1 (cut_room_near q sides room)))
 
 turns_near : (ss : List (List ℕ)) (costs choices results work : List ℕ)
     → Near (in_turn ss costs choices results work).verdict

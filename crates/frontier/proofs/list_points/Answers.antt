@@ -1,5 +1,4 @@
 -- What `list_points` leaves to show: what was listed is copied out as records, and work memory is cleared.
-use Rattle.std.proofs.Common.{◌≤◌, length, arith}
 use Rattle.std.proofs.lemmas.Result.{err_from_is_err_and}
 use Rattle.frontier.proofs.ListAnswers.{list_refused, list_end_lem}
 use Rattle.frontier.proofs.list_points.Goals as goal
