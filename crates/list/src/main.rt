@@ -3,11 +3,10 @@
 
 ghost use Rattle.std.specs.Prelude.{◌≤◌, length, IfOk};
 
-use std::io;
-use std::io::{ErrorKind, Read};
-
 use model::Refusal;
 use problem::Problem;
+use std::io;
+use std::io::{ErrorKind, Read};
 
 // The costs of one point, a space behind each.
 fn print_costs(rt: &impl Print, costs: &[u32]) -> io::Result<()> {
@@ -36,7 +35,11 @@ fn print_points(
 ) -> io::Result<()>
     requires { (1 ≤ p) × (1 ≤ n) }
 {
-    for (cost, choice) in costs.chunks_exact(p).zip(choices.chunks_exact(n)).take(count) {
+    for (cost, choice) in costs
+        .chunks_exact(p)
+        .zip(choices.chunks_exact(n))
+        .take(count)
+    {
         print_costs(rt, cost)?;
         print!(rt; ":")?;
         print_choice(rt, choice)?;
@@ -46,11 +49,7 @@ fn print_points(
 }
 
 // A problem, and how many points its frontier list has, which stands in the buffers.
-fn solve(
-    problem: &[u8],
-    costs: &mut [u32],
-    choices: &mut [u8],
-) -> Result<(Problem, u32), Refusal>
+fn solve(problem: &[u8], costs: &mut [u32], choices: &mut [u8]) -> Result<(Problem, u32), Refusal>
     ensures { IfOk result (λ r. (1 ≤ (r.0).head.objectives) × (1 ≤ (r.0).head.variables)) }
 {
     let mut work = [0u32; 8192];
