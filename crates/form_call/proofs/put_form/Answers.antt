@@ -1,5 +1,5 @@
 -- What `put_form` leaves to show: as many parts are lent as there are records, and the records end the form.
-use Rattle.std.proofs.Common.{ℕ, List, arith}
+use Rattle.std.proofs.Common.{ℕ, arith}
 use lib.ListN.{length-replicate}
 use Rattle.model.specs.Basics.{All}
 use Rattle.model.specs.Limits.{max_bytes}
