@@ -67,10 +67,6 @@ module _ (s : List ℕ) (head : DH.Header) (sizes : List ℕ) (o : Opened s head
 
   -- what stands before the records is copied, and then these are asked for
   module _ (at : ℕ) (told : at ≡ start) where
-    pub front_asked : (form : List ℕ) → length s ≤ length form
-        → (0 ≤ at) × (at ≤ length s) × (0 + (at - 0) ≤ length form)
-    front_asked form room = (omega arith, omega (arith, start_inside), omega (arith, start_inside))
-
     front_whole : take (at - 0) (drop 0 s) ≡ take start s
     front_whole = let same : at - 0 ≡ start = omega (arith, told) in ap (λ (n : ℕ). take n s) same
 

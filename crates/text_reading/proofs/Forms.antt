@@ -1,36 +1,22 @@
--- Forms of records, part after part: bytes, costs, domain sizes.
+-- Forms of records, part after part: domain sizes, costs.
 use mathlib.Core.Path.{◌≡◌, ap, ◌∙◌}
 use mathlib.Core.List.{List, [], ◌∷◌}
 use Prim.Native.Nat.{ℕ, suc, ◌≤◌, ◌<◌}
 use native.Mathlib.Omega.{arith}
-use lib.ListN.{length, get_or, take, drop, replicate, drop_of_length-le, length-replicate, get_or-replicate}
-use lib.Seq.{drop-cons, length-take-le, get_or-take}
+use lib.ListN.{length, get_or, drop, replicate, drop_of_length-le, length-replicate, get_or-replicate}
+use lib.Seq.{drop-cons}
 use Rattle.model.specs.Encoding.{letter_d, letter_o, four_bytes, word_bytes, domain_bytes}
 use Rattle.text_lines.proofs.Writing.{Split}
 
--- the first n bytes of an array: the one that is due; none is left
-pub byte_next : (n : ℕ) (xs : List ℕ) → n ≤ length xs → (i : ℕ) → i < n
-    → Split (drop i (take n xs)) (get_or xs i 0 ∷ []) (drop (suc i) (take n xs))
-byte_next n xs long i h =
-    record {
-      parts =
-          drop-cons (take n xs) i 0 (omega (arith, length-take-le n xs long))
-          ∙ ap (λ (x : ℕ). x ∷ drop (suc i) (take n xs)) (get_or-take n xs i 0 h);
-    }
-
-pub bytes_end : (n : ℕ) (xs : List ℕ) → n ≤ length xs → (i : ℕ) → n ≤ i → drop i (take n xs) ≡ []
-bytes_end n xs long i h = drop_of_length-le (take n xs) {i = i} (omega (arith, length-take-le n xs long))
-
--- domain sizes
-pub domain_next : (n : ℕ) (xs : List ℕ) → n ≤ length xs → (i : ℕ) → i < n
-    → Split (domain_bytes (drop i (take n xs))) (letter_d ∷ letter_o ∷ get_or xs i 0 ∷ [])
-    (domain_bytes (drop (suc i) (take n xs)))
+-- domain sizes: the one that is due; none is left
+pub domain_next : (xs : List ℕ) (i : ℕ) → i < length xs
+    → Split (domain_bytes (drop i xs)) (letter_d ∷ letter_o ∷ get_or xs i 0 ∷ []) (domain_bytes (drop (suc i) xs))
 unfolding domain_bytes
-domain_next n xs long i h = record { parts = ap domain_bytes (byte_next n xs long i h).parts }
+domain_next xs i h = record { parts = ap domain_bytes (drop-cons xs i 0 h) }
 
-pub domains_end : (n : ℕ) (xs : List ℕ) → n ≤ length xs → (i : ℕ) → n ≤ i → domain_bytes (drop i (take n xs)) ≡ []
+pub domains_end : (xs : List ℕ) (i : ℕ) → length xs ≤ i → domain_bytes (drop i xs) ≡ []
 unfolding domain_bytes
-domains_end n xs long i h = ap domain_bytes (bytes_end n xs long i h)
+domains_end xs i h = ap domain_bytes (drop_of_length-le xs {i = i} h)
 
 -- costs that are the same
 pub cost_next : (n x i : ℕ) → i < n

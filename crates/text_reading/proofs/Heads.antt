@@ -39,6 +39,19 @@ pub record FirstLine (s : List ℕ) (name : DW.Word) (n d r b : DN.Number) : Typ
   pub functions : NumberSays s d.end r
   pub bound : NumberSays s r.end b
 
+pub line_read : {s : List ℕ} {name : DW.Word} {n d r b : DN.Number} → network_finding (words_of s) ≡ fine
+    → WordSays s 0 name → NumberSays s name.end n → NumberSays s n.end d → NumberSays s d.end r → NumberSays s r.end b
+    → FirstLine s name n d r b
+line_read right named variables largest functions bound =
+    record {
+      right = right;
+      named = named;
+      variables = variables;
+      largest = largest;
+      functions = functions;
+      bound = bound;
+    }
+
 module _ {s : List ℕ} {name : DW.Word} {n d r b : DN.Number} (l : FirstLine s name n d r b) where
   first : Passed s 0 1 name.end
   first = name_passed s l.right name l.named

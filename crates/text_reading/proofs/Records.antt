@@ -41,6 +41,14 @@ pub record SizesRead (s : List ℕ) (h : DH.Head) (d : DD.Domains) : Type 0 wher
   pub head : HeadRead s h
   pub says : DomainsSay s h.end h.variables d
 
+pub head_read : {s : List ℕ} {h : DH.Head} → network_finding (words_of s) ≡ fine
+    → length (encode (network_problem (words_of s))) ≤ max_bytes → HeadSays s h → HeadRead s h
+head_read right short says = record { right = right; short = short; says = says }
+
+pub sizes_read : {s : List ℕ} {h : DH.Head} {d : DD.Domains} → HeadRead s h → DomainsSay s h.end h.variables d
+    → SizesRead s h d
+sizes_read head says = record { head = head; says = says }
+
 module _ {s : List ℕ} {h : DH.Head} (read : HeadRead s h) where
   pub head_small : (h.variables ≤ max_variables) × (h.functions ≤ max_tables)
   head_small =

@@ -31,7 +31,8 @@ module _ (s problem : List ℕ) where
   unfolding from_text_outcome
   by v e = ap (λ (w : Verdict). converted w form problem) e
 
-  pub refused_answer : (r : Refusal) → r.place ≡ 0 → number_of r.reason ≡ TextNumbers.number_of (network_finding (words_of s))
+  pub refused_answer : (r : Refusal) → r.place ≡ 0
+      → number_of r.reason ≡ TextNumbers.number_of (network_finding (words_of s))
       → ConvertSays (from_text_outcome s problem) problem (Err r)
   refused_answer r here e =
       let n = number_of r.reason in

@@ -131,10 +131,6 @@ module _ {s : List ℕ} {p : DS.Scope} {from to k : ℕ} {out₀ out : List ℕ}
 
 module _ {s : List ℕ} {at : ℕ} {p : DS.Scope} {to : ℕ} (three : length p.sizes ≡ 3) (h : TuplePlace s at p to)
     (entry : DE.Entry) (e-says : EntrySays s at p.arity p.sizes entry) where
-  -- its entry is in the table
-  pub entry_inside : entry.index < p.size
-  entry_inside = rw e-says.index (h.table.inside (words_at s at) h.right)
-
   module _ (r : DN.Number) (says : NumberSays s entry.end r) where
     values_passed : Passed s at p.arity entry.end
     values_passed = record { within = e-says.within; words = e-says.rest }

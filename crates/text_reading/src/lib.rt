@@ -65,37 +65,31 @@ struct Next {
     to: usize,
 }
 
-fn put_pair(a: u8, b: u8, at: usize, out: &mut [u8]) -> usize
-    requires { at + 2 ≤ word_end }
-    ensures { Written at (a ∷ b ∷ []) out.old out.new result }
+// Bytes at a place of a buffer; nothing where they don't all fit.
+fn put_bytes(bytes: &[u8], at: usize, out: &mut [u8]) -> usize
+    requires { at + length bytes.now ≤ word_end }
+    ensures { Written at bytes.now out.old out.new result }
 {
-    let next = text_lines::put_byte(a, at, out);
-    text_lines::put_byte(b, next, out)
+    let next = at + bytes.len();
+    if out.len() < next {
+        return next;
+    }
+    out[at..next].copy_from_slice(bytes);
+    next
 }
 
 fn put_two(x: u32, at: usize, out: &mut [u8]) -> usize
     requires { (x < short_end) × (at + 2 ≤ word_end) }
     ensures { Written at (two_bytes x) out.old out.new result }
 {
-    put_pair((x % 256) as u8, (x / 256) as u8, at, out)
+    put_bytes(&(x as u16).to_le_bytes(), at, out)
 }
 
-// One test for all four bytes: tables have nothing else.
 fn put_four(x: u32, at: usize, out: &mut [u8]) -> usize
     requires { at + 4 ≤ word_end }
     ensures { Written at (four_bytes x) out.old out.new result }
 {
-    let next = at + 4;
-    if out.len() < next {
-        return next;
-    }
-    let low = x % 65536;
-    let high = x / 65536;
-    out[at] = (low % 256) as u8;
-    out[at + 1] = (low / 256) as u8;
-    out[at + 2] = (high % 256) as u8;
-    out[at + 3] = (high / 256) as u8;
-    next
+    put_bytes(&x.to_le_bytes(), at, out)
 }
 
 // The first line: a name, how many variables, the largest domain size, how many functions, the upper bound.
@@ -120,8 +114,7 @@ fn put_head(h: Head, out: &mut [u8]) -> usize
     requires { (h.variables ≤ max_variables) × (h.functions ≤ max_tables) }
     ensures { Written 0 (head_form h) out.old out.new result }
 {
-    let mark = put_pair(b'H', b'D', 0, out);
-    let counts = put_pair(h.variables as u8, 1, mark, out);
+    let counts = put_bytes(&[b'H', b'D', h.variables as u8, 1], 0, out);
     let ceiling = put_two(h.functions as u32, counts, out);
     put_four(h.ceiling, ceiling, out)
 }
@@ -145,12 +138,9 @@ fn put_domains(d: Domains, at: usize, out: &mut [u8]) -> usize
     requires { (d.count ≤ max_variables) × (at + length (domain_bytes (domain_list d)) ≤ word_end) }
     ensures { Written at (domain_bytes (domain_list d)) out.old out.new result }
 {
-    let count = d.count;
-    let sizes = d.sizes;
     let mut next = at;
-    for i in 0..count {
-        let size = put_pair(b'D', b'O', next, out);
-        next = text_lines::put_byte(sizes[i], size, out);
+    for size in &d.sizes[..d.count] {
+        next = put_bytes(&[b'D', b'O', *size], next, out);
     }
     next
 }
@@ -159,7 +149,6 @@ fn read_scope(s: &[u8], at: usize, arity: usize, d: Domains) -> Scope
     requires { ScopeAt s.now at arity d }
     ensures { ScopeSays s.now at arity (domain_list d) result }
 {
-    let domains = d.sizes;
     let mut variables = [0u8; 3];
     let mut sizes = [0u8; 3];
     let mut size: usize = 1;
@@ -167,7 +156,7 @@ fn read_scope(s: &[u8], at: usize, arity: usize, d: Domains) -> Scope
     for i in 0..arity {
         let read = text_words::read_number(s, end);
         let variable = read.value as usize;
-        let domain = domains[variable];
+        let domain = d.sizes[variable];
         variables[i] = read.value as u8;
         sizes[i] = domain;
         size = size * (domain as usize);
@@ -203,14 +192,8 @@ fn put_table_head(scope: Scope, at: usize, out: &mut [u8]) -> usize
     requires { (scope.arity ≤ max_arity) × (at + 4 + scope.arity ≤ word_end) }
     ensures { Written at (table_head scope) out.old out.new result }
 {
-    let arity = scope.arity;
-    let variables = scope.variables;
-    let mark = put_pair(b'C', b'F', at, out);
-    let mut next = put_pair(0, arity as u8, mark, out);
-    for i in 0..arity {
-        next = text_lines::put_byte(variables[i], next, out);
-    }
-    next
+    let counts = put_bytes(&[b'C', b'F', 0, scope.arity as u8], at, out);
+    put_bytes(&scope.variables[..scope.arity], counts, out)
 }
 
 // A table of `size` entries that are the same.
@@ -230,9 +213,7 @@ fn put_tuple(s: &[u8], at: usize, scope: Scope, to: usize, out: &mut [u8]) -> us
     requires { TuplePlace s.now at scope to }
     ensures { TuplePut s.now at scope to out.old out.new result }
 {
-    let arity = scope.arity;
-    let sizes = scope.sizes;
-    let entry = text_tuples::tuple_index(s, at, arity, sizes);
+    let entry = text_tuples::tuple_index(s, at, scope.arity, scope.sizes);
     let cost = text_words::read_number(s, entry.end);
     put_four(cost.value as u32, to + 4 * entry.index, out);
     cost.end
@@ -242,11 +223,9 @@ fn put_tuples(s: &[u8], f: Function, to: usize, out: &mut [u8]) -> usize
     requires { TuplesPlace s.now f to }
     ensures { TuplesPut s.now f to out.old out.new result }
 {
-    let scope = f.scope;
-    let count = f.count;
     let mut next = f.end;
-    for _ in 0..count {
-        next = put_tuple(s, next, scope, to, out);
+    for _ in 0..f.count {
+        next = put_tuple(s, next, f.scope, to, out);
     }
     next
 }
@@ -258,9 +237,8 @@ fn put_function(s: &[u8], at: usize, d: Domains, to: usize, out: &mut [u8]) -> N
     ensures { FunctionPut s.now at (domain_list d) to out.old out.new result }
 {
     let f = read_function(s, at, d);
-    let scope = f.scope;
-    let costs = put_table_head(scope, to, out);
-    let behind = fill_costs(f.default, scope.size, costs, out);
+    let costs = put_table_head(f.scope, to, out);
+    let behind = fill_costs(f.default, f.scope.size, costs, out);
     let end = put_tuples(s, f, costs, out);
     Next {
         at: end,

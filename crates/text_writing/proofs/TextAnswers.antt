@@ -91,4 +91,5 @@ module _ (s text : List ℕ) where
           let fits : count ≤ length text = omega (arith, measured.next, ap length same, w.next) in
           let whole : text' ≡ over form text = written_over w fits in
           let counted : count ≡ length form = omega (arith, w.next) in
-          tells (Ok count) (fine ∙ convert_written accepted form text refl (omega (arith, w.next)) ∙ rw (counted, whole) refl)
+          let wrote = convert_written accepted form text refl (omega (arith, w.next)) in
+          tells (Ok count) (fine ∙ wrote ∙ rw (counted, whole) refl)

@@ -3,4 +3,4 @@ use Rattle.text_reading.proofs.Tuples.{Putting}
 use Rattle.text_reading.proofs.put_tuples.Given as goal
 
 abbrev pub invariant-loop : goal.invariant-loop
-invariant-loop l = Putting l.s l.scope l.initial.next l.to l.counter l.initial.out l.out l.next
+invariant-loop l = Putting l.s l.f.scope l.initial.next l.to l.counter l.initial.out l.out l.next

@@ -55,11 +55,12 @@ module _ {s : List ℕ} {at arity : ℕ} {d : DD.Domains} (p : ScopeAt s at arit
 pub loop-i-init : goal.loop-i-init
 loop-i-init c = scoping_start c.args.s.now c.args.at c.args.d.sizes _ _ c.requires.within refl refl
 
-pub bounds-domains-variable : goal.bounds-domains-variable
-bounds-domains-variable c =
+pub bounds-d-variable : goal.bounds-d-variable
+bounds-d-variable c =
     let three : length c.args.d.sizes ≡ 24 = search rules in
     let r = c.read_number-read in
-    omega (arith, exists c.requires three c.loop-i.invariant c.loop-i-test.true r.result r.ensures, c.requires.domains.few)
+    let there = exists c.requires three c.loop-i.invariant c.loop-i-test.true r.result r.ensures in
+    omega (arith, there, c.requires.domains.few)
 
 pub overflow_cast-variables : goal.overflow_cast-variables
 overflow_cast-variables c =

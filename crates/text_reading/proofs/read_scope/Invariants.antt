@@ -3,4 +3,4 @@ use Rattle.text_reading.proofs.Scopes.{Scoping}
 use Rattle.text_reading.proofs.read_scope.Given as goal
 
 abbrev pub invariant-loop-i : goal.invariant-loop-i
-invariant-loop-i l = Scoping l.s l.at l.domains l.variables l.sizes l.size l.end l.i
+invariant-loop-i l = Scoping l.s l.at l.d.sizes l.variables l.sizes l.size l.end l.i

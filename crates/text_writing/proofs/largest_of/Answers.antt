@@ -5,7 +5,8 @@ use lib.ListN.{drop_of_length-le}
 use Rattle.text_networks.specs.Networks.{largest_of}
 use Rattle.text_writing.proofs.largest_of.Goals as goal
 
-next : (ds : List ℕ) (i : ℕ) → i < length ds → largest_of (drop i ds) ≡ max (get_or ds i 0) (largest_of (drop (suc i) ds))
+next : (ds : List ℕ) (i : ℕ) → i < length ds
+    → largest_of (drop i ds) ≡ max (get_or ds i 0) (largest_of (drop (suc i) ds))
 unfolding largest_of
 next ds i h = ap largest_of (drop-cons ds i 0 h)
 

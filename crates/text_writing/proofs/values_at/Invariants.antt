@@ -1,5 +1,5 @@
--- The loop of `values_at`: the values of the first k variables, for what is left of the entry's number, stand before the
--- others.
+-- The loop of `values_at`: the values of the first k variables, for what is left of the entry's number, stand before
+-- the others.
 use Rattle.std.proofs.Common.{◌≡◌, length, drop}
 use Rattle.model.specs.Limits.{max_arity}
 use Rattle.model.specs.Reading.{table_scope}
