@@ -13,6 +13,9 @@ ghost use Rattle.branch_directions.specs.Directions.{Sensible};
 ghost use Rattle.branch_search.specs.States.{rows_in, Between, unended};
 ghost use Rattle.listing.specs.Says.{Searchable, Plannable, Kept, PlanSays, Explorable, Turned, Ended, found_of};
 
+use plan_order::Order;
+use plan_sums::Kind;
+
 // A search of the second form has so many turns: the first four try a kind of plan each, and the last goes on with the
 // kind that came furthest, as long as it takes.
 const TURNS: usize = 5;
@@ -20,8 +23,15 @@ const TURNS: usize = 5;
 // The kind of plan that came furthest, and how far.
 #[derive(Clone, Copy)]
 struct Best {
-    kind: usize,
+    kind: Kind,
     done: u64,
+}
+
+// A turn of a search: the kind of its plan, and whether the plan is wide.
+#[derive(Clone, Copy)]
+struct Turn {
+    kind: Kind,
+    wide: bool,
 }
 
 // What a search of the second form took, for those who measure: how many plans were made, how many of them failed their
@@ -76,17 +86,18 @@ fn are_short(ceilings: [u64; 4]) -> bool
     ceilings.iter().all(|&ceiling| ceiling <= 4294967296)
 }
 
-// How the plan of a turn is made. All but the first are wide: most problems end with the first, which costs less to
-// make.
-fn making_of(turn: usize, best: Best) -> plan_making::Making {
-    let wide = 0 < turn;
-    if turn < 4 {
-        return plan_making::Making { kind: turn, wide };
-    }
-    plan_making::Making {
-        kind: best.kind,
-        wide,
-    }
+// What the turn of this number is. All plans but the first are wide: most problems end with the first, which costs less
+// to make.
+fn turn_at(number: usize, best: Best) -> Turn {
+    let kind = match number {
+        0 => Kind::Spreads,
+        1 => Kind::Slacks,
+        2 => Kind::Fill,
+        3 => Kind::Alone,
+        _ => best.kind,
+    };
+    let wide = 0 < number;
+    Turn { kind, wide }
 }
 
 // Whether a sum can be adapted to the ceilings: several objectives, and a ceiling that binds.
@@ -99,32 +110,32 @@ fn is_adaptable(p: usize, ranges: plan_sums::Ranges) -> bool
     ranges.binds
 }
 
-// The order of a plan of this kind: the fourth kind has one sum and goes by fill, as the third; where no sum can be
-// adapted it has the variables' own order.
-fn order_of(kind: usize, adaptable: bool) -> usize {
-    if kind == 3 {
-        if adaptable {
-            return 2;
-        }
+// The order of a plan of this kind: one with one sum alone goes by fill too; where no sum can be adapted it has the
+// variables' own order.
+fn order_of(kind: Kind, adaptable: bool) -> Order {
+    match kind {
+        Kind::Spreads => Order::Links,
+        Kind::Slacks => Order::LinksFirst,
+        Kind::Alone if !adaptable => Order::Own,
+        Kind::Fill | Kind::Alone => Order::Fill,
     }
-    kind
 }
 
 // How many partial choices a turn may open: the first so many that most problems end with it, and the last more than it
 // ever will.
-fn budget_of(turn: usize) -> u64 {
-    if turn == 0 {
+fn budget_of(number: usize) -> u64 {
+    if number == 0 {
         return 200000;
     }
-    if turn < 4 {
+    if number < 4 {
         return 50000;
     }
     9223372036854775808
 }
 
 // The best kind after a turn by a plan of this kind that came so far.
-fn best_after(best: Best, turn: usize, kind: usize, done: u64) -> Best {
-    if turn == 0 {
+fn best_after(best: Best, number: usize, kind: Kind, done: u64) -> Best {
+    if number == 0 {
         return Best { kind, done };
     }
     if done <= best.done {
@@ -206,7 +217,7 @@ fn turn_sums(
     sizes: &[u8],
     task: groups::Task,
     ranges: plan_sums::Ranges,
-    kind: usize,
+    kind: Kind,
     work: &mut [u32],
 ) -> branch_directions::Sums
     requires { Explorable task sizes.now s.now work.old }
@@ -215,7 +226,7 @@ fn turn_sums(
 {
     let p = task.objectives;
     let sums = plan_sums::sums_of(kind, p, ranges);
-    if kind == 0 {
+    if kind == Kind::Spreads {
         return sums;
     }
     if !is_adaptable(p, ranges) {
@@ -260,7 +271,7 @@ fn search_turn(
     sizes: &[u8],
     task: groups::Task,
     ranges: plan_sums::Ranges,
-    making: plan_making::Making,
+    turn: Turn,
     from: branch_search::Resume,
     work: &mut [u32],
 ) -> branch_search::Explored
@@ -268,13 +279,13 @@ fn search_turn(
         × Between (source_problem task sizes.now s.now work.old) task.room work.old from.points }
     ensures { Turned task sizes.now s.now work.old work.new result }
 {
-    let sums = turn_sums(s, sizes, task, ranges, making.kind, work);
-    let order = order_of(making.kind, is_adaptable(task.objectives, ranges));
-    let ordered = plan_making::Making {
-        kind: order,
-        wide: making.wide,
+    let sums = turn_sums(s, sizes, task, ranges, turn.kind, work);
+    let order = order_of(turn.kind, is_adaptable(task.objectives, ranges));
+    let making = plan_making::Making {
+        order,
+        wide: turn.wide,
     };
-    search_by(s, sizes, task, sums, ordered, from, work)
+    search_by(s, sizes, task, sums, making, from, work)
 }
 
 // The turns of a search, each with the archive that the turn before has left.
@@ -289,21 +300,24 @@ fn take_turns(
     ensures { Turned task sizes.now s.now work.old work.new
         result.explored }
 {
-    let mut best = Best { kind: 0, done: 0 };
+    let mut best = Best {
+        kind: Kind::Spreads,
+        done: 0,
+    };
     let mut measures = unmeasured(false);
     let mut points: usize = 0;
-    for turn in 0..TURNS {
-        let making = making_of(turn, best);
-        let budget = budget_of(turn);
+    for number in 0..TURNS {
+        let turn = turn_at(number, best);
+        let budget = budget_of(number);
         let from = branch_search::Resume { points, budget };
-        let explored = search_turn(s, sizes, task, ranges, making, from, work);
+        let explored = search_turn(s, sizes, task, ranges, turn, from, work);
         let effort = explored.effort;
         measures = measured(measures, budget, effort);
         if explored.decided {
             return Taken { explored, measures };
         }
         points = explored.count;
-        best = best_after(best, turn, making.kind, effort.done);
+        best = best_after(best, number, turn.kind, effort.done);
     }
     let explored = branch_search::not_made(points);
     Taken { explored, measures }
