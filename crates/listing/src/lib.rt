@@ -34,16 +34,23 @@ struct Turn {
     wide: bool,
 }
 
+// The forms of the search: by passes in list order, and by plans. Where the second gives up, the first goes on.
+#[derive(Clone, Copy, PartialEq, Eq)]
+pub enum Form {
+    First,
+    Second,
+}
+
 // What a search of the second form took, for those who measure: how many plans were made, how many of them failed their
-// test, how many passes were made by the others, and how many partial choices these opened. Whether the first form
-// answered, after it or alone. Nothing relies on it.
+// test, how many passes were made by the others, and how many partial choices these opened. Which form answered, or none
+// where nothing was searched. Nothing relies on it.
 #[derive(Clone, Copy)]
 pub struct Measures {
     pub plans: u64,
     pub failed: u64,
     pub passes: u64,
     pub opened: u64,
-    pub first_form: bool,
+    pub answered: Option<Form>,
 }
 
 // What the turns of a search found, and what they took.
@@ -145,13 +152,13 @@ fn best_after(best: Best, number: usize, kind: Kind, done: u64) -> Best {
 }
 
 // Before the first plan is made.
-pub fn unmeasured(first_form: bool) -> Measures {
+pub fn unmeasured() -> Measures {
     Measures {
         plans: 0,
         failed: 0,
         passes: 0,
         opened: 0,
-        first_form,
+        answered: None,
     }
 }
 
@@ -175,18 +182,15 @@ fn measured(m: Measures, budget: u64, effort: branch_search::Effort) -> Measures
         failed: std::num::wrapping_add_u64(m.failed, failed),
         passes: std::num::wrapping_add_u64(m.passes, effort.passes),
         opened: std::num::wrapping_add_u64(m.opened, opened),
-        first_form: m.first_form,
+        answered: m.answered,
     }
 }
 
-// The same, and the first form answered.
-fn by_first_form(m: Measures) -> Measures {
+// The same, and this form answered.
+fn answered_by(form: Form, m: Measures) -> Measures {
     Measures {
-        plans: m.plans,
-        failed: m.failed,
-        passes: m.passes,
-        opened: m.opened,
-        first_form: true,
+        answered: Some(form),
+        ..m
     }
 }
 
@@ -304,7 +308,7 @@ fn take_turns(
         kind: Kind::Spreads,
         done: 0,
     };
-    let mut measures = unmeasured(false);
+    let mut measures = unmeasured();
     let mut points: usize = 0;
     for number in 0..TURNS {
         let turn = turn_at(number, best);
@@ -328,7 +332,7 @@ fn not_taken() -> Taken
     ensures { result.explored ≡ unended 0 (record { left = 0; done = 0; passes = 0 }) }
 {
     let explored = branch_search::not_made(0);
-    let measures = unmeasured(false);
+    let measures = unmeasured();
     Taken { explored, measures }
 }
 
@@ -380,27 +384,27 @@ pub fn find_source(
     s: &[u8],
     sizes: &[u8],
     task: groups::Task,
-    by_passes: bool,
+    form: Form,
     work: &mut [u32],
 ) -> Searched
     requires { Source task sizes.now s.now work.old × (task.room ≤ max_points) }
     ensures { CoreFound (source_problem task sizes.now s.now work.old)
         task.room work.old work.new result.found }
 {
-    if by_passes {
+    if form == Form::First {
         let found = pass_list::find_source(s, sizes, task, work);
-        let measures = unmeasured(true);
+        let measures = answered_by(form, unmeasured());
         return Searched { found, measures };
     }
     let t = explore_source(s, sizes, task, work);
     let e = t.explored;
-    let measures = t.measures;
     if e.decided {
         let found = found_of(e);
+        let measures = answered_by(form, t.measures);
         return Searched { found, measures };
     }
     let found = pass_list::find_source(s, sizes, task, work);
-    let measures = by_first_form(measures);
+    let measures = answered_by(Form::First, t.measures);
     Searched { found, measures }
 }
 
@@ -409,7 +413,7 @@ pub fn find_list(
     s: &[u8],
     q: problem::Problem,
     room: usize,
-    by_passes: bool,
+    form: Form,
     work: &mut [u32],
 ) -> Searched
     requires { Searchable s.now q work.old × (room ≤ max_points) }
@@ -430,7 +434,7 @@ pub fn find_list(
         ceilings: wide,
         room,
     };
-    find_source(s, &sizes[..n], task, by_passes, work)
+    find_source(s, &sizes[..n], task, form, work)
 }
 
 // The list of one half, in work memory: the records on the side, over the domain sizes that it leaves, under the half's
@@ -476,6 +480,6 @@ pub fn find_half(
         ceilings,
         room: 64,
     };
-    let searched = find_source(s, &narrow[..n], task, false, work);
+    let searched = find_source(s, &narrow[..n], task, Form::Second, work);
     searched.found
 }
