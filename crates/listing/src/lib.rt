@@ -13,6 +13,9 @@ ghost use Rattle.branch_directions.specs.Directions.{Sensible};
 ghost use Rattle.branch_search.specs.States.{rows_in, Between, unended};
 ghost use Rattle.listing.specs.Says.{Searchable, Plannable, Kept, PlanSays, Explorable, Turned, Ended, found_of};
 
+use plan_order::Order;
+use plan_sums::Kind;
+
 // A search of the second form has so many turns: the first four try a kind of plan each, and the last goes on with the
 // kind that came furthest, as long as it takes.
 const TURNS: usize = 5;
@@ -20,20 +23,34 @@ const TURNS: usize = 5;
 // The kind of plan that came furthest, and how far.
 #[derive(Clone, Copy)]
 struct Best {
-    kind: usize,
+    kind: Kind,
     done: u64,
 }
 
+// A turn of a search: the kind of its plan, and whether the plan is wide.
+#[derive(Clone, Copy)]
+struct Turn {
+    kind: Kind,
+    wide: bool,
+}
+
+// The forms of the search: by passes in list order, and by plans. Where the second gives up, the first goes on.
+#[derive(Clone, Copy, PartialEq, Eq)]
+pub enum Form {
+    First,
+    Second,
+}
+
 // What a search of the second form took, for those who measure: how many plans were made, how many of them failed their
-// test, how many passes were made by the others, and how many partial choices these opened. Whether the first form
-// answered, after it or alone. Nothing relies on it.
+// test, how many passes were made by the others, and how many partial choices these opened. Which form answered, or none
+// where nothing was searched. Nothing relies on it.
 #[derive(Clone, Copy)]
 pub struct Measures {
     pub plans: u64,
     pub failed: u64,
     pub passes: u64,
     pub opened: u64,
-    pub first_form: bool,
+    pub answered: Option<Form>,
 }
 
 // What the turns of a search found, and what they took.
@@ -76,17 +93,18 @@ fn are_short(ceilings: [u64; 4]) -> bool
     ceilings.iter().all(|&ceiling| ceiling <= 4294967296)
 }
 
-// How the plan of a turn is made. All but the first are wide: most problems end with the first, which costs less to
-// make.
-fn making_of(turn: usize, best: Best) -> plan_making::Making {
-    let wide = 0 < turn;
-    if turn < 4 {
-        return plan_making::Making { kind: turn, wide };
-    }
-    plan_making::Making {
-        kind: best.kind,
-        wide,
-    }
+// What the turn of this number is. All plans but the first are wide: most problems end with the first, which costs less
+// to make.
+fn turn_at(number: usize, best: Best) -> Turn {
+    let kind = match number {
+        0 => Kind::Spreads,
+        1 => Kind::Slacks,
+        2 => Kind::Fill,
+        3 => Kind::Alone,
+        _ => best.kind,
+    };
+    let wide = 0 < number;
+    Turn { kind, wide }
 }
 
 // Whether a sum can be adapted to the ceilings: several objectives, and a ceiling that binds.
@@ -99,32 +117,32 @@ fn is_adaptable(p: usize, ranges: plan_sums::Ranges) -> bool
     ranges.binds
 }
 
-// The order of a plan of this kind: the fourth kind has one sum and goes by fill, as the third; where no sum can be
-// adapted it has the variables' own order.
-fn order_of(kind: usize, adaptable: bool) -> usize {
-    if kind == 3 {
-        if adaptable {
-            return 2;
-        }
+// The order of a plan of this kind: one with one sum alone goes by fill too; where no sum can be adapted it has the
+// variables' own order.
+fn order_of(kind: Kind, adaptable: bool) -> Order {
+    match kind {
+        Kind::Spreads => Order::Links,
+        Kind::Slacks => Order::LinksFirst,
+        Kind::Alone if !adaptable => Order::Own,
+        Kind::Fill | Kind::Alone => Order::Fill,
     }
-    kind
 }
 
 // How many partial choices a turn may open: the first so many that most problems end with it, and the last more than it
 // ever will.
-fn budget_of(turn: usize) -> u64 {
-    if turn == 0 {
+fn budget_of(number: usize) -> u64 {
+    if number == 0 {
         return 200000;
     }
-    if turn < 4 {
+    if number < 4 {
         return 50000;
     }
     9223372036854775808
 }
 
 // The best kind after a turn by a plan of this kind that came so far.
-fn best_after(best: Best, turn: usize, kind: usize, done: u64) -> Best {
-    if turn == 0 {
+fn best_after(best: Best, number: usize, kind: Kind, done: u64) -> Best {
+    if number == 0 {
         return Best { kind, done };
     }
     if done <= best.done {
@@ -134,13 +152,13 @@ fn best_after(best: Best, turn: usize, kind: usize, done: u64) -> Best {
 }
 
 // Before the first plan is made.
-pub fn unmeasured(first_form: bool) -> Measures {
+pub fn unmeasured() -> Measures {
     Measures {
         plans: 0,
         failed: 0,
         passes: 0,
         opened: 0,
-        first_form,
+        answered: None,
     }
 }
 
@@ -164,18 +182,15 @@ fn measured(m: Measures, budget: u64, effort: branch_search::Effort) -> Measures
         failed: std::num::wrapping_add_u64(m.failed, failed),
         passes: std::num::wrapping_add_u64(m.passes, effort.passes),
         opened: std::num::wrapping_add_u64(m.opened, opened),
-        first_form: m.first_form,
+        answered: m.answered,
     }
 }
 
-// The same, and the first form answered.
-fn by_first_form(m: Measures) -> Measures {
+// The same, and this form answered.
+fn answered_by(form: Form, m: Measures) -> Measures {
     Measures {
-        plans: m.plans,
-        failed: m.failed,
-        passes: m.passes,
-        opened: m.opened,
-        first_form: true,
+        answered: Some(form),
+        ..m
     }
 }
 
@@ -206,7 +221,7 @@ fn turn_sums(
     sizes: &[u8],
     task: groups::Task,
     ranges: plan_sums::Ranges,
-    kind: usize,
+    kind: Kind,
     work: &mut [u32],
 ) -> branch_directions::Sums
     requires { Explorable task sizes.now s.now work.old }
@@ -215,7 +230,7 @@ fn turn_sums(
 {
     let p = task.objectives;
     let sums = plan_sums::sums_of(kind, p, ranges);
-    if kind == 0 {
+    if kind == Kind::Spreads {
         return sums;
     }
     if !is_adaptable(p, ranges) {
@@ -260,7 +275,7 @@ fn search_turn(
     sizes: &[u8],
     task: groups::Task,
     ranges: plan_sums::Ranges,
-    making: plan_making::Making,
+    turn: Turn,
     from: branch_search::Resume,
     work: &mut [u32],
 ) -> branch_search::Explored
@@ -268,13 +283,13 @@ fn search_turn(
         × Between (source_problem task sizes.now s.now work.old) task.room work.old from.points }
     ensures { Turned task sizes.now s.now work.old work.new result }
 {
-    let sums = turn_sums(s, sizes, task, ranges, making.kind, work);
-    let order = order_of(making.kind, is_adaptable(task.objectives, ranges));
-    let ordered = plan_making::Making {
-        kind: order,
-        wide: making.wide,
+    let sums = turn_sums(s, sizes, task, ranges, turn.kind, work);
+    let order = order_of(turn.kind, is_adaptable(task.objectives, ranges));
+    let making = plan_making::Making {
+        order,
+        wide: turn.wide,
     };
-    search_by(s, sizes, task, sums, ordered, from, work)
+    search_by(s, sizes, task, sums, making, from, work)
 }
 
 // The turns of a search, each with the archive that the turn before has left.
@@ -289,21 +304,24 @@ fn take_turns(
     ensures { Turned task sizes.now s.now work.old work.new
         result.explored }
 {
-    let mut best = Best { kind: 0, done: 0 };
-    let mut measures = unmeasured(false);
+    let mut best = Best {
+        kind: Kind::Spreads,
+        done: 0,
+    };
+    let mut measures = unmeasured();
     let mut points: usize = 0;
-    for turn in 0..TURNS {
-        let making = making_of(turn, best);
-        let budget = budget_of(turn);
+    for number in 0..TURNS {
+        let turn = turn_at(number, best);
+        let budget = budget_of(number);
         let from = branch_search::Resume { points, budget };
-        let explored = search_turn(s, sizes, task, ranges, making, from, work);
+        let explored = search_turn(s, sizes, task, ranges, turn, from, work);
         let effort = explored.effort;
         measures = measured(measures, budget, effort);
         if explored.decided {
             return Taken { explored, measures };
         }
         points = explored.count;
-        best = best_after(best, turn, making.kind, effort.done);
+        best = best_after(best, number, turn.kind, effort.done);
     }
     let explored = branch_search::not_made(points);
     Taken { explored, measures }
@@ -314,7 +332,7 @@ fn not_taken() -> Taken
     ensures { result.explored ≡ unended 0 (record { left = 0; done = 0; passes = 0 }) }
 {
     let explored = branch_search::not_made(0);
-    let measures = unmeasured(false);
+    let measures = unmeasured();
     Taken { explored, measures }
 }
 
@@ -366,27 +384,27 @@ pub fn find_source(
     s: &[u8],
     sizes: &[u8],
     task: groups::Task,
-    by_passes: bool,
+    form: Form,
     work: &mut [u32],
 ) -> Searched
     requires { Source task sizes.now s.now work.old × (task.room ≤ max_points) }
     ensures { CoreFound (source_problem task sizes.now s.now work.old)
         task.room work.old work.new result.found }
 {
-    if by_passes {
+    if form == Form::First {
         let found = pass_list::find_source(s, sizes, task, work);
-        let measures = unmeasured(true);
+        let measures = answered_by(form, unmeasured());
         return Searched { found, measures };
     }
     let t = explore_source(s, sizes, task, work);
     let e = t.explored;
-    let measures = t.measures;
     if e.decided {
         let found = found_of(e);
+        let measures = answered_by(form, t.measures);
         return Searched { found, measures };
     }
     let found = pass_list::find_source(s, sizes, task, work);
-    let measures = by_first_form(measures);
+    let measures = answered_by(Form::First, t.measures);
     Searched { found, measures }
 }
 
@@ -395,7 +413,7 @@ pub fn find_list(
     s: &[u8],
     q: problem::Problem,
     room: usize,
-    by_passes: bool,
+    form: Form,
     work: &mut [u32],
 ) -> Searched
     requires { Searchable s.now q work.old × (room ≤ max_points) }
@@ -416,7 +434,7 @@ pub fn find_list(
         ceilings: wide,
         room,
     };
-    find_source(s, &sizes[..n], task, by_passes, work)
+    find_source(s, &sizes[..n], task, form, work)
 }
 
 // The list of one half, in work memory: the records on the side, over the domain sizes that it leaves, under the half's
@@ -462,6 +480,6 @@ pub fn find_half(
         ceilings,
         room: 64,
     };
-    let searched = find_source(s, &narrow[..n], task, false, work);
+    let searched = find_source(s, &narrow[..n], task, Form::Second, work);
     searched.found
 }

@@ -295,7 +295,7 @@ fn try_shares(
     sizes: &[u8],
     task: groups::Task,
     ranges: plan_sums::Ranges,
-    kind: usize,
+    order: plan_order::Order,
     t: Trial,
     plan: &mut [u32],
 ) -> Trial
@@ -306,7 +306,7 @@ fn try_shares(
     let r = task.records;
     let tried = t.shares;
     let d = one_sum(task.objectives, tried, ranges);
-    let making = plan_making::Making { kind, wide: false };
+    let making = plan_making::Making { order, wide: false };
     plan_making::make_plan(s, sizes, r, d, making, plan);
     let bound = root_bound(s, sizes, r, d, plan);
     let x = follow(s, sizes, r, d, plan);
@@ -329,7 +329,7 @@ pub fn adapted_shares(
     sizes: &[u8],
     task: groups::Task,
     ranges: plan_sums::Ranges,
-    kind: usize,
+    order: plan_order::Order,
     plan: &mut [u32],
 ) -> [u64; 4]
     requires { Adaptable task sizes.now s.now plan.old }
@@ -344,7 +344,7 @@ pub fn adapted_shares(
         step: FIRST_STEP,
     };
     for _ in 0..ROUNDS {
-        t = try_shares(s, sizes, task, ranges, kind, t, plan);
+        t = try_shares(s, sizes, task, ranges, order, t, plan);
     }
     t.best
 }

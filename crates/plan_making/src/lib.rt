@@ -13,10 +13,10 @@ ghost use Rattle.branch_buckets.specs.Content.{Planned};
 ghost use Rattle.branch_directions.specs.Directions.{Sensible};
 ghost use Rattle.plan_memory.specs.Arranged.{Loose, Arranged};
 
-// How a plan is made: its kind says which order it has, and where it is wide, parts may have three positions.
+// How a plan is made: which order it has, and where it is wide, parts may have three positions.
 #[derive(Clone, Copy)]
 pub struct Making {
-    pub kind: usize,
+    pub order: plan_order::Order,
     pub wide: bool,
 }
 
@@ -383,6 +383,6 @@ pub fn make_plan(
         × Rearranged (count_from 0 max_messages) (take max_messages (drop children_at plan.new)) }
 {
     plan_memory::fill_slots(plan);
-    plan_order::set_order(s, sizes, r, making.kind, plan);
+    plan_order::set_order(s, sizes, r, making.order, plan);
     make_buckets(s, sizes, r, d, making.wide, plan);
 }

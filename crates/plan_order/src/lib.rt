@@ -73,8 +73,8 @@ fn fill_of(near: u32, links: [u32; 24], sizes: &[u8]) -> u64
 }
 
 // Which of the variables that are left comes last.
-#[derive(Clone, Copy)]
-enum Order {
+#[derive(Clone, Copy, PartialEq, Eq)]
+pub enum Order {
     // Of those with the fewest links the last.
     Links,
     // Of those with the fewest links the first.
@@ -83,16 +83,6 @@ enum Order {
     Fill,
     // The last one.
     Own,
-}
-
-// The order of this kind.
-fn order_of(kind: usize) -> Order {
-    match kind {
-        1 => Order::LinksFirst,
-        2 => Order::Fill,
-        3 => Order::Own,
-        _ => Order::Links,
-    }
 }
 
 // The score of a variable, of which the least comes last: how many others of `left` are linked to it, or that behind
@@ -138,13 +128,12 @@ fn best_of(links: [u32; 24], left: u32, sizes: &[u8], order: Order) -> usize
 }
 
 // Writes the order and the positions: from the last position to the first the variable with the least score, whose
-// neighbours are linked then. Orders of kinds 0 and 1 go by links alone, and differ where variables have as many; kind
-// 3 is the variables' own order, in which of choices with equal costs the earliest is met first.
-pub fn set_order(s: &[u8], sizes: &[u8], r: usize, kind: usize, plan: &mut [u32])
+// neighbours are linked then. The two orders by links alone differ where variables have as many; in the variables' own
+// order the earliest of choices with equal costs is met first.
+pub fn set_order(s: &[u8], sizes: &[u8], r: usize, order: Order, plan: &mut [u32])
     requires { length sizes.now ≤ max_variables }
     ensures { Loose plan.old plan.new }
 {
-    let order = order_of(kind);
     number_positions(plan);
     let mut links = links_of(s, r, plan);
     let mut left = u32::MAX;

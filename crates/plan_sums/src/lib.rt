@@ -18,6 +18,19 @@ pub struct Ranges {
     pub binds: bool,
 }
 
+// The kinds of plans, by the sums that they have where a ceiling binds.
+#[derive(Clone, Copy, PartialEq, Eq)]
+pub enum Kind {
+    // By spreads, and the fourth by slacks.
+    Spreads,
+    // All by slacks.
+    Slacks,
+    // The same as the first: the order of the plan is another one.
+    Fill,
+    // One alone.
+    Alone,
+}
+
 // What parts each sum has of each objective, four numbers in a row. The first sum leads, so it leaves none out.
 fn parts_for(p: usize) -> [u64; 16] {
     match p {
@@ -117,9 +130,9 @@ pub fn with_adapted(
 }
 
 // The sums of a plan of this kind for `p` objectives. Where no ceiling binds they go by spreads; else the fourth has
-// equal shares by slacks, in kind 1 all go by slacks, and in kind 3 there is one alone: with fewer directions messages
-// have room for more variables.
-pub fn sums_of(kind: usize, p: usize, r: Ranges) -> branch_directions::Sums {
+// equal shares by slacks, or all go by slacks, or there is one alone: with fewer directions messages have room for more
+// variables.
+pub fn sums_of(kind: Kind, p: usize, r: Ranges) -> branch_directions::Sums {
     let shares = shares_for(p);
     let by_spreads = branch_directions::Sums {
         shares,
@@ -131,11 +144,11 @@ pub fn sums_of(kind: usize, p: usize, r: Ranges) -> branch_directions::Sums {
     }
     let equal = [shares[0], shares[1], shares[2], shares[3]];
     match kind {
-        1 => branch_directions::Sums {
+        Kind::Slacks => branch_directions::Sums {
             ranges: in_every_row(r.slacks),
             ..by_spreads
         },
-        3 => one_sum(equal, r),
-        _ => with_fourth(by_spreads, equal, r),
+        Kind::Alone => one_sum(equal, r),
+        Kind::Spreads | Kind::Fill => with_fourth(by_spreads, equal, r),
     }
 }

@@ -5,6 +5,7 @@
 ghost use Rattle.model.specs.Calls.{solve_outcome};
 ghost use Rattle.answers.specs.Says.{SolveSays, ListedSays};
 
+use listing::Form;
 use model::Refusal;
 
 // What the plain call answers, and what its search took, of which nothing is promised.
@@ -21,7 +22,7 @@ pub fn solve_with(
     costs: &mut [u32],
     choices: &mut [u8],
     work: &mut [u32],
-    by_passes: bool,
+    form: Form,
 ) -> Solved
     ensures { SolveSays
         (solve_outcome problem.now costs.old choices.old work.old)
@@ -30,7 +31,7 @@ pub fn solve_with(
     let q = match answers::open_problem(problem, work.len()) {
         Ok(q) => q,
         Err(refusal) => {
-            let measures = listing::unmeasured(false);
+            let measures = listing::unmeasured();
             return Solved {
                 answer: Err(refusal),
                 measures,
@@ -39,7 +40,7 @@ pub fn solve_with(
     };
     let head = q.head;
     let room = answers::flat_room(head, costs.len(), choices.len());
-    let searched = listing::find_list(problem, q, room, by_passes, work);
+    let searched = listing::find_list(problem, q, room, form, work);
     let found = searched.found;
     let measures = searched.measures;
     answers::copy_out(head, found.unwrap_or(0), costs, choices, work);
@@ -49,13 +50,11 @@ pub fn solve_with(
 
 // Which form of the search answered: 1 or 2, and 0 where neither was asked.
 fn form_of(m: listing::Measures) -> u64 {
-    if m.first_form {
-        return 1;
+    match m.answered {
+        None => 0,
+        Some(Form::First) => 1,
+        Some(Form::Second) => 2,
     }
-    if m.plans == 0 {
-        return 0;
-    }
-    2
 }
 
 // What a search took, for C: which form answered, plans, those of them that failed their test, passes, opened partial
@@ -76,6 +75,6 @@ pub fn list_rows(problem: &[u8], room: usize, work: &mut [u32]) -> Result<answer
     ensures { ListedSays problem.now room work.old work.new result }
 {
     let q = answers::open_problem(problem, work.len())?;
-    let searched = listing::find_list(problem, q, rows_out::room_for(room), false, work);
+    let searched = listing::find_list(problem, q, rows_out::room_for(room), Form::Second, work);
     answers::found_rows(q.head, searched.found, work)
 }

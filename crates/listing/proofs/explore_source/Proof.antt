@@ -1,7 +1,6 @@
 -- `listing::explore_source` meets its contract: turns are taken where there is something to plan, and else nothing is
 -- said.
 use Rattle.std.proofs.Common.{ℕ, List, subst, arith, rules}
-use borrow.Author.Tests.{not-false}
 use Rattle.groups.proofs.Tasks.{ceilings_long}
 use Rattle.plan_spreads.specs.LargestCosts.{Reaches}
 use Rattle.listing.proofs.FittedCeilings.{fitted_short}

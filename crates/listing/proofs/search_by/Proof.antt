@@ -1,7 +1,6 @@
 -- `listing::search_by` meets its contract: a plan that passed its test is searched by, and one that failed it leaves
 -- the archive as it was.
 use Rattle.std.proofs.Common.{rules}
-use borrow.Author.Tests.{not-false}
 use Rattle.listing.proofs.Forms.{source_plannable}
 use Rattle.listing.proofs.Turns.{turned_since, plan_between, plan_failed, plan_ready, explored_turned}
 use Rattle.listing.proofs.search_by.Statement.{statement}

@@ -4,8 +4,8 @@ use Rattle.branch_search.specs.States.{Between}
 use Rattle.listing.specs.Says.{Kept}
 use Rattle.listing.proofs.take_turns.Given as goal
 
-abbrev pub invariant-loop-turn : goal.invariant-loop-turn
-invariant-loop-turn l = record {
+abbrev pub invariant-loop-number : goal.invariant-loop-number
+invariant-loop-number l = record {
   kept : Kept l.task.records l.initial.work l.work;
   archive : Between (source_problem l.task l.sizes l.s l.initial.work) l.task.room l.work l.points;
 }
