@@ -77,7 +77,7 @@ fn solve_frame(
         &mut costs[c..c + batch_frames::COST_AREA],
         &mut choices[x..x + batch_frames::CHOICE_AREA],
         work,
-        false,
+        listing::Form::Second,
     );
     batch_frames::put_result(results, k, solved.answer);
     end

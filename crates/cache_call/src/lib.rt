@@ -104,7 +104,13 @@ fn answer_anew(
 {
     let mut found_costs = [0u32; 256];
     let mut found_choices = [0u8; 1536];
-    let solved = solve_call::solve_with(problem, &mut found_costs, &mut found_choices, work, false);
+    let solved = solve_call::solve_with(
+        problem,
+        &mut found_costs,
+        &mut found_choices,
+        work,
+        listing::Form::Second,
+    );
     let count = solved.answer?;
     let points = count as usize;
     let c = points * head.objectives as usize;

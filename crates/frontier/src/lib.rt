@@ -37,14 +37,14 @@ fn solve_as(
     costs: &mut [u32],
     choices: &mut [u8],
     work: &mut [u32],
-    first_form: bool,
+    form: listing::Form,
 ) -> solve_call::Solved
     ensures { SolveExports problem.now
         (solve_outcome problem.now costs.old choices.old work.old)
         costs.new choices.new work.new
         (told result.answer).number (told result.answer).place (value_or 0 result.answer) }
 {
-    solve_call::solve_with(problem, costs, choices, work, first_form)
+    solve_call::solve_with(problem, costs, choices, work, form)
 }
 
 // The plain call.
@@ -58,7 +58,7 @@ pub fn solve_problem(
         (solve_outcome problem.now costs.old choices.old work.old)
         costs.new choices.new work.new (told result).number (told result).place (value_or 0 result) }
 {
-    let solved = solve_as(problem, costs, choices, work, false);
+    let solved = solve_as(problem, costs, choices, work, listing::Form::Second);
     solved.answer
 }
 
@@ -73,7 +73,7 @@ pub fn solve_by_passes(
         (solve_outcome problem.now costs.old choices.old work.old)
         costs.new choices.new work.new (told result).number (told result).place (value_or 0 result) }
 {
-    let solved = solve_as(problem, costs, choices, work, true);
+    let solved = solve_as(problem, costs, choices, work, listing::Form::First);
     solved.answer
 }
 
@@ -124,7 +124,7 @@ pub fn frontier_solve_measured(
         (solve_outcome problem.now costs.old choices.old work.old)
         costs.new choices.new work.new result place.new count.new }
 {
-    let solved = solve_as(problem, costs, choices, work, false);
+    let solved = solve_as(problem, costs, choices, work, listing::Form::Second);
     let answer = solved.answer;
     let taken = solved.measures;
     solve_call::tell_measures(taken, measures);
