@@ -121,20 +121,6 @@ pub fn lead_weights(d: Directions) -> [u64; 4]
     row_of(weights, 0)
 }
 
-// The lesser of two numbers.
-pub fn lesser(a: u64, b: u64) -> u64
-    ensures { (result ≤ a) × (result ≤ b) }
-{
-    a.min(b)
-}
-
-// The larger of two numbers.
-pub fn larger(a: u64, b: u64) -> u64
-    ensures { (a ≤ result) × (b ≤ result) }
-{
-    a.max(b)
-}
-
 // The least share that an objective has in sum `i`. The first sum leads, so it leaves none out.
 fn least_share(i: usize) -> u64
     ensures { (result ≤ max_share) × (i ≡ 0 → 1 ≤ result) }

@@ -40,13 +40,6 @@ pub struct Shape {
     pub place: usize,
 }
 
-// The number, or `most` where it is larger.
-pub fn at_most(x: usize, most: usize) -> usize
-    ensures { result ≤ most }
-{
-    x.min(most)
-}
-
 // How many values a variable has: 1 to 8.
 pub fn size_of(v: usize, sizes: &[u8]) -> usize
     ensures { (1 ≤ result) × (result ≤ 8) }
