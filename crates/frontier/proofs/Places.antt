@@ -12,7 +12,8 @@ use Rattle.model.specs.Calls.{bound_outcome, answers, room_of, cut_room_verdict,
 use Rattle.model.proofs.Bits.{pick_both}
 use Rattle.model.proofs.Verdicts.{first_has}
 use Rattle.model.proofs.Places.{place_limit}
-use Rattle.text_networks.specs.Conversions.{converted, text_verdict, to_text_verdict, to_text_outcome, from_text_outcome}
+use Rattle.text_networks.specs.Conversions.{converted, text_verdict, to_text_verdict, to_text_outcome}
+use Rattle.text_networks.specs.Conversions.{from_text_outcome}
 use Rattle.form_canonical.specs.Canonical.{canonical_outcome}
 use Rattle.cache_answers.specs.Outcomes.{early_verdict, store_verdict, cached_outcome}
 use Rattle.batch_frames.specs.Batches.{batch_of}

@@ -58,7 +58,8 @@ module _ (s : List ℕ) (bytes : (i : ℕ) → get_or s i 0 < byte_end) where
   }
 
   pub cut_promise : (o : CutOutcome) {c x w : List ℕ} (r : Result DH.Halves Refusal) → CutSays o c x w r
-      → CutExports s o c x w (told r).number (told r).place (value_or no_halves r).count (value_or no_halves r).first (value_or no_halves r).second
+      → CutExports s o c x w (told r).number (told r).place (value_or no_halves r).count
+      (value_or no_halves r).first (value_or no_halves r).second
   cut_promise o r says = record {
     bytes = all_each Byte 0 s bytes;
     number = numbered says.verdict;
@@ -148,7 +149,8 @@ solve_export r says short n at k0 e f g0 = record {
 
 -- the cut call's answer as C is told it
 pub cut_export : {s : List ℕ} {o : CutOutcome} {c x w : List ℕ} (r : Result DH.Halves Refusal)
-    → CutExports s o c x w (told r).number (told r).place (value_or no_halves r).count (value_or no_halves r).first (value_or no_halves r).second
+    → CutExports s o c x w (told r).number (told r).place (value_or no_halves r).count
+    (value_or no_halves r).first (value_or no_halves r).second
     → o.verdict.place < word_end → (n at : ℕ) (k0 : ℕ) (k1 : ℕ) (k2 : ℕ) → n ≡ (told r).number
     → ((told r).place < word_end → at ≡ (told r).place)
     → k0 ≡ (value_or no_halves r).count → k1 ≡ (value_or no_halves r).first → k2 ≡ (value_or no_halves r).second

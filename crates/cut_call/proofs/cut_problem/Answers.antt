@@ -1,5 +1,5 @@
--- What `cut_problem` leaves to show: what is refused before the search changes nothing, and the lists that were found are
--- handed to one law of CutEnds.
+-- What `cut_problem` leaves to show: what is refused before the search changes nothing, and the lists that were found
+-- are handed to one law of CutEnds.
 use Rattle.std.proofs.Common.{◌≡◌, ℕ, List, length, sym, ap, arith}
 use Rattle.std.proofs.lemmas.Result.{err_from_is_err_and}
 use Rattle.model.specs.Basics.{All}

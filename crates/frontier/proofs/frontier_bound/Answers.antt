@@ -8,4 +8,7 @@ pub returns : goal.returns
 returns c =
     let a = c.args in
     let told = c.tell_bound.ensures in
-    bound_export {o = bound_outcome a.problem.now a.prefix.now} c.bound_prefix-bound.result c.bound_prefix-bound.ensures (bound_place a.problem.now a.prefix.now) _ _ _ told.number told.place told.least
+    bound_export {o = bound_outcome a.problem.now a.prefix.now}
+    c.bound_prefix-bound.result c.bound_prefix-bound.ensures
+    (bound_place a.problem.now a.prefix.now)
+    _ _ _ told.number told.place told.least

@@ -8,4 +8,7 @@ pub returns : goal.returns
 returns c =
     let a = c.args in
     let told = c.tell.ensures in
-    canonical_export {o = canonical_outcome a.problem.now a.form.now} c.problem_canonical-canonical.result c.problem_canonical-canonical.ensures (canonical_place a.problem.now a.form.now) _ _ _ _ told.number told.place told.count told.key
+    canonical_export {o = canonical_outcome a.problem.now a.form.now}
+    c.problem_canonical-canonical.result c.problem_canonical-canonical.ensures
+    (canonical_place a.problem.now a.form.now)
+    _ _ _ _ told.number told.place told.count told.key

@@ -8,4 +8,7 @@ pub returns : goal.returns
 returns c =
     let a = c.args in
     let told = c.tell_count.ensures in
-    convert_export {o = from_text_outcome a.text.now a.problem.now} c.problem_from_text-converted.result c.problem_from_text-converted.ensures (from_text_place a.text.now a.problem.now) _ _ _ told.number told.place told.count
+    convert_export {o = from_text_outcome a.text.now a.problem.now}
+    c.problem_from_text-converted.result c.problem_from_text-converted.ensures
+    (from_text_place a.text.now a.problem.now)
+    _ _ _ told.number told.place told.count

@@ -9,4 +9,7 @@ pub returns : goal.returns
 returns c =
     let a = c.args in
     let told = c.tell_count.ensures in
-    list_export {o = list_outcome a.problem.now (as_points a.points.now) a.work.now} c.list_points-answer.result c.list_points-answer.ensures (list_place a.problem.now (as_points a.points.now) a.work.now) _ _ _ told.number told.place told.count
+    list_export {o = list_outcome a.problem.now (as_points a.points.now) a.work.now}
+    c.list_points-answer.result c.list_points-answer.ensures
+    (list_place a.problem.now (as_points a.points.now) a.work.now)
+    _ _ _ told.number told.place told.count

@@ -8,4 +8,7 @@ pub returns : goal.returns
 returns c =
     let a = c.args in
     let told = c.tell_count.ensures in
-    solve_export {o = solve_outcome a.problem.now a.costs.now a.choices.now a.work.now} c.solve_problem-answer.result c.solve_problem-answer.ensures (solve_place a.problem.now a.costs.now a.choices.now a.work.now) _ _ _ told.number told.place told.count
+    solve_export {o = solve_outcome a.problem.now a.costs.now a.choices.now a.work.now}
+    c.solve_problem-answer.result c.solve_problem-answer.ensures
+    (solve_place a.problem.now a.costs.now a.choices.now a.work.now)
+    _ _ _ told.number told.place told.count

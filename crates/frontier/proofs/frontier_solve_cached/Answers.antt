@@ -8,4 +8,7 @@ pub returns : goal.returns
 returns c =
     let a = c.args in
     let told = c.tell.ensures in
-    cached_export {o = cached_outcome a.problem.now a.costs.now a.choices.now a.work.now a.store.now} c.solve_cached-cached.result c.solve_cached-cached.ensures (cached_place a.problem.now a.costs.now a.choices.now a.work.now a.store.now) _ _ _ _ told.number told.place told.count told.hit
+    cached_export {o = cached_outcome a.problem.now a.costs.now a.choices.now a.work.now a.store.now}
+    c.solve_cached-cached.result c.solve_cached-cached.ensures
+    (cached_place a.problem.now a.costs.now a.choices.now a.work.now a.store.now)
+    _ _ _ _ told.number told.place told.count told.hit

@@ -8,4 +8,7 @@ pub returns : goal.returns
 returns c =
     let a = c.args in
     let told = c.tell_count.ensures in
-    convert_export {o = to_text_outcome a.problem.now a.text.now} c.problem_to_text-converted.result c.problem_to_text-converted.ensures (to_text_place a.problem.now a.text.now) _ _ _ told.number told.place told.count
+    convert_export {o = to_text_outcome a.problem.now a.text.now}
+    c.problem_to_text-converted.result c.problem_to_text-converted.ensures
+    (to_text_place a.problem.now a.text.now)
+    _ _ _ told.number told.place told.count
