@@ -3,7 +3,8 @@
 #![tactic(auto)]
 
 ghost use Rattle.std.specs.Prelude.{◌≡◌, ◌<◌, not, leb};
-ghost use Rattle.model.specs.Limits.{max_bytes, max_variables, max_objectives, max_tables, max_domain, max_arity, word_end};
+ghost use Rattle.model.specs.Limits.{max_bytes, max_variables, max_objectives, max_tables, max_domain, max_arity};
+ghost use Rattle.model.specs.Limits.{word_end};
 ghost use Rattle.model.specs.Reading.{outside};
 ghost use Rattle.model.specs.Reasons.{number_of, told, value_or};
 
