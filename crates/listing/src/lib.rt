@@ -42,8 +42,8 @@ pub enum Form {
 }
 
 // What a search of the second form took, for those who measure: how many plans were made, how many of them failed their
-// test, how many passes were made by the others, and how many partial choices these opened. Which form answered, or none
-// where nothing was searched. Nothing relies on it.
+// test, how many passes were made by the others, and how many partial choices these opened. Which form answered, or
+// none where nothing was searched. Nothing relies on it.
 #[derive(Clone, Copy)]
 pub struct Measures {
     pub plans: u64,
