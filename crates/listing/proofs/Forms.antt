@@ -1,10 +1,6 @@
 -- The two forms of the search: what planning for the second one needs, and the first one after it.
-use Rattle.std.proofs.Common.{◌≡◌, ℕ, ◌≤◌, List, length, take, drop, refl, ap, arith, length-drop}
-use Rattle.model.specs.Basics.{All}
-use Rattle.model.specs.Limits.{max_tables}
-use Rattle.model.specs.Problems.{DomainSize}
+use Rattle.std.proofs.Common.{◌≡◌, ℕ, List, take, drop, refl, ap, arith}
 use Rattle.model.specs.Core.{core_frontier}
-use Rattle.problem.specs.Records.{Whole}
 use Rattle.layout.specs.Layout.{source_at}
 use Rattle.groups.specs.Sources.{source_in, Source, source_problem}
 use Rattle.groups.specs.declared.Task as DT
@@ -39,29 +35,6 @@ module _ {task : DT.Task} {ds s work : List ℕ} (source : Source task ds s work
 
   pub source_places : take r (behind_at work source_at) ≡ source_in work r
   source_places = ap (take r) source_behind
-
-  -- what adding up the tables' least and largest entries asks for
-  pub extents_asked :
-      All DomainSize ds × (r ≤ max_tables) × (r ≤ length (behind_at work source_at))
-      × All (Whole ds s) (take r (behind_at work source_at))
-  extents_asked = (
-    source.small,
-    source.few,
-    omega (arith, ap length source_behind, length-drop source_at work, source.few, source.long),
-    rw source_behind source.whole,
-  )
-
-  -- under other ceilings
-  pub source_under : (fs : List ℕ) → Source (under_ceilings task fs) ds s work
-  source_under fs =
-      record {
-        whole = source.whole;
-        few = source.few;
-        small = source.small;
-        variables = source.variables;
-        objectives = source.objectives;
-        long = source.long;
-      }
 
   -- memory in which the records are kept
   module _ {work' : List ℕ} (kept : Kept r work work') where

@@ -1,5 +1,5 @@
 -- A plan behind the archive's rows: the problem's records are copied there and rearranged, and stay where they stood.
-use Rattle.std.proofs.Common.{◌≡◌, ℕ, ◌+◌, ◌-◌, ◌≤◌, ◌⊎◌, List, ◌++◌, length, take, drop, sym, refl, ap, ◌∙◌, inl}
+use Rattle.std.proofs.Common.{◌≡◌, ℕ, ◌+◌, ◌-◌, ◌≤◌, List, ◌++◌, length, take, drop, sym, refl, ap, ◌∙◌}
 use Rattle.std.proofs.Common.{append-nil, arith, length-append, length-drop, length-take-le, take-take, drop-drop}
 use Rattle.std.proofs.Common.{drop_at}
 use lib.Seq.{take-append-le, drop-length}
@@ -60,12 +60,6 @@ module _ {r : ℕ} {ds s work : List ℕ} (p : Plannable r ds s work) where
 
   fits : list_end + r ≤ length work
   fits = omega (arith, p.few, p.long)
-
-  -- the places are copied
-  pub copy_asked :
-      (source_at + r ≤ length work) × (list_end + r ≤ length work)
-      × ((source_at + r ≤ list_end) ⊎ (list_end + r ≤ source_at))
-  copy_asked = (omega (arith, p.few, p.long), fits, inl (omega (arith, p.few)))
 
   module _ (copied : List ℕ) (is : copied ≡ over work list_end (source_in work r) (list_end + r)) where
     copied_long : length copied ≡ length work

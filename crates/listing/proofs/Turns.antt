@@ -35,12 +35,6 @@ pub turned_undecided :
 turned_undecided task ds s k b effort =
     record { kept = k; found = λ t. absurd (true_false t refl); between = λ f. b }
 
--- and none at all was taken
-pub ended_none :
-    (task : DT.Task) (ds s work : List ℕ) (effort : DF.Effort) → Ended task ds s work work (unended 0 effort)
-ended_none task ds s work effort =
-    record { kept = kept_same task.records work; found = λ t. absurd (true_false t refl) }
-
 -- turns under ceilings that are fitted to what sums can reach find the task's list
 pub ended_fitted :
     (task : DT.Task) (ds s work : List ℕ) (ms fs : List ℕ) → task.objectives ≤ max_objectives →
