@@ -1,6 +1,6 @@
 -- What is refused of a whole batch before any of its problems is looked at.
 use mathlib.Core.Path.{◌≡◌, refl}
-use mathlib.Core.Bool.{Bool, true, false, ◌&&◌}
+use mathlib.Core.Bool.{true, false}
 use mathlib.Core.List.{List}
 use Prim.Native.Nat.{ℕ, ◌≤◌, ◌<◌}
 use lib.ListN.{length}
@@ -10,10 +10,6 @@ use Rattle.model.specs.Refusals.{work_short}
 use Rattle.batch_frames.specs.Batches.{batch_ok, batch_of}
 use Rattle.batch_frames.specs.Outcomes.{bad_batch, areas_ok, frame_verdict}
 use Rattle.batch_frames.specs.Says.{judgement}
-
--- the frames are whole, and each problem has its areas
-abbrev pub fitting : List ℕ → (costs choices results : ℕ) → Bool
-fitting s costs choices results = batch_ok s && areas_ok (length (batch_of s)) costs choices results
 
 module _ (s : List ℕ) (costs choices results memory : ℕ) where
   -- number 21 is told, of wrong framing or of a missing area

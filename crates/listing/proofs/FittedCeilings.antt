@@ -2,24 +2,13 @@
 use Rattle.std.proofs.Common.{◌≡◌, ℕ, suc, ◌+◌, ◌<◌, ◌≤◌, Bool, true, false, ◌&&◌, ltb, List, [], ◌∷◌, length, get_or}
 use Rattle.std.proofs.Common.{take, sym, refl, ap, ◌∙◌, ap₂, arith, length-take-le, get_or-take, ltb-false, ltb-true}
 use Rattle.std.proofs.Common.{le-ltb, lt-ltb}
-use Rattle.model.specs.Basics.{All}
 use Rattle.model.specs.Limits.{max_objectives}
 use Rattle.model.specs.Problems.{Problem}
 use Rattle.model.specs.Costs.{cost_of, total, totals, costs_of}
-use Rattle.model.specs.Core.{WordCeiling, under, with_ceilings, core_consistent, core_frontier}
-use Rattle.model.proofs.Elements.{all_at}
+use Rattle.model.specs.Core.{under, with_ceilings, core_consistent, core_frontier}
 use Rattle.model.proofs.Totals.{totals_at}
 use Rattle.model.proofs.Frontier.{frontier_agrees, costs_width}
 use Rattle.plan_spreads.specs.Ceilings.{Fitted}
-use Rattle.listing.proofs.FourCeilings.{four_short}
-
--- no larger than those that they are fitted for
-pub fitted_short : (cs ms fs : List ℕ) → Fitted cs ms fs → All WordCeiling cs → All WordCeiling fs
-fitted_short cs ms fs fit short =
-    let each : (o : ℕ) → o < max_objectives → WordCeiling (get_or fs o 0) =
-    λ o l. omega (arith, (fit.each o l).0, all_at WordCeiling cs short o 0 (omega arith)) in
-    four_short fs fit.long (each 0 (omega arith)) (each 1 (omega arith)) (each 2 (omega arith))
-    (each 3 (omega arith))
 
 -- what is below one ceiling is below the other, number by number
 under_fitted : (xs cs fs : List ℕ) → length xs ≡ length cs → length fs ≡ length cs

@@ -1,8 +1,7 @@
--- Four ceilings, one by one: those of the core, and those that the second form takes.
-use Rattle.std.proofs.Common.{◌≡◌, ℕ, List, [], ◌∷◌, length, get_or, ap, subst}
-use Rattle.model.specs.Basics.{All}
+-- Four ceilings of the core, one by one.
+use Rattle.std.proofs.Common.{◌≡◌, ℕ, List, [], ◌∷◌, length, get_or, ap}
 use Rattle.model.specs.Limits.{max_objectives}
-use Rattle.model.specs.Core.{WordCeiling, core_ceiling, core_ceilings}
+use Rattle.model.specs.Core.{core_ceiling, core_ceilings}
 use Rattle.vectors.proofs.Fours.{four_all}
 
 module _ (cs : List ℕ) (four : length cs ≡ max_objectives) where
@@ -10,7 +9,3 @@ module _ (cs : List ℕ) (four : length cs ≡ max_objectives) where
       → c ≡ core_ceiling (get_or cs 2 0) → d ≡ core_ceiling (get_or cs 3 0) → a ∷ b ∷ c ∷ d ∷ [] ≡ core_ceilings cs
   unfolding core_ceilings
   four_core a b c d p q r s = rw (p, q, r, s) (ap core_ceilings (four_all cs four))
-
-  pub four_short : WordCeiling (get_or cs 0 0) → WordCeiling (get_or cs 1 0) → WordCeiling (get_or cs 2 0)
-      → WordCeiling (get_or cs 3 0) → All WordCeiling cs
-  four_short a b c d = subst (All WordCeiling) (four_all cs four) (a, (b, (c, (d, tt))))
