@@ -17,9 +17,11 @@ use Rattle.model.specs.Core.{core_sum_end}
 use Rattle.model.specs.Costs.{total, totals_from}
 use Rattle.model.specs.Bounds.{prefix_ok, least_of}
 use Rattle.groups.specs.Groups.{group_of, tables_over, places_in, Grouped}
-use Rattle.pass_search.specs.States.{tables_in, prefix_of, Stands, untouched, rest_of}
+use Rattle.pass_search.specs.States.{tables_in, prefix_of, Stands, untouched, rest_of, Branching}
 use Rattle.pass_search.specs.declared.Partial as DP
+use Rattle.pass_search.specs.declared.Branch as DC
 use Rattle.pass_search.specs.contracts.Partial.{the_type}
+use Rattle.pass_search.specs.contracts.Branch as branch
 use Rattle.vectors.proofs.Fours.{listed, at_listed}
 use Rattle.pass_search.proofs.FourTotals.{totals_listed}
 use Rattle.groups.proofs.SumLimits.{total_fits}
@@ -45,6 +47,11 @@ standing {x = x} g st vs h = record {
   long = h.1.1.1.0.1.0.1;
   four = bound_four x vs h;
 }
+
+-- that of a branch
+pub standing_branch : {r : ℕ} {ds s work : List ℕ} {b : DC.Branch} → Grouped ds s work r → Branching r ds s work b
+    → (vs : List Val) → Is (row branch.the_type) b vs → Standing r ds s work b.partial
+standing_branch g st vs h = standing g st.stands _ h.1.1.0
 
 -- what the tables that a variable v touches add to the bound of a prefix
 abbrev pub touched_by : (v r : ℕ) (ds s work pre : List ℕ) → List ℕ

@@ -1,5 +1,5 @@
 -- What the search's functions rely on and ensure.
-use Rattle.std.specs.Prelude.{◌≡◌, Bool, true, ◌||◌, not, List, [], ◌∷◌, ◌++◌, ℕ, ◌+◌, ◌-◌, ◌*◌, ◌≤◌}
+use Rattle.std.specs.Prelude.{◌≡◌, Bool, true, ◌||◌, not, List, [], ◌∷◌, ◌++◌, ℕ, ◌+◌, ◌-◌, ◌*◌, ◌≤◌, ◌<◌}
 use Rattle.std.specs.Prelude.{length, get_or, take, drop, replicate, Option, Some, None}
 use Rattle.model.specs.Basics.{when}
 use Rattle.model.specs.Limits.{max_objectives, max_points}
@@ -15,6 +15,7 @@ use Rattle.groups.specs.Groups.{tables_over, places_in, Grouped}
 use Rattle.groups.specs.declared.Task as DT
 use Rattle.rows.specs.Rows.{list_in}
 use Rattle.pass_search.specs.declared.Partial as DP
+use Rattle.pass_search.specs.declared.Branch as DC
 use Rattle.pass_search.specs.declared.Met as DM
 
 -- what a pass holds
@@ -74,6 +75,13 @@ untouched v ds pre t = when (not (has_variable v t.scope)) (least_of ds pre t)
 
 abbrev pub rest_of : ℕ → List ℕ → List ℕ → List ℕ → DP.Partial → List ℕ
 rest_of r ds s work x = totals_from max_objectives 0 (untouched x.len ds (prefix_of x)) (tables_in r ds s work)
+
+-- a branch: a partial choice with a variable left, one of its values or the end of them, and that sum
+pub record Branching (r : ℕ) (ds s work : List ℕ) (b : DC.Branch) : Type 0 where
+  pub stands : Stands r ds s work b.partial
+  pub more : b.partial.len < length ds
+  pub value : b.value ≤ get_or ds b.partial.len 0
+  pub rest : b.rest ≡ rest_of r ds s work b.partial
 
 -- the search of all that goes on from a prefix, and of its values from v on
 abbrev pub opens_from : Problem → List ℕ → List Point → List ℕ → Held → Held

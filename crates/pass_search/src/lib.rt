@@ -11,7 +11,7 @@ ghost use Rattle.layout.specs.Layout.{list_end, search_end};
 ghost use Rattle.groups.specs.Groups.{Placed, Grouped};
 ghost use Rattle.rows.specs.Rows.{list_in};
 ghost use Rattle.pass_search.specs.States.{held_of, problem_in, listed_in, prefix_of, dead_under, gains_in, rule_of};
-ghost use Rattle.pass_search.specs.States.{Setting, Stands, rest_of, opens_from};
+ghost use Rattle.pass_search.specs.States.{Setting, Stands, rest_of, Branching, opens_from, tries_from};
 
 // A partial choice: values of the first `len` variables, and the bound of that prefix.
 #[derive(Clone, Copy)]
@@ -19,6 +19,15 @@ pub struct Partial {
     pub len: usize,
     pub values: [u8; 24],
     pub bound: [u64; 4],
+}
+
+// The values of the next variable from `value` on are to be tried; `rest` is what the records that it does not touch
+// add to the bound.
+#[derive(Clone, Copy)]
+pub struct Branch {
+    pub partial: Partial,
+    pub rest: [u64; 4],
+    pub value: u8,
 }
 
 // A point that a pass has met. What a pass holds is the least one so far, if any.
@@ -139,6 +148,7 @@ impl Partial {
 
 // Opens the next variable of a partial choice and searches each of its values, unless the branch is hopeless;
 // a complete choice is held.
+#[cycle(open_variable_try_value)]
 pub fn open_variable(
     x: Partial,
     best: Option<Met>,
@@ -167,8 +177,37 @@ pub fn open_variable(
         return Some(Met { costs, choice });
     }
     let rest = rest_of(x, s, sizes, work, task.records);
+    let branch = Branch {
+        partial: x,
+        rest,
+        value: 0,
+    };
+    try_value(branch, best, s, sizes, work, task, k)
+}
+
+// Searches the values of the next variable, from the branch's on.
+#[cycle(open_variable_try_value)]
+pub fn try_value(
+    branch: Branch,
+    best: Option<Met>,
+    s: &[u8],
+    sizes: &[u8],
+    work: &[u32],
+    task: groups::Task,
+    k: usize,
+) -> Option<Met>
+    requires { Setting task k sizes.now s.now work.now
+        × Branching task.records sizes.now s.now work.now branch }
+    ensures { held_of task.objectives (length sizes.now) result
+        ≡ tries_from (problem_in task sizes.now s.now work.now)
+        work.now (listed_in task sizes.now work.now k) (prefix_of branch.partial)
+        branch.value (held_of task.objectives (length sizes.now) best) }
+{
+    let x = branch.partial;
+    let rest = branch.rest;
+    let len = x.len;
     let mut held = best;
-    for v in 0..sizes[len] {
+    for v in branch.value..sizes[len] {
         let child = x.with(v, rest, s, sizes, work, task.records);
         held = open_variable(child, held, s, sizes, work, task, k);
     }
