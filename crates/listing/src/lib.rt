@@ -96,12 +96,10 @@ fn are_short(ceilings: [u64; 4]) -> bool
 // What the turn of this number is. All plans but the first are wide: most problems end with the first, which costs less
 // to make.
 fn turn_at(number: usize, best: Best) -> Turn {
-    let kind = match number {
-        0 => Kind::Spreads,
-        1 => Kind::Slacks,
-        2 => Kind::Fill,
-        3 => Kind::Alone,
-        _ => best.kind,
+    let kind = if number < 4 {
+        Kind::from(number)
+    } else {
+        best.kind
     };
     let wide = 0 < number;
     Turn { kind, wide }

@@ -1,2 +1,3 @@
--- What the scores of variables stay below.
+-- What the scores of variables stay below, and which order a number says.
 pub mod Fill
+pub mod Orders

@@ -2,10 +2,11 @@
 // the variables' own order.
 #![tactic(auto)]
 
-ghost use Rattle.std.specs.Prelude.{◌≤◌, ◌<◌, length};
+ghost use Rattle.std.specs.Prelude.{◌≡◌, ◌≤◌, ◌<◌, length};
 ghost use Rattle.model.specs.Limits.{max_variables};
 ghost use Rattle.plan_memory.specs.Arranged.{Loose};
 ghost use Rattle.plan_order.specs.Fill.{max_size, max_sizes, max_fill};
+ghost use Rattle.plan_order.specs.Orders.{order_numbered};
 
 // No variable that is left has a larger score.
 const MOST_SCORE: u64 = 4294967295;
@@ -83,6 +84,20 @@ pub enum Order {
     Fill,
     // The last one.
     Own,
+}
+
+// The order of this number, for whoever has numbers for orders; a number past the last one says the first.
+impl From<usize> for Order {
+    ghost from_gives = { λ number order. order ≡ order_numbered number };
+
+    fn from(number: usize) -> Order {
+        match number {
+            1 => Order::LinksFirst,
+            2 => Order::Fill,
+            3 => Order::Own,
+            _ => Order::Links,
+        }
+    }
 }
 
 // The score of a variable, of which the least comes last: how many others of `left` are linked to it, or that behind

@@ -2,8 +2,9 @@
 // another kind has others, so that what one plan does not prune another may. Nothing is promised of them.
 #![tactic(auto)]
 
-ghost use Rattle.std.specs.Prelude.{◌≤◌};
+ghost use Rattle.std.specs.Prelude.{◌≡◌, ◌≤◌};
 ghost use Rattle.model.specs.Limits.{max_objectives};
+ghost use Rattle.plan_sums.specs.Kinds.{kind_numbered};
 
 // A larger range counts as this one. No sum of entries reaches it.
 const MAX_RANGE: u64 = 1099511627776;
@@ -29,6 +30,20 @@ pub enum Kind {
     Fill,
     // One alone.
     Alone,
+}
+
+// The kind of this number, for whoever has numbers for kinds; a number past the last one says the first.
+impl From<usize> for Kind {
+    ghost from_gives = { λ number kind. kind ≡ kind_numbered number };
+
+    fn from(number: usize) -> Kind {
+        match number {
+            1 => Kind::Slacks,
+            2 => Kind::Fill,
+            3 => Kind::Alone,
+            _ => Kind::Spreads,
+        }
+    }
 }
 
 // What parts each sum has of each objective, four numbers in a row. The first sum leads, so it leaves none out.

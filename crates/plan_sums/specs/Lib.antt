@@ -1,0 +1,2 @@
+-- Which kind of plan a number says.
+pub mod Kinds
