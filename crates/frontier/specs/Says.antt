@@ -1,12 +1,16 @@
 -- What the public calls promise, for Rattle and for C alike: number, place, count and half sizes are those of the
 -- model's definition of the call, and so is every element of the lent buffers on exit. A slice of bytes has bytes by
 -- its type; the promise says so, because demand 1 is about byte strings.
-use Rattle.std.specs.Prelude.{◌≡◌, List, [], ◌∷◌, ℕ}
+use Rattle.std.specs.Prelude.{◌≡◌, List, [], ◌∷◌, ℕ, Result}
 use Rattle.model.specs.Basics.{All, when}
 use Rattle.model.specs.Encoding.{Byte}
 use Rattle.model.specs.Frontiers.{Point, point}
 use Rattle.model.specs.Calls.{SolveOutcome, ListOutcome, CutOutcome, BoundOutcome}
+use Rattle.model.specs.Reasons.{value_or}
 use Rattle.model.specs.declared.Point as DP
+use Rattle.model.specs.declared.Refusal.{Refusal}
+use Rattle.answers.specs.declared.Halves as DH
+use Rattle.form_canonical.specs.declared.Canonical as DC
 use Rattle.text_networks.specs.Conversions.{ConvertOutcome}
 use Rattle.form_canonical.specs.Canonical.{CanonicalOutcome}
 use Rattle.cache_answers.specs.Outcomes.{CachedOutcome}
@@ -47,6 +51,14 @@ pub record BoundExports (s : List ℕ) (o : BoundOutcome) (result at : ℕ) (bou
   pub number : result ≡ o.verdict.number
   pub place : at ≡ o.verdict.place
   pub least : bounds ≡ o.least
+
+-- what a result of the cut call tells of its list and halves, and one of the canonical call of its form: 0 where it
+-- refuses
+abbrev pub halves_in : Result DH.Halves Refusal → DH.Halves
+halves_in = value_or (record { count = 0; first = 0; second = 0 })
+
+abbrev pub form_in : Result DC.Canonical Refusal → DC.Canonical
+form_in = value_or (record { count = 0; key = 0 })
 
 -- the cut call, with how many points each half has
 pub record CutExports (s : List ℕ) (o : CutOutcome) (costs' choices' work' : List ℕ)

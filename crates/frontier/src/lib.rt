@@ -12,9 +12,8 @@ ghost use Rattle.form_canonical.specs.Canonical.{canonical_outcome};
 ghost use Rattle.cache_answers.specs.Outcomes.{cached_outcome};
 ghost use Rattle.batch_frames.specs.Outcomes.{batch_outcome};
 ghost use Rattle.frontier.specs.Says.{ConvertExports, CanonicalExports, CachedExports, BatchExports};
+ghost use Rattle.frontier.specs.Says.{halves_in, form_in};
 ghost use Rattle.frontier.specs.Version.{version};
-ghost use Rattle.answers.specs.Cuts.{no_halves};
-ghost use Rattle.form_canonical.specs.Says.{no_form};
 
 use model::Refusal;
 
@@ -190,8 +189,8 @@ pub fn solve_cut(
         (cut_outcome problem.now sides.now
         costs.old choices.old work.old)
         costs.new choices.new work.new
-        (told result).number (told result).place (value_or no_halves result).count
-        (value_or no_halves result).first (value_or no_halves result).second }
+        (told result).number (told result).place (halves_in result).count
+        (halves_in result).first (halves_in result).second }
 {
     cut_call::cut_problem(problem, sides, costs, choices, work)
 }
@@ -256,8 +255,7 @@ pub fn problem_canonical(
 ) -> Result<form_canonical::Canonical, Refusal>
     ensures { CanonicalExports problem.now
         (canonical_outcome problem.now form.old)
-        form.new (told result).number (told result).place (value_or no_form result).count
-        (value_or no_form result).key }
+        form.new (told result).number (told result).place (form_in result).count (form_in result).key }
 {
     form_call::canonical_form(problem, form)
 }
