@@ -55,7 +55,8 @@ pub fn frames_of(batch: &[u8]) -> Option<usize>
     let mut at: usize = 0;
     let mut count: usize = 0;
     while at < batch.len() {
-        if count == MAX_BATCH {
+        let is_full = count == MAX_BATCH;
+        if is_full {
             return None;
         }
         let size = frame_of(&batch[at..])?;
@@ -96,7 +97,8 @@ pub fn judge(
     if !areas_fit(count, costs, choices, results) {
         return Err(Reason::Batch);
     }
-    if memory < LEAST_WORK {
+    let is_short = memory < LEAST_WORK;
+    if is_short {
         return Err(Reason::Work);
     }
     Ok(count)

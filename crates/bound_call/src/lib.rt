@@ -13,7 +13,10 @@ use model::{Reason, Refusal};
 pub fn bound_of(problem: &[u8], prefix: &[u8]) -> Result<[u64; 4], Refusal>
     ensures { BoundSays problem.now prefix.now result }
 {
-    let q = problem::read_problem(problem)?;
+    let q = match problem::read_problem(problem) {
+        Ok(q) => q,
+        Err(refusal) => return Err(refusal),
+    };
     let head = q.head;
     let n = head.variables as usize;
     let sizes = &q.sizes[..n];

@@ -77,7 +77,8 @@ fn answer_held(
     let p = head.objectives as usize;
     let points = cache_store::count_in(store, k);
     let room = answers::flat_room(head, costs.len(), choices.len());
-    if room < points {
+    let is_short = room < points;
+    if is_short {
         return Err(Reason::Full.at(0));
     }
     cache_store::load_costs(store, k, points * p, costs);

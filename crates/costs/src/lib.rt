@@ -118,7 +118,8 @@ pub fn runs_at(s: &[u8], at: usize, sizes: &[u8], prefix: &[u8]) -> Runs
             continue;
         }
         first = first + usize::from(prefix[v]);
-        if count == 1 {
+        let is_run = count == 1;
+        if is_run {
             continue;
         }
         rows = count;

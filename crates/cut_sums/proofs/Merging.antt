@@ -7,7 +7,8 @@ use mathlib.Core.List.{List, [], ◌∷◌, ◌++◌, Memᴰ as In}
 use Prim.Native.Nat.{ℕ, ◌+◌, ◌≤◌, ◌<◌}
 use native.Mathlib.Omega.{arith}
 use lib.ListN.{length, take}
-use Rattle.std.specs.Prelude.{Option, Some, None}
+use Rattle.std.specs.Prelude.{Option, Some, None, Bool, not, is_some}
+use Rattle.std.specs.Bool.{then_some}
 use Rattle.model.specs.Limits.{max_objectives, max_points}
 use Rattle.model.specs.Frontiers.{Point, point, best}
 use Rattle.model.specs.Search.{nothing}
@@ -93,3 +94,12 @@ module _ {p n a b : ℕ} {was : List ℕ} (halved : Halved p n 0 a b was) (ceili
       merging_next h stored w =
           let few = halved.objectives in
           made_next u few halved.variables (omega arith) met.costs met.choice stored wide w longer
+
+    last_of : (o : Option DM.Met) → next ≡ o → FoundSays p n (best sums) k was work (then_some (not (is_some o)) k)
+    last_of None none = merging_done none k (omega arith)
+    last_of (Some met) some = merging_full met some k (omega arith)
+
+    -- the room is full: no sum is left, or one
+    pub merging_last : (more : Bool) → more ≡ is_some next
+        → FoundSays p n (best sums) k was work (then_some (not more) k)
+    merging_last more said = rw said (last_of next refl)

@@ -176,8 +176,7 @@ pub fn merge_points(
         let choice = met.choice;
         rows::store_point(costs, choice, p, k, work);
     }
-    match next_sum(a, b, n, work, room, p, ceilings) {
-        Some(_) => None,
-        None => Some(room),
-    }
+    let next = next_sum(a, b, n, work, room, p, ceilings);
+    let is_more = next.is_some();
+    (!is_more).then_some(room)
 }

@@ -46,7 +46,8 @@ fn is_rest_at_most(a: &[u64], b: &[u64], i: usize, p: usize) -> bool
     ensures { result ≡ at_most (drop i (take p a.now)) (drop i (take p b.now)) }
 {
     for j in i..p {
-        if a[j] > b[j] {
+        let is_more = a[j] > b[j];
+        if is_more {
             return false;
         }
     }

@@ -17,10 +17,10 @@ next s at count u l below size says =
 stopped : (s : List ℕ) (r : Option ℕ) → r ≡ None → batch_ok s ≡ false → FramesSays s r
 stopped s r e h = subst (FramesSays s) (sym e) h
 
-pub returns-then-count-eq-MAX_BATCH : goal.returns-then-count-eq-MAX_BATCH
-returns-then-count-eq-MAX_BATCH c =
+pub returns-then-is_full : goal.returns-then-is_full
+returns-then-is_full c =
     let w = c.loop-at in
-    too_many c.args.batch.now w.at w.count w.invariant (omega arith) c.if-count-eq-MAX_BATCH.true
+    too_many c.args.batch.now w.at w.count w.invariant (omega arith) (omega arith)
 
 pub returns-in_err-size : goal.returns-in_err-size
 returns-in_err-size c =

@@ -31,8 +31,8 @@ returns-then-not-areas_fit c =
       count = tt;
     }
 
-pub returns-then-memory-lt-LEAST_WORK : goal.returns-then-memory-lt-LEAST_WORK
-returns-then-memory-lt-LEAST_WORK c =
+pub returns-then-is_short : goal.returns-then-is_short
+returns-then-is_short c =
     let a = c.args in
     let some = c.in-Some.ensures in
     let areas = own a.batch.now a.costs a.choices a.results _ some.1 c.areas_fit.ensures c.if-not-areas_fit.false in

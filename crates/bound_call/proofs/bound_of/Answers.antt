@@ -7,24 +7,24 @@ use Rattle.bound_call.proofs.bound_of.Goals as goal
 
 pub shared_ref_as_front-sizes : goal.shared_ref_as_front-sizes
 shared_ref_as_front-sizes c =
-    let a = read_accepted c.args.problem.now c.in_ok-q.q c.in_ok-q.ensures.problem in
+    let a = read_accepted c.args.problem.now c.in-Ok.q c.in-Ok.ensures.problem in
     omega (arith, a.room, a.few_variables)
 
 pub returns-then-not-prefix_ok : goal.returns-then-not-prefix_ok
 returns-then-not-prefix_ok c =
-    let a = read_accepted c.args.problem.now c.in_ok-q.q c.in_ok-q.ensures.problem in
+    let a = read_accepted c.args.problem.now c.in-Ok.q c.in-Ok.ensures.problem in
     prefix_answer _ a.none _ c.at.result c.at.ensures.reason c.at.ensures.place
     (rw (← a.domains) (sym c.prefix_ok.ensures ∙ c.if-not-prefix_ok.true))
 
 pub bounds_of-requires : goal.bounds_of-requires
 bounds_of-requires c =
-    let a = read_accepted c.args.problem.now c.in_ok-q.q c.in_ok-q.ensures.problem in
+    let a = read_accepted c.args.problem.now c.in-Ok.q c.in-Ok.ensures.problem in
     let ok = sym c.prefix_ok.ensures ∙ c.if-not-prefix_ok.false in
     (rw c.tables_start-start.ensures a.whole, a.few_tables, a.small, ok)
 
 pub returns : goal.returns
 returns c =
-    let a = read_accepted c.args.problem.now c.in_ok-q.q c.in_ok-q.ensures.problem in
+    let a = read_accepted c.args.problem.now c.in-Ok.q c.in-Ok.ensures.problem in
     let ok = sym c.prefix_ok.ensures ∙ c.if-not-prefix_ok.false in
     let said = rw c.tables_start-start.ensures at c.bounds_of.ensures in
     bound_answer _ a.none _ c.bounds_of.result (rw (← a.domains) ok)

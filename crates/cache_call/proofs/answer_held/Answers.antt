@@ -4,8 +4,8 @@ use Rattle.cache_call.proofs.Rooms.{costs_room, choices_room, costs_few, choices
 use Rattle.cache_call.proofs.Held.{held_full, held_fits}
 use Rattle.cache_call.proofs.answer_held.Goals as goal
 
-pub returns-then-room-points : goal.returns-then-room-points
-returns-then-room-points c =
+pub returns-then-is_short : goal.returns-then-is_short
+returns-then-is_short c =
     let a = c.args in
     held_full a.head a.costs.now a.choices.now a.work.now a.store.now a.k c.count_in-points.result
     c.flat_room-room.result c.count_in-points.ensures c.flat_room-room.ensures c.clear.ensures (omega arith)

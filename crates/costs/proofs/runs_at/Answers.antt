@@ -117,8 +117,8 @@ overflow_add-first c =
           c.from-d.ensures c.requires.2 _ c.if-prefix-v.false c.from-first.ensures,
     )
 
-pub loop-k-preserved-then-count-eq1 : goal.loop-k-preserved-then-count-eq1
-loop-k-preserved-then-count-eq1 c =
+pub loop-k-preserved-then-is_run : goal.loop-k-preserved-then-is_run
+loop-k-preserved-then-is_run c =
     let a = c.args in
     let w = c.loop-k in
     fixed _ a.prefix.now a.s.now a.at c.requires.0 c.requires.1 w.k w.first w.count w.rows w.stride w.invariant

@@ -1,7 +1,7 @@
 -- What the loop of `merge_points` leaves to show: a pass gives the next sum, or says that none is left.
 use Rattle.std.proofs.Common.{◌≡◌, arith}
 use Rattle.pass_list.proofs.Made.{made_start}
-use Rattle.cut_sums.proofs.Merging.{Summed, merging_halved, merging_done, merging_full, merging_next}
+use Rattle.cut_sums.proofs.Merging.{Summed, merging_halved, merging_done, merging_last, merging_next}
 use Rattle.cut_sums.proofs.merge_points.Goals as goal
 
 pub loop-k-init : goal.loop-k-init
@@ -27,22 +27,16 @@ loop-k-preserved c =
     c.in-Some.met c.in-Some.is (omega arith) _ c.store_point.ensures
 
 -- behind the loop the room is full
-pub next_sum-requires-2 : goal.next_sum-requires-2
-next_sum-requires-2 c =
+pub next_sum-next-requires : goal.next_sum-next-requires
+next_sum-next-requires c =
     let w = c.loop-k in
     let all : w.k ≡ c.args.room = omega arith in
     merging_halved c.requires.0 c.args.ceilings w.work c.args.room (rw all at w.invariant) c.requires.1
 
-pub returns-in-Some-next_sum : goal.returns-in-Some-next_sum
-returns-in-Some-next_sum c =
+pub returns : goal.returns
+returns c =
     let w = c.loop-k in
     let all : w.k ≡ c.args.room = omega arith in
-    merging_full c.requires.0 c.args.ceilings w.work c.args.room (rw all at w.invariant) c.next_sum-2.result
-    c.next_sum-2.ensures _ c.in-Some-next_sum.is c.args.room (omega arith)
-
-pub returns-in-None : goal.returns-in-None
-returns-in-None c =
-    let w = c.loop-k in
-    let all : w.k ≡ c.args.room = omega arith in
-    merging_done c.requires.0 c.args.ceilings w.work c.args.room (rw all at w.invariant) c.next_sum-2.result
-    c.next_sum-2.ensures c.in-None.is c.args.room (omega arith)
+    rw c.then_some.ensures
+    (merging_last c.requires.0 c.args.ceilings w.work c.args.room (rw all at w.invariant) c.next_sum-next.result
+    c.next_sum-next.ensures c.is_some-is_more.result c.is_some-is_more.ensures)

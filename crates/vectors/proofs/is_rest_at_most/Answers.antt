@@ -6,8 +6,8 @@ use Rattle.vectors.proofs.is_rest_at_most.Goals as goal
 pub loop-j-init : goal.loop-j-init
 loop-j-init c = walked_start _ _ _ _ c.requires.0
 
-pub returns-then-a-j : goal.returns-then-a-j
-returns-then-a-j c =
+pub returns-then-is_more : goal.returns-then-is_more
+returns-then-is_more c =
     sym (walked_above c.loop-j.invariant c.requires.1 c.requires.2 (omega arith) (omega arith))
 
 pub loop-j-preserved : goal.loop-j-preserved
