@@ -94,7 +94,9 @@ pub fn message_scope(g: usize, plan: &[u32]) -> u32 {
     set
 }
 
-// The positions that record or slot `i` reads; none behind the last slot.
+// The positions that record or slot `i` reads; none behind the last slot. In line, so that whether records or slots are
+// listed is asked once by its caller.
+#[inline(always)]
 pub fn scope_at(listed: Listed<'_>, i: usize, plan: &[u32]) -> u32 {
     match listed {
         Listed::Records(s) => record_scope(s, branch_buckets::number_at(plan, i), plan),
@@ -115,6 +117,7 @@ fn is_between(set: u32, needed: u32, allowed: u32) -> bool {
 
 // Of the records or slots from number `from` to below `to` brings those whose positions have all of `needed` and none
 // outside `allowed` to the front, and answers where they end.
+#[inline(always)]
 #[tactic(auto, using(crate::proofs::Arranging::arranged_refl))]
 fn gather(
     listed: Listed<'_>,

@@ -47,8 +47,8 @@ pub struct Number {
 pub fn is_space(b: u8) -> bool
     ensures { result ≡ is_space b }
 {
-    // std's test has no vertical tab
-    matches!(b, 9..=13 | b' ')
+    // Most bytes of a text are above all of these, and a long word may have lower ones. Std's test has no vertical tab.
+    9 <= b && matches!(b, 9..=13 | b' ')
 }
 
 pub fn is_digit(b: u8) -> bool
